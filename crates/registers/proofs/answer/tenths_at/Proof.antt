@@ -1,0 +1,47 @@
+use Rattle.registers.proofs.answer.Laws.{laid-one, laid-then}
+use Rattle.registers.proofs.answer.Decimals.{decimal-length}
+use Rattle.registers.specs.Answer.{tenths}
+use Prim.Native.Nat.{_/_}
+use native.Mathlib.Omega.{arith}
+use borrow.Author.Needs.{needs}
+use Rattle.registers.proofs.answer.tenths_at.Statement.{statement}
+use Rattle.registers.proofs.answer.tenths_at.Tie as tie
+
+decimal-at-requires : tie.Need-decimal-at-requires
+decimal-at-requires c κs = search needs
+
+put-requires : tie.Need-put-requires
+put-requires c κs = search needs
+
+add-decimal-at : tie.Need-add-decimal-at
+add-decimal-at c =
+    let k = c .before .before .before .before .before .before .before in
+    let p = k .decimal-at .ensures .end in
+    omega (arith, decimal-length (k .before .before .before .args .n / 10))
+
+decimal-at-requires-2 : tie.Need-decimal-at-requires-2
+decimal-at-requires-2 c κs =
+    let k = c .before .before .before .before .before .before .before in
+    let p = k .decimal-at .ensures .end in
+    omega (arith, decimal-length (k .before .before .before .args .n / 10))
+
+same-length : tie.Need-same-length
+same-length c = search needs
+
+returns : tie.Need-returns
+unfolding tenths
+returns c =
+    let k = c .before .before .before .before .before .before in
+    laid-then (k .before .before .before .before .decimal-at .ensures)
+    (laid-then (laid-one (k .put .ensures)) (c .before .before .decimal-at2 .ensures))
+
+pub tenths-at-spec : {M : Type 1} → statement M
+tenths-at-spec =
+    tie.close
+    (tie.spec
+    decimal-at-requires
+    put-requires
+    add-decimal-at
+    decimal-at-requires-2
+    same-length
+    returns)

@@ -1,0 +1,16 @@
+use Rattle.registers.proofs.answer.Laws.{laid-whole}
+use borrow.Author.Needs.{needs}
+use Rattle.registers.proofs.answer.write_decimal.Statement.{statement}
+use Rattle.registers.proofs.answer.write_decimal.Tie as tie
+
+decimal-at-requires : tie.Need-decimal-at-requires
+decimal-at-requires c κs = search needs
+
+same-length : tie.Need-same-length
+same-length c = search needs
+
+returns : tie.Need-returns
+returns c = laid-whole (c .before .before .decimal-at .ensures)
+
+pub write-decimal-spec : {M : Type 1} → statement M
+write-decimal-spec = tie.close (tie.spec decimal-at-requires same-length returns)

@@ -1,0 +1,67 @@
+use Prim.Native.Nat.{_≤_, _-_}
+use lib.ListN.{drop}
+use mathlib.Core.Path.{_≡_, refl, sym, _∙_}
+use native.Mathlib.Omega.{arith}
+use Rattle.registers.specs.Errors.{known, among, queueable}
+use borrow.Author.Needs.{needs}
+use Rattle.registers.proofs.error.Laws.{among-skip, among-hit}
+use Rattle.registers.proofs.error.is_known.Statement.{statement}
+use Rattle.registers.proofs.error.is_known.Tie as tie
+
+abbrev Inv-loop : tie.InvT-loop
+Inv-loop number numbers i₀ i = (i ≤ 18) × (among number (drop i queueable) ≡ known number)
+
+abbrev μ-loop : tie.MeasureT-loop
+μ-loop number numbers i₀ i = 18 - i
+
+loop-holds : tie.Need-loop-holds Inv-loop μ-loop
+unfolding known
+loop-holds c = (search needs, refl)
+
+mul-if1 : tie.Need-mul-if1 Inv-loop μ-loop
+mul-if1 c = search needs
+
+array-read-if1 : tie.Need-array-read-if1 Inv-loop μ-loop
+array-read-if1 c = search needs
+
+returns : tie.Need-returns Inv-loop μ-loop
+unfolding queueable
+returns c =
+    let n = c .before .before .before .args .number in
+    let i = c .before .before .loop .i in
+    sym (among-hit n queueable i (omega arith) (c .if1 .taken)) ∙ c .before .before .loop .inv .1
+
+add-i : tie.Need-add-i Inv-loop μ-loop
+add-i c = search needs
+
+loop-less : tie.Need-loop-less Inv-loop μ-loop
+loop-less c = search needs
+
+loop-again : tie.Need-loop-again Inv-loop μ-loop
+unfolding queueable
+loop-again c =
+    let n = c .before .before .before .args .number in
+    let i = c .before .before .loop .i in
+    (search needs, sym (among-skip n queueable i (omega arith) (c .if1 .left)) ∙ c .before .before .loop .inv .1)
+
+returns-2 : tie.Need-returns-2 Inv-loop μ-loop
+unfolding queueable
+returns-2 c =
+    let n = c .before .before .args .number in
+    let e : c .before .loop .i ≡ 18 = omega arith in
+    rw e at (c .before .loop .inv .1)
+
+pub is-known-spec : {M : Type 1} → statement M
+is-known-spec =
+    tie.close
+    (tie.spec
+    Inv-loop
+    μ-loop
+    loop-holds
+    mul-if1
+    array-read-if1
+    returns
+    add-i
+    loop-less
+    loop-again
+    returns-2)

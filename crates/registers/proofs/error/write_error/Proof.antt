@@ -1,0 +1,53 @@
+use mathlib.Core.Path.{refl}
+use lib.IntN.{pos, negℤ}
+use Rattle.registers.specs.Answer.{decimal}
+use Rattle.registers.specs.Errors.{messages}
+use Rattle.registers.specs.Text.{bytes}
+use Rattle.registers.specs.ErrorParts.{messageTable, tableOf, messageRow}
+use Rattle.registers.proofs.answer.Laws.{laid-at, laid-then, laid-whole}
+use Rattle.registers.proofs.answer.Decimals.{decimal-length, signed-length}
+use Rattle.registers.proofs.answer.Signs.{minus-fits, minus-made}
+use Rattle.registers.proofs.error.Texts.{error-text}
+use native.Mathlib.Omega.{arith}
+use borrow.Author.Needs.{needs}
+use Rattle.registers.proofs.error.write_error.Statement.{statement}
+use Rattle.registers.proofs.error.write_error.Tie as tie
+
+cast-write-whole : tie.Need-cast-write-whole
+cast-write-whole c = search needs
+
+sub-write-whole : tie.Need-sub-write-whole
+sub-write-whole c = minus-fits (c .before .before .args .number) (omega arith)
+
+write-whole-requires : tie.Need-write-whole-requires
+write-whole-requires c κs = search needs
+
+-- the table of the code is the messages' table: all its bytes are compared here
+quoted-at-requires : tie.Need-quoted-at-requires
+unfolding messageTable tableOf messageRow messages bytes
+quoted-at-requires c κs =
+    let s = c .before .before .before .before in
+    let n = s .before .before .before .before .args .number in
+    let e = rw (minus-made n (omega arith)) at (s .write-whole .ensures .long) in
+    (refl, omega (arith, signed-length decimal 20 decimal-length (negℤ (pos n)), e))
+
+same-length : tie.Need-same-length
+same-length c = search needs
+
+returns : tie.Need-returns
+returns c =
+    let s = c .before .before .before .before .before .before .before in
+    let n = s .before .before .before .before .args .number in
+    let whole = rw (minus-made n (omega arith)) at (s .write-whole .ensures) in
+    rw error-text (laid-whole (laid-then (laid-at whole) (c .before .before .quoted-at .ensures)))
+
+pub write-error-spec : {M : Type 1} → statement M
+write-error-spec =
+    tie.close
+    (tie.spec
+    cast-write-whole
+    sub-write-whole
+    write-whole-requires
+    quoted-at-requires
+    same-length
+    returns)

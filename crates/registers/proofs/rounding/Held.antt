@@ -1,0 +1,90 @@
+-- A rounded value held at a bound, with its sign in 64 bits: limits of 32 bits cannot tell it from the value itself.
+use mathlib.Core.Path.{_≡_, refl, sym, _∙_}
+use mathlib.Core.Bool.{Bool, true, false, _&&_, and-false}
+use Prim.Native.Nat.{ℕ, zero, suc, _+_, _*_, _^_, min, _≤_}
+use native.Mathlib.Omega.{arith}
+use lib.Dec.{T, leb, leb→le}
+use lib.IntN.{ℤ, pos, negsuc, negℤ, _-ℤ_, +ℤ-idl}
+use lib.Signed.{leZ}
+use mir.Syntax.{w32, w64}
+use mir.Val.{SFits, toZ, ofZ}
+use mir.Facts.{toZ-pos, toZ-ofZ, sfits-widen, and-yes}
+use borrow.Author.Tests.{leb-true, leb-false, lt-leb}
+use Rattle.registers.specs.Text.{if_then_else_}
+use Rattle.registers.specs.Rounding.{nearest, signed, sizeIn, rounded, fitted}
+use Rattle.registers.specs.RoundingParts.{beyond, heldIn}
+use Rattle.registers.specs.declared.number.Decimal.{Decimal}
+use Rattle.registers.specs.declared.rounding.Fit.{Fit}
+use Rattle.registers.specs.declared.rounding.Fit.the-variants.{Within, Outside}
+use Rattle.registers.proofs.rounding.Tens.{times-tens}
+
+-- ---- a size with its sign
+
+pub signed-fits : (m : Bool) (n : ℕ) → n ≤ beyond → SFits w64 (signed m n)
+signed-fits true zero h = record { sfits = omega arith }
+signed-fits true (suc n) h = record { sfits = omega arith }
+signed-fits false n h = record { sfits = omega arith }
+
+pub held-fits : (k : ℕ) (d : Decimal) → SFits w64 (heldIn k d)
+unfolding heldIn
+held-fits k d = signed-fits (d .minus) (min beyond (sizeIn k d)) (omega arith)
+
+pub held-size : (tens : ℕ) (d : Decimal) (n : ℕ) → n ≡ min beyond (nearest (d .digits * 10 ^ (d .up + tens)) (10 ^ d .down))
+    → heldIn (10 ^ tens) d ≡ signed (d .minus) n
+unfolding heldIn sizeIn
+held-size tens d n e = rw (e, times-tens (d .digits) (d .up) tens)
+
+pub minus-bits : (n : ℕ) → n ≤ beyond → pos 0 -ℤ toZ w64 n ≡ signed true n
+minus-bits n h = rw (toZ-pos w64 {n = n} (omega arith)) (+ℤ-idl (negℤ (pos n)))
+
+-- ---- limits of 32 bits
+
+pub limit-bits : {z : ℤ} → SFits w32 z → toZ w64 (ofZ w64 (toZ w32 (ofZ w32 z))) ≡ z
+limit-bits {z} s = rw (toZ-ofZ {w = w32} {z = z} s) (toZ-ofZ {w = w64} {z = z} (sfits-widen {w = w32} {w′ = w64} tt s))
+
+abbrev pub inside : ℤ → ℤ → ℤ → Bool
+inside low high z = leZ low z && leZ z high
+
+-- what is inside has 32 bits
+pub inside-fits : (low high z : ℤ) → SFits w32 low → SFits w32 high → T (inside low high z) → SFits w32 z
+inside-fits low (pos b) (pos n) l h t =
+    let k = leb→le n b (and-yes (leZ low (pos n)) (leb n b) t .1) in
+    record { sfits = omega arith }
+inside-fits low (negsuc b) (pos n) l h t = absurd (and-yes (leZ low (pos n)) false t .1)
+inside-fits (pos a) high (negsuc n) l h t = absurd t
+inside-fits (negsuc a) high (negsuc n) l h t =
+    let k = leb→le n a (and-yes (leb n a) (leZ (negsuc n) high) t .0) in
+    record { sfits = omega arith }
+
+-- a size of `beyond` or more is outside
+far : (low high : ℤ) → SFits w32 low → SFits w32 high → (m : Bool) (n : ℕ) → beyond ≤ n
+    → inside low high (signed m n) ≡ false
+far low (pos b) l h false n k = rw (lt-leb n b (omega arith)) (and-false (leZ low (pos n)))
+far low (negsuc b) l h false n k = and-false (leZ low (pos n))
+far low high l h true zero k = absurd (omega arith)
+far (pos a) high l h true (suc n) k = refl
+far (negsuc a) high l h true (suc n) k = rw (lt-leb n a (omega arith))
+
+-- so a held value is within such limits exactly where the value itself is, and is then that value
+module _ (k : ℕ) (d : Decimal) (low high : ℤ) (l : SFits w32 low) (h : SFits w32 high) (v : ℤ) (is : v ≡ heldIn k d) where
+  chosen : ℤ → Fit
+  chosen z = if inside low high z then Within z else Outside
+
+  fitted-held : fitted k low high d ≡ chosen v
+  unfolding fitted rounded heldIn if_then_else_ chosen
+  fitted-held = rw is (go (sizeIn k d) (leb (sizeIn k d) beyond) refl)
+    where
+      go : (n : ℕ) (b : Bool) → leb n beyond ≡ b → chosen (signed (d .minus) n) ≡ chosen (signed (d .minus) (min beyond n))
+      go n true q = let e = leb-true n beyond q in let z : min beyond n ≡ n = omega arith in rw z
+      go n false q =
+          let e = leb-false n beyond q in
+          let z : min beyond n ≡ beyond = omega arith in
+          rw (z, far low high l h (d .minus) n (omega arith), far low high l h (d .minus) beyond (omega arith))
+
+  pub fit-yes : inside low high v ≡ true → Within v ≡ fitted k low high d
+  unfolding if_then_else_ chosen
+  fit-yes e = sym (fitted-held ∙ rw e)
+
+  pub fit-no : inside low high v ≡ false → Outside ≡ fitted k low high d
+  unfolding if_then_else_ chosen
+  fit-no e = sym (fitted-held ∙ rw e)

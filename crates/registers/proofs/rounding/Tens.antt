@@ -1,0 +1,86 @@
+-- Rounding over powers of ten, held at a bound: what the two loops keep, and what they leave.
+use mathlib.Core.Path.{_≡_, refl, ap, sym, _∙_}
+use mathlib.Core.Bool.{Bool, true, false}
+use Prim.Native.Nat.{ℕ, suc, _+_, _-_, _*_, _/_, _%_, _^_, min, _≤_, _<_}
+use native.Mathlib.Numerals.{add-one}
+use native.Mathlib.Omega.{arith}
+use native.Mathlib.Nat.{pow-suc, mul-div-mul-left, mul-div-mul-right, div-div-eq-div-mul, add-mul-div-right, one-le-pow, mul-le-mul-right, mul-assoc}
+use lib.Dec.{leb}
+use lib.Pow.{pow-add}
+use borrow.Author.Tests.{leb-true, leb-false}
+use Rattle.registers.specs.Rounding.{nearest}
+use Rattle.registers.specs.RoundingParts.{beyond}
+use Rattle.registers.proofs.rounding.Laws.{nearest-only}
+
+pub ten-positive : (n : ℕ) → 0 < 10 ^ n
+ten-positive n = one-le-pow n 10 (omega arith)
+
+ten-times : (i : ℕ) → 0 < i → 10 ^ i ≡ 10 * 10 ^ (i - 1)
+ten-times i h = let e : i ≡ suc (i - 1) = omega arith in ap (λ (n : ℕ). 10 ^ n) e ∙ pow-suc 10 (i - 1) ∙ omega arith
+
+-- ---- raising
+
+-- a size held before it is raised is the same held size
+pub beyond-mul : (y p : ℕ) → 0 < p → min beyond (min beyond y * p) ≡ min beyond (y * p)
+beyond-mul y p h = go (leb y beyond) refl
+  where
+    go : (e : Bool) → leb y beyond ≡ e → min beyond (min beyond y * p) ≡ min beyond (y * p)
+    go true q = let k = leb-true y beyond q in let z : min beyond y ≡ y = omega arith in rw z
+    go false q =
+        let k = leb-false y beyond q in
+        let z : min beyond y ≡ beyond = omega arith in
+        let over : beyond ≤ y = omega arith in
+        let m = mul-le-mul-right p over in
+        rw z (omega arith)
+
+pub raise-turn : (y i : ℕ) → 0 < i → min beyond (min beyond (y * 10) * 10 ^ (i - 1)) ≡ min beyond (y * 10 ^ i)
+raise-turn y i h = beyond-mul (y * 10) (10 ^ (i - 1)) (ten-positive (i - 1)) ∙ rw (ten-times i h) (omega arith)
+
+pub raise-end : (y i : ℕ) → i ≤ 0 → y ≤ beyond → y ≡ min beyond (y * 10 ^ i)
+raise-end y i h k = let z : i ≡ 0 = omega arith in rw z (omega arith)
+
+-- ---- lowering
+
+pub lower-turn : (y i : ℕ) → 0 < i → y / 10 / 10 ^ (i - 1) ≡ y / 10 ^ i
+lower-turn y i h = rw (ten-times i h) (div-div-eq-div-mul y 10 (10 ^ (i - 1)))
+
+-- only the last digit that is cut off decides
+nearest-tens : (x n : ℕ) → nearest x (10 ^ (n + 1)) ≡ (x / 10 ^ n + 5) / 10
+unfolding nearest
+nearest-tens x n =
+    let q = 10 ^ n in
+    let p = ten-positive n in
+    let s = pow-suc 10 n in
+    let num : 2 * x + 10 ^ suc n ≡ 2 * (x + 5 * q) = omega arith in
+    let den : 2 * 10 ^ suc n ≡ 2 * (q * 10) = omega arith in
+    let halve = mul-div-mul-left {m = 2} (x + 5 * q) (q * 10) (omega arith) in
+    rw (add-one n, num, den, halve, ← div-div-eq-div-mul (x + 5 * q) q 10, add-mul-div-right x 5 p)
+
+pub lower-end : (x n y i : ℕ) → i ≤ 0 → y / 10 ^ i ≡ x / 10 ^ n → y / 10 + (y % 10 + 5) / 10 ≡ nearest x (10 ^ (n + 1))
+lower-end x n y i h e =
+    let z : i ≡ 0 = omega arith in
+    let k : y / 1 ≡ x / 10 ^ n = rw z at e in
+    rw (nearest-tens x n, ← k) (omega arith)
+
+-- ---- a power of ten over another
+
+pub times-tens : (x i j : ℕ) → x * 10 ^ (i + j) ≡ x * 10 ^ i * 10 ^ j
+times-tens x i j = rw (pow-add 10 i j) (sym (mul-assoc x (10 ^ i) (10 ^ j)))
+
+pub nearest-up : (x up down : ℕ) → down ≤ up → nearest (x * 10 ^ up) (10 ^ down) ≡ x * 10 ^ (up - down)
+nearest-up x up down h =
+    let e : up ≡ up - down + down = omega arith in
+    let p : x * 10 ^ up ≡ x * 10 ^ (up - down) * 10 ^ down = ap (λ (n : ℕ). x * 10 ^ n) e ∙ times-tens x (up - down) down in
+    let c = ten-positive down in
+    rw p (nearest-only (record { low = omega arith; high = omega arith }))
+
+pub nearest-down : (x up down : ℕ) → up < down → nearest x (10 ^ (down - up - 1 + 1)) ≡ nearest (x * 10 ^ up) (10 ^ down)
+unfolding nearest
+nearest-down x up down h =
+    let e : down ≡ down - up - 1 + 1 + up = omega arith in
+    let p = ap (λ (n : ℕ). 10 ^ n) e ∙ pow-add 10 (down - up - 1 + 1) up in
+    let c = 10 ^ up in
+    let m = 10 ^ (down - up - 1 + 1) in
+    let num : 2 * (x * c) + m * c ≡ (2 * x + m) * c = omega arith in
+    let den : 2 * (m * c) ≡ 2 * m * c = omega arith in
+    rw (p, num, den, mul-div-mul-right {m = c} (2 * x + m) (2 * m) (ten-positive up))

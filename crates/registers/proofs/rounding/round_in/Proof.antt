@@ -1,0 +1,58 @@
+use mathlib.Core.Path.{_≡_}
+use mathlib.Core.Bool.{true}
+use Prim.Native.Nat.{_^_}
+use mir.Facts.{toZ-ofZ, sfits-widen}
+use mir.Syntax.{w32, w64}
+use mir.Val.{toZ, ofZ, SFits}
+use borrow.Author.Needs.{needs}
+use Rattle.registers.proofs.rounding.Held.{held-fits, limit-bits, inside, inside-fits, fit-yes, fit-no}
+use Rattle.registers.proofs.rounding.round_in.Statement.{statement}
+use Rattle.registers.proofs.rounding.round_in.Tie as tie
+
+-- the value is read back from its bits, and so are the limits
+bits : (c : tie.After-steps) → toZ w64 (ofZ w64 (c .steps .result)) ≡ c .steps .result
+bits c =
+    let a = c .before .args in
+    toZ-ofZ {w = w64} {z = c .steps .result} (rw (c .steps .ensures) (held-fits (10 ^ a .tens) (a .d)))
+
+test : (c : tie.Then1) → let a = c .before .before .args in inside (a .low) (a .high) (c .before .steps .result) ≡ true
+test c =
+    let f = c .before .before .fits in
+    rw (limit-bits (f .low), limit-bits (f .high), bits (c .before)) at (c .if1 .taken)
+
+within : (c : tie.Then1) → SFits w32 (c .before .steps .result)
+within c =
+    let a = c .before .before .args in
+    let f = c .before .before .fits in
+    inside-fits (a .low) (a .high) (c .before .steps .result) (f .low) (f .high) (rw (test c) tt)
+
+steps-requires : tie.Need-steps-requires
+steps-requires c κs = search needs
+
+cast-if1 : tie.Need-cast-if1
+cast-if1 c = rw (toZ-ofZ {w = w32} (c .before .fits .low)) (sfits-widen {w = w32} {w′ = w64} tt (c .before .fits .low))
+
+cast-if1-2 : tie.Need-cast-if1-2
+cast-if1-2 c = rw (toZ-ofZ {w = w32} (c .before .fits .high)) (sfits-widen {w = w32} {w′ = w64} tt (c .before .fits .high))
+
+cast-t11 : tie.Need-cast-t11
+cast-t11 c = rw (bits (c .before)) (within c)
+
+returns : tie.Need-returns
+returns c =
+    let a = c .before .before .args in
+    let f = c .before .before .fits in
+    let v = c .before .steps in
+    rw (bits (c .before), toZ-ofZ {w = w32} (within c))
+    (fit-yes (10 ^ a .tens) (a .d) (a .low) (a .high) (f .low) (f .high) (v .result) (v .ensures) (test c))
+
+returns-2 : tie.Need-returns-2
+returns-2 c =
+    let a = c .before .before .args in
+    let f = c .before .before .fits in
+    let v = c .before .steps in
+    let other = rw (limit-bits (f .low), limit-bits (f .high), bits (c .before)) at (c .if1 .left) in
+    fit-no (10 ^ a .tens) (a .d) (a .low) (a .high) (f .low) (f .high) (v .result) (v .ensures) other
+
+pub round-in-spec : {M : Type 1} → statement M
+round-in-spec = tie.close (tie.spec steps-requires cast-if1 cast-if1-2 cast-t11 returns returns-2)

@@ -1,0 +1,45 @@
+use mathlib.Core.Path.{sym, ap, _∙_}
+use Prim.Native.Nat.{min}
+use native.Mathlib.Omega.{arith}
+use borrow.Author.Needs.{needs}
+use Rattle.registers.specs.RoundingParts.{beyond}
+use Rattle.registers.proofs.rounding.Tens.{nearest-up, nearest-down}
+use Rattle.registers.proofs.rounding.size_of.Statement.{statement}
+use Rattle.registers.proofs.rounding.size_of.Tie as tie
+
+raised-requires : tie.Need-raised-requires
+raised-requires c κs = search needs
+
+returns : tie.Need-returns
+returns c =
+    let a = c .before .before .args in
+    c .raised .ensures ∙ ap (min beyond) (sym (nearest-up (a .x) (a .up) (a .down) (omega arith)))
+
+sub-lowered : tie.Need-sub-lowered
+sub-lowered c = search needs
+
+sub-lowered-2 : tie.Need-sub-lowered-2
+sub-lowered-2 c = search needs
+
+lowered-requires : tie.Need-lowered-requires
+lowered-requires c κs = search needs
+
+hold-requires : tie.Need-hold-requires
+hold-requires c κs = search needs
+
+returns-2 : tie.Need-returns-2
+returns-2 c =
+    let a = c .before .before .before .args in
+    c .hold .ensures ∙ ap (min beyond) (c .before .lowered .ensures ∙ nearest-down (a .x) (a .up) (a .down) (omega arith))
+
+pub size-of-spec : {M : Type 1} → statement M
+size-of-spec =
+    tie.close
+    (tie.spec
+    raised-requires
+    returns
+    sub-lowered
+    sub-lowered-2
+    lowered-requires
+    hold-requires
+    returns-2)

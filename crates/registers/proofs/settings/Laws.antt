@@ -1,0 +1,140 @@
+-- Laws of the settings: the code's tables are 01's, what a table holds comes back from its 32 bits, and a value that is
+-- stored leaves every setting within its limits.
+use mathlib.Core.Path.{_≡_, refl, sym, _∙_, ap, subst}
+use mathlib.Core.Bool.{Bool, true, false, not, _&&_}
+use mathlib.Core.List.{List, [], _∷_}
+use Prim.Native.Nat.{ℕ, zero, suc, _≤_, _<_}
+use native.Mathlib.Omega.{arith}
+use lib.ListN.{length, getD, List·getD-map}
+use lib.IntN.{ℤ, pos, negsuc}
+use lib.Signed.{ltZ, mag}
+use lib.Dec.{ltb, eqb}
+use mir.Syntax.{w32}
+use mir.Val.{SFits, toZ, ofZ}
+use mir.Facts.{toZ-ofZ}
+use borrow.Author.Tests.{ltb-true, ltb-false}
+use Rattle.registers.specs.Text.{if_then_else_, below}
+use Rattle.registers.specs.Settings.{Setting, bool, table, row, kindOf, settingAt, lowestOf, highestOf, lowest, highest, wideRange, voltage, range, twelveVolts, valueAt, valuesIn, within, conflict, stored, withValue, count, possibleSettings}
+use Rattle.registers.specs.SettingsParts.{valuesFrom}
+use Rattle.registers.specs.declared.settings.Settings.{Settings}
+use Rattle.registers.proofs.Tests.{and-both, and-fails, below-fails, ltZ-not}
+
+-- a row's default is that of a row behind the table
+abbrev behind : Setting
+behind = row [] bool (pos 0)
+
+pub getD-any : {A : Type 0} (l : List A) (i : ℕ) (d e : A) → i < length l → getD l i d ≡ getD l i e
+getD-any [] i d e h = absurd (omega arith)
+getD-any (x ∷ l) zero d e h = refl
+getD-any (x ∷ l) (suc i) d e h = getD-any l i d e (omega arith)
+
+-- the code's tables of limits
+abbrev lowTable : List ℤ
+lowTable =
+    pos 0 ∷ pos 0 ∷ pos 0 ∷ pos 0 ∷ pos 0 ∷ pos 0 ∷ pos 400 ∷ pos 1 ∷ pos 0 ∷ pos 0 ∷ pos 1 ∷ pos 1 ∷ pos 5 ∷ negsuc 79 ∷ pos 0 ∷ pos 0 ∷ []
+
+abbrev highTable : List ℤ
+highTable =
+    pos 1 ∷ pos 1 ∷ pos 1 ∷ pos 2 ∷ pos 240 ∷ pos 1 ∷ pos 5500 ∷ pos 20 ∷ pos 1 ∷ pos 1 ∷ pos 10 ∷ pos 10 ∷ pos 80 ∷ negsuc 4 ∷ pos 99 ∷ pos 1 ∷ []
+
+low-at : (i : ℕ) → getD lowTable i (pos 0) ≡ lowestOf (kindOf i)
+unfolding table settingAt
+low-at i = List·getD-map (λ (x : Setting). lowestOf (x .kind)) table i behind
+
+high-at : (i : ℕ) → i < 16 → getD highTable i (pos 0) ≡ highestOf (kindOf i)
+unfolding table settingAt
+high-at i h = getD-any highTable i (pos 0) (pos 1) h ∙ List·getD-map (λ (x : Setting). highestOf (x .kind)) table i behind
+
+-- the code's kinds of values
+pub kind-at : (i : ℕ) → valuesFrom (getD (0 ∷ 0 ∷ 0 ∷ 1 ∷ 2 ∷ 1 ∷ 2 ∷ 2 ∷ 1 ∷ 1 ∷ 3 ∷ 3 ∷ 2 ∷ 2 ∷ 3 ∷ 0 ∷ []) i 0) ≡ valuesIn (kindOf i)
+unfolding table settingAt valuesFrom if_then_else_
+kind-at i =
+    sym (List·getD-map valuesFrom (0 ∷ 0 ∷ 0 ∷ 1 ∷ 2 ∷ 1 ∷ 2 ∷ 2 ∷ 1 ∷ 1 ∷ 3 ∷ 3 ∷ 2 ∷ 2 ∷ 3 ∷ 0 ∷ []) i 0)
+    ∙ List·getD-map (λ (x : Setting). valuesIn (x .kind)) table i behind
+
+-- a row behind the table
+pub behind-is : (i : ℕ) → 16 ≤ i → kindOf i ≡ bool
+unfolding table settingAt
+behind-is i h = ap (λ (x : Setting). x .kind) (lib.ListN.List·getD-eq-default table behind h)
+
+-- what a table holds comes back from its bits
+abbrev small : List ℤ → Bool
+small [] = true
+small (z ∷ l) = ltb (mag z) 2147483648 && small l
+
+table-fits : (l : List ℤ) (i : ℕ) → small l ≡ true → SFits w32 (getD l i (pos 0))
+table-fits [] i h = record { sfits = omega arith }
+table-fits (z ∷ l) zero h = record { sfits = ltb-true (mag z) 2147483648 (and-both (ltb (mag z) 2147483648) (small l) h .0) }
+table-fits (z ∷ l) (suc i) h = table-fits l i (and-both (ltb (mag z) 2147483648) (small l) h .1)
+
+-- the limits as the code reads them off its tables
+pub low-read : (i : ℕ) → toZ w32 (ofZ w32 (getD lowTable i (pos 0))) ≡ lowest i
+unfolding lowest
+low-read i = toZ-ofZ (table-fits lowTable i refl) ∙ low-at i
+
+pub high-read : (i : ℕ) → i < 16 → toZ w32 (ofZ w32 (getD highTable i (pos 0))) ≡ highestOf (kindOf i)
+high-read i h = toZ-ofZ (table-fits highTable i refl) ∙ high-at i h
+
+pub low-behind : (i : ℕ) → 16 ≤ i → pos 0 ≡ lowest i
+unfolding lowest
+low-behind i h = rw (behind-is i h)
+
+pub high-behind : (i : ℕ) → 16 ≤ i → pos 1 ≡ highestOf (kindOf i)
+high-behind i h = rw (behind-is i h)
+
+-- ---- the highest value, by the range
+
+module _ (s : Settings) (i : ℕ) where
+  pub high-narrow : (eqb i voltage && ltZ (valueAt s range) (pos 1)) ≡ true → twelveVolts ≡ highest s i
+  unfolding highest wideRange if_then_else_
+  high-narrow e = rw (← ltZ-not (valueAt s range) (pos 1), e)
+
+  pub high-other : (eqb i voltage && ltZ (valueAt s range) (pos 1)) ≡ false → highestOf (kindOf i) ≡ highest s i
+  unfolding highest wideRange if_then_else_
+  high-other e = rw (← ltZ-not (valueAt s range) (pos 1), e)
+
+-- ---- the limits come back from their bits
+
+high-fits : (i : ℕ) → SFits w32 (highestOf (kindOf i))
+high-fits i = go (ltb i 16) refl
+  where
+    go : (t : Bool) → ltb i 16 ≡ t → SFits w32 (highestOf (kindOf i))
+    go true e = subst (λ (x : ℤ). SFits w32 x) (high-at i (ltb-true i 16 e)) (table-fits highTable i refl)
+    go false e = subst (λ (x : ℤ). SFits w32 x) (high-behind i (ltb-false i 16 e)) (record { sfits = omega arith })
+
+pub low-back : (i : ℕ) → toZ w32 (ofZ w32 (lowest i)) ≡ lowest i
+unfolding lowest
+low-back i = toZ-ofZ (subst (λ (x : ℤ). SFits w32 x) (low-at i) (table-fits lowTable i refl))
+
+pub high-back : (s : Settings) (i : ℕ) → toZ w32 (ofZ w32 (highest s i)) ≡ highest s i
+unfolding highest if_then_else_
+high-back s i = toZ-ofZ (go (eqb i voltage && not (wideRange s)))
+  where
+    go : (t : Bool) → SFits w32 (if t then twelveVolts else highestOf (kindOf i))
+    go true = record { sfits = omega arith }
+    go false = high-fits i
+
+-- ---- a value that is stored, by checks 7 and 8
+
+module _ (i : ℕ) (v : ℤ) (s : Settings) where
+  pub stored-yes : within s i v ≡ true → conflict s i v ≡ false → stored i v s ≡ withValue i v s
+  unfolding stored if_then_else_
+  stored-yes e f = rw (e, f)
+
+  pub stored-outside : within s i v ≡ false → stored i v s ≡ s
+  unfolding stored if_then_else_
+  stored-outside e = rw e
+
+  pub stored-conflict : conflict s i v ≡ true → stored i v s ≡ s
+  unfolding stored if_then_else_
+  stored-conflict f = rw (f, and-fails (within s i v) false refl)
+
+-- ---- refusal 4 on the settings, row by row
+
+pub impossible : (s : Settings) (i : ℕ) → i < count → within s i (valueAt s i) ≡ false → false ≡ possibleSettings s
+unfolding possibleSettings
+impossible s i h e = sym (below-fails count (λ k. within s k (valueAt s k)) i h e)
+
+pub all-possible : (s : Settings) (i : ℕ) → i ≡ count → below i (λ k. within s k (valueAt s k)) ≡ true → true ≡ possibleSettings s
+unfolding possibleSettings
+all-possible s i e h = sym (rw e at h)

@@ -1,0 +1,19 @@
+use Rattle.registers.proofs.settings.Laws.{low-read, low-behind}
+use borrow.Author.Needs.{needs}
+use Rattle.registers.proofs.settings.Settings.lowest.Statement.{statement}
+use Rattle.registers.proofs.settings.Settings.lowest.Tie as tie
+
+mul-result : tie.Need-mul-result
+mul-result c = search needs
+
+array-copy-out-result : tie.Need-array-copy-out-result
+array-copy-out-result c = search needs
+
+returns : tie.Need-returns
+returns c = low-read (c .before .before .args .row)
+
+returns-2 : tie.Need-returns-2
+returns-2 c = low-behind (c .before .args .row) (c .if1 .left)
+
+pub lowest-spec : {M : Type 1} → statement M
+lowest-spec = tie.close (tie.spec mul-result array-copy-out-result returns returns-2)

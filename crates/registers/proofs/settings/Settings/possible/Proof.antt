@@ -1,0 +1,74 @@
+use native.Mathlib.Omega.{arith}
+use mathlib.Core.Path.{_≡_, refl, sym, _∙_}
+use mathlib.Core.Bool.{true}
+use Prim.Native.Nat.{_≤_, _-_}
+use mir.Syntax.{w32}
+use mir.Facts.{toZ-ofZ}
+use borrow.Author.Tests.{not-true, not-false}
+use Rattle.registers.specs.Text.{below}
+use Rattle.registers.specs.Settings.{within, valueAt}
+use Rattle.registers.proofs.Tests.{below-more}
+use Rattle.registers.proofs.settings.Laws.{impossible, all-possible}
+use borrow.Author.Needs.{needs}
+use Rattle.registers.proofs.settings.Settings.possible.Statement.{statement}
+use Rattle.registers.proofs.settings.Settings.possible.Tie as tie
+
+abbrev Inv-loop : tie.InvT-loop
+Inv-loop self values row₀ row = (row ≤ 16) × (values ≡ self .values) × (below row (λ i. within self i (valueAt self i)) ≡ true)
+
+abbrev μ-loop : tie.MeasureT-loop
+μ-loop self values row₀ row = 16 - row
+
+loop-holds : tie.Need-loop-holds Inv-loop μ-loop
+loop-holds c = (search needs, refl, refl)
+
+mul-value : tie.Need-mul-value Inv-loop μ-loop
+mul-value c = search needs
+
+array-copy-out-value : tie.Need-array-copy-out-value Inv-loop μ-loop
+array-copy-out-value c = search needs
+
+within-requires : tie.Need-within-requires Inv-loop μ-loop
+within-requires c κs = search needs
+
+returns : tie.Need-returns Inv-loop μ-loop
+returns c =
+    let s = c .before .before .before .before .before .before .args .self in
+    let i = c .before .before .before .before .loop .row in
+    let b = toZ-ofZ {w = w32} {z = valueAt s i} (record { sfits = c .before .before .value .given }) in
+    impossible s i (omega arith) (sym (rw b at (c .before .within .ensures)) ∙ not-true _ (c .if1 .taken))
+
+add-row : tie.Need-add-row Inv-loop μ-loop
+add-row c = search needs
+
+loop-less : tie.Need-loop-less Inv-loop μ-loop
+loop-less c = search needs
+
+loop-again : tie.Need-loop-again Inv-loop μ-loop
+loop-again c =
+    let s = c .before .before .before .before .before .before .args .self in
+    let i = c .before .before .before .before .loop .row in
+    let b = toZ-ofZ {w = w32} {z = valueAt s i} (record { sfits = c .before .before .value .given }) in (
+      search needs,
+      refl,
+      below-more i (λ k. within s k (valueAt s k)) (c .before .before .before .before .loop .inv .2) (sym (rw b at (c .before .within .ensures)) ∙ not-false _ (c .if1 .left)),
+    )
+
+returns-2 : tie.Need-returns-2 Inv-loop μ-loop
+returns-2 c = all-possible (c .before .before .before .args .self) (c .before .loop .row) (omega arith) (c .before .loop .inv .2)
+
+pub possible-spec : {M : Type 1} → statement M
+possible-spec =
+    tie.close
+    (tie.spec
+    Inv-loop
+    μ-loop
+    loop-holds
+    mul-value
+    array-copy-out-value
+    within-requires
+    returns
+    add-row
+    loop-less
+    loop-again
+    returns-2)

@@ -1,0 +1,138 @@
+-- Laws of the status record.
+use mathlib.Core.Path.{_≡_, refl, sym}
+use mathlib.Core.Bool.{Bool, true, false, not}
+use mathlib.Core.List.{List, [], _∷_, _++_}
+use Prim.Native.Nat.{ℕ, zero, suc, _+_, _-_, _^_, _≤_, _<_}
+use native.Mathlib.Omega.{arith}
+use lib.Bits.{bitOr}
+use lib.Dec.{leb, eqb}
+use native.Mathlib.Numerals.{add-one}
+use lib.ListN.{length, take, drop, getD, set, replicate, length-take, length-drop}
+use lib.Seq.{set-at, take-suc, take-all, append-snoc}
+use borrow.Author.Tests.{lt-ltb, le-ltb, le-leb, lt-leb, eq-eqb, ne-eqb}
+use Rattle.registers.specs.Text.{if_then_else_, first, empty, every}
+use Rattle.registers.specs.Errors.{eventBit, overflow, known}
+use Rattle.registers.specs.Group.{conditionIs, widestGroup}
+use Rattle.registers.specs.Status.{registersOf, troubleOf, raisedIn, oldestReadIn, reportedIn, registerSet, storedIn, withTrouble, withRegisters, withOperation, most, widest, bitIf, meet, summary, statusByte, possibleRegisters, possibleTrouble, possibleStatus}
+use Rattle.registers.specs.declared.status.Register.{Register}
+use Rattle.registers.specs.declared.status.Status.{Status}
+use Rattle.registers.proofs.Tests.{and-fails}
+
+-- ---- an error raised, by the room in the queue
+
+module _ (n : ℕ) (s : Status) where
+  pub raised-more : s .queued < most
+      → raisedIn n s ≡ withTrouble (bitOr (s .events) (eventBit n)) (s .queued + 1) (set (s .errors) (s .queued) n) s
+  unfolding raisedIn if_then_else_
+  raised-more h = rw (lt-ltb (s .queued) most h)
+
+  pub raised-full : most ≤ s .queued
+      → raisedIn n s ≡ withTrouble (bitOr (bitOr (s .events) (eventBit n)) (eventBit overflow)) (s .queued) (set (s .errors) 15 overflow) s
+  unfolding raisedIn if_then_else_
+  raised-full h = rw (le-ltb (s .queued) most h)
+
+-- ---- the oldest error
+
+pub first-of : (l : List ℕ) (q : ℕ) → (q ≡ 0 → ⊥) → getD l 0 0 ≡ first (take q l)
+first-of l zero h = absurd (h refl)
+first-of [] (suc q) h = refl
+first-of (x ∷ l) (suc q) h = refl
+
+module _ (s : Status) where
+  pub oldest-none : s .queued ≡ 0 → oldestReadIn s ≡ s
+  unfolding oldestReadIn if_then_else_
+  oldest-none e = rw (eq-eqb (s .queued) 0 e)
+
+  pub oldest-some : (s .queued ≡ 0 → ⊥) → oldestReadIn s ≡ withTrouble (s .events) (s .queued - 1) (drop 1 (s .errors) ++ 0 ∷ []) s
+  unfolding oldestReadIn if_then_else_
+  oldest-some e = rw (ne-eqb (s .queued) 0 e)
+
+-- the queue moves up by one: a turn of the loop, and its end
+pub shift-turn : (e : List ℕ) (i : ℕ) → length e ≡ 16 → i < 15
+    → set (take i (drop 1 e) ++ replicate (16 - i) 0) i (getD e (i + 1) 0) ≡ take (i + 1) (drop 1 e) ++ replicate (16 - (i + 1)) 0
+shift-turn [] i long h = absurd (omega arith)
+shift-turn (x ∷ l) i long h =
+    let hl : i < length l = omega arith in
+    let n : 16 - i ≡ suc (15 - i) = omega arith in
+    let m : 16 - suc i ≡ 15 - i = omega arith in
+    let t : length (take i l) ≡ i = rw length-take (omega arith) in
+    rw (add-one i, n, m, set-at (take i l) 0 (replicate (15 - i) 0) (getD l i 0) i t, take-suc l i 0 hl)
+    (sym (append-snoc (take i l) (getD l i 0) (replicate (15 - i) 0)))
+
+pub shift-end : (e : List ℕ) (i : ℕ) → length e ≡ 16 → i ≡ 15
+    → take i (drop 1 e) ++ replicate (16 - i) 0 ≡ drop 1 e ++ 0 ∷ []
+shift-end e i long h = rw (h, take-all 15 (drop 1 e) (rw length-drop (omega arith)))
+
+-- ---- a condition reported and a register set, by the width
+
+module _ (s : Status) (n : ℕ) where
+  pub reported-yes : n ≤ widestGroup → reportedIn n s ≡ withRegisters (withOperation (conditionIs n (s .operation)) (registersOf s)) s
+  unfolding reportedIn if_then_else_
+  reported-yes h = rw (le-leb n widestGroup h)
+
+  pub reported-no : widestGroup < n → reportedIn n s ≡ s
+  unfolding reportedIn if_then_else_
+  reported-no h = rw (lt-leb n widestGroup h)
+
+  pub set-yes : (x : Register) → n ≤ widest x → registerSet x n s ≡ withRegisters (storedIn x n (registersOf s)) s
+  unfolding registerSet if_then_else_
+  set-yes x h = rw (le-leb n (widest x) h)
+
+  pub set-no : (x : Register) → widest x < n → registerSet x n s ≡ s
+  unfolding registerSet if_then_else_
+  set-no x h = rw (lt-leb n (widest x) h)
+
+-- ---- the status byte
+
+-- a bit that is on has its weight
+bit-is : (on : Bool) (k : ℕ) → (if on then 2 ^ k else 0) ≡ bitIf on k
+unfolding if_then_else_
+bit-is true k = refl
+bit-is false k = refl
+
+queue-empty : (l : List ℕ) (q : ℕ) → 0 < length l → empty (take q l) ≡ eqb q 0
+queue-empty [] q h = absurd (omega arith)
+queue-empty (x ∷ l) zero h = refl
+queue-empty (x ∷ l) (suc q) h = sym (ne-eqb (suc q) 0 (λ e. omega arith))
+
+module _ (s : Status) (answers : Bool) (long : length (s .errors) ≡ 16) where
+  pub summary-is :
+      (if meet (s .operation .event) (s .operation .enable) then 128 else 0)
+      + (if meet (s .events) (s .ese) then 32 else 0)
+      + (if answers then 16 else 0)
+      + (if not (eqb (s .queued) 0) then 4 else 0)
+      ≡ summary (registersOf s) (troubleOf s) answers
+  unfolding summary
+  summary-is =
+      rw (queue-empty (s .errors) (s .queued) (omega arith), bit-is (meet (s .operation .event) (s .operation .enable)) 7, bit-is (meet (s .events) (s .ese)) 5, bit-is answers 4, bit-is (not (eqb (s .queued) 0)) 2)
+
+  pub byte-is : (n : ℕ) → n ≡ summary (registersOf s) (troubleOf s) answers
+      → n + (if meet n (s .sre) then 64 else 0) ≡ statusByte (registersOf s) (troubleOf s) answers
+  unfolding statusByte
+  byte-is n e = rw (e, bit-is (meet (summary (registersOf s) (troubleOf s) answers) (s .sre)) 6)
+
+-- ---- refusal 4 on the status
+
+front-short : (l : List ℕ) (q : ℕ) → q ≤ most → leb (length (take q l)) most ≡ true
+front-short l q h = le-leb (length (take q l)) most (rw length-take (omega arith))
+
+module _ (s : Status) where
+  pub queue-above : most < s .queued → false ≡ possibleStatus s
+  unfolding possibleStatus
+  queue-above h = rw (lt-leb (s .queued) most h)
+
+  module _ (h : s .queued ≤ most) where
+    pub register-above : possibleRegisters (registersOf s) ≡ false → false ≡ possibleStatus s
+    unfolding possibleStatus
+    register-above e = rw (le-leb (s .queued) most h, e)
+
+    pub events-above : 255 < s .events → false ≡ possibleStatus s
+    unfolding possibleStatus possibleTrouble
+    events-above e =
+        rw (le-leb (s .queued) most h, front-short (s .errors) (s .queued) h, lt-leb (s .events) 255 e)
+        (sym (and-fails (possibleRegisters (registersOf s)) false refl))
+
+    pub queue-decides : possibleRegisters (registersOf s) ≡ true → s .events ≤ 255
+        → every known (take (s .queued) (s .errors)) ≡ possibleStatus s
+    unfolding possibleStatus possibleTrouble
+    queue-decides e k = rw (le-leb (s .queued) most h, e, front-short (s .errors) (s .queued) h, le-leb (s .events) 255 k)

@@ -1,0 +1,17 @@
+use Rattle.registers.proofs.status.Laws.{reported-yes, reported-no}
+use mathlib.Core.Path.{sym}
+use borrow.Author.Needs.{needs}
+use Rattle.registers.proofs.status.Status.report.Statement.{statement}
+use Rattle.registers.proofs.status.Status.report.Tie as tie
+
+returns : tie.Need-returns
+returns c = sym (reported-no (c .before .args .self) (c .before .args .condition) (c .if1 .taken))
+
+report-requires : tie.Need-report-requires
+report-requires c κs = search needs
+
+returns-2 : tie.Need-returns-2
+returns-2 c = rw (c .report .ensures) (sym (reported-yes (c .before .before .before .args .self) (c .before .before .before .args .condition) (c .before .before .if1 .left)))
+
+pub report-spec : {M : Type 1} → statement M
+report-spec = tie.close (tie.spec returns report-requires returns-2)

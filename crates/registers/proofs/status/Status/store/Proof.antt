@@ -1,0 +1,87 @@
+use Prim.Native.Nat.{_≤_, _<_}
+use Rattle.registers.proofs.status.Laws.{set-yes, set-no}
+use mathlib.Core.Path.{sym, _∙_}
+use Rattle.registers.specs.Status.{storedIn, widest}
+use borrow.Author.Needs.{needs}
+use Rattle.registers.proofs.status.Status.store.Statement.{statement}
+use Rattle.registers.proofs.status.Status.store.Tie as tie
+
+widest-requires : tie.Need-widest-requires
+widest-requires c κs = search needs
+
+returns : tie.Need-returns
+returns c =
+    let a = c .before .before .args in
+    let h : widest (a .register) < a .value = rw (c .before .widest .ensures) at (c .if1 .taken) in
+    sym (set-no (a .self) (a .value) (a .register) h)
+
+enum-told : tie.Need-enum-told
+enum-told c = search needs
+
+enum-told-2 : tie.Need-enum-told-2
+enum-told-2 c = search needs
+
+without-bit6-requires : tie.Need-without-bit6-requires
+without-bit6-requires c κs = search needs
+
+enum-told-3 : tie.Need-enum-told-3
+enum-told-3 c = search needs
+
+enum-told-4 : tie.Need-enum-told-4
+enum-told-4 c = search needs
+
+enum-told-5 : tie.Need-enum-told-5
+enum-told-5 c = search needs
+
+returns-2 : tie.Need-returns-2
+unfolding storedIn
+returns-2 c =
+    let a = c .before .before .before .before .args in
+    let h : a .value ≤ widest (a .register) = rw (c .before .before .before .widest .ensures) at (c .before .before .if1 .left) in
+    (sym (set-yes (a .self) (a .value) (a .register) h ∙ rw (c .enum-told .given .1)))
+
+returns-3 : tie.Need-returns-3
+unfolding storedIn
+returns-3 c =
+    let a = c .before .before .before .before .before .args in
+    let h : a .value ≤ widest (a .register) = rw (c .before .before .before .before .widest .ensures) at (c .before .before .before .if1 .left) in
+    rw (c .without-bit6 .ensures) (sym (set-yes (a .self) (a .value) (a .register) h ∙ rw (c .before .enum-told2 .given .1)))
+
+returns-4 : tie.Need-returns-4
+unfolding storedIn
+returns-4 c =
+    let a = c .before .before .before .before .before .args in
+    let h : a .value ≤ widest (a .register) = rw (c .before .before .before .before .widest .ensures) at (c .before .before .before .if1 .left) in
+    (sym (set-yes (a .self) (a .value) (a .register) h ∙ rw (c .before .enum-told3 .given .1)))
+
+returns-5 : tie.Need-returns-5
+unfolding storedIn
+returns-5 c =
+    let a = c .before .before .before .before .before .args in
+    let h : a .value ≤ widest (a .register) = rw (c .before .before .before .before .widest .ensures) at (c .before .before .before .if1 .left) in
+    (sym (set-yes (a .self) (a .value) (a .register) h ∙ rw (c .before .enum-told4 .given .1)))
+
+returns-6 : tie.Need-returns-6
+unfolding storedIn
+returns-6 c =
+    let a = c .before .before .before .before .before .args in
+    let h : a .value ≤ widest (a .register) = rw (c .before .before .before .before .widest .ensures) at (c .before .before .before .if1 .left) in
+    (sym (set-yes (a .self) (a .value) (a .register) h ∙ rw (c .before .enum-told5 .given .1)))
+
+pub store-spec : {M : Type 1} → statement M
+store-spec =
+    tie.close
+    (tie.spec
+    widest-requires
+    returns
+    enum-told
+    enum-told-2
+    without-bit6-requires
+    enum-told-3
+    enum-told-4
+    enum-told-5
+    returns-2
+    returns-3
+    returns-4
+    returns-5
+    returns-6)

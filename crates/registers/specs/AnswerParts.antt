@@ -1,0 +1,24 @@
+-- What the writers' own functions say. Nothing of 01 is defined here: see Answer.antt.
+use mathlib.Core.Path.{_≡_}
+use mathlib.Core.List.{[], _∷_}
+use Prim.Native.Nat.{ℕ, zero, suc, _+_}
+use lib.ListN.{length}
+use lib.IntN.{ℤ, pos, negsuc}
+use Rattle.registers.specs.Text.{Text}
+use Rattle.registers.specs.Answer.{over}
+
+-- the text over a tail from a place on, as far as the tail reaches
+unfoldable pub overAt : ℕ → Text → Text → Text
+overAt zero text tail = over text tail
+overAt (suc at) text [] = []
+overAt (suc at) text (x ∷ tail) = x ∷ overAt at text tail
+
+-- a text was written from a place on, and r is where it ends
+pub record LaidAt (at : ℕ) (text before : Text) (r : ℕ) (tail : Text) : Type 0 where
+  pub end : r ≡ at + length text
+  pub bytes : tail ≡ overAt at text before
+
+-- the sign of a number's text
+abbrev pub signText : ℤ → Text
+signText (pos n) = []
+signText (negsuc n) = 45 ∷ []

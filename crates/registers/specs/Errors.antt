@@ -1,0 +1,84 @@
+-- The errors that 01 raises: their numbers, the event bit of each, and the texts of SCPI-99. 222 stands for -222.
+use mathlib.Core.Bool.{Bool, false, _||_}
+use mathlib.Core.List.{List, [], _∷_, _++_}
+use Prim.Native.Nat.{ℕ, _^_}
+use Prim.Native.Char.{code}
+use Prim.Native.String.{String}
+use lib.Dec.{ltb, eqb}
+use Rattle.registers.specs.Text.{Text, if_then_else_, bytes}
+use Rattle.registers.specs.Answer.{decimal}
+use Rattle.registers.specs.declared.error.Error.{Error}
+use Rattle.registers.specs.declared.error.Error.the-variants.{InvalidCharacter, Syntax, DataType, ParameterNotAllowed, MissingParameter, UndefinedHeader, InvalidCharacterInNumber, ExponentTooLarge, TooManyDigits, SuffixNotAllowed, InvalidCharacterData, SettingsConflict, DataOutOfRange, InputBufferOverrun, QueryInterrupted, QueryUnterminated, QueryDeadlocked}
+
+-- 01's number for each error that can be raised
+abbrev pub numberOf : Error → ℕ
+numberOf InvalidCharacter = 101
+numberOf Syntax = 102
+numberOf DataType = 104
+numberOf ParameterNotAllowed = 108
+numberOf MissingParameter = 109
+numberOf UndefinedHeader = 113
+numberOf InvalidCharacterInNumber = 121
+numberOf ExponentTooLarge = 123
+numberOf TooManyDigits = 124
+numberOf SuffixNotAllowed = 138
+numberOf InvalidCharacterData = 141
+numberOf SettingsConflict = 221
+numberOf DataOutOfRange = 222
+numberOf InputBufferOverrun = 363
+numberOf QueryInterrupted = 410
+numberOf QueryUnterminated = 420
+numberOf QueryDeadlocked = 430
+
+-- what a full queue's sixteenth turns into
+abbrev pub overflow : ℕ
+overflow = 350
+
+-- "A raised error sets one event bit by its hundreds: -1xx bit 5, -2xx bit 4, -3xx bit 3, -4xx bit 2"
+unfoldable pub eventBit : ℕ → ℕ
+eventBit n = if ltb n 200 then 2 ^ 5 else (if ltb n 300 then 2 ^ 4 else (if ltb n 400 then 2 ^ 3 else 2 ^ 2))
+
+-- the texts of SCPI-99
+unfoldable pub messages : List (ℕ × String)
+messages =
+    (0, "No error")
+    ∷ (101, "Invalid character")
+    ∷ (102, "Syntax error")
+    ∷ (104, "Data type error")
+    ∷ (108, "Parameter not allowed")
+    ∷ (109, "Missing parameter")
+    ∷ (113, "Undefined header")
+    ∷ (121, "Invalid character in number")
+    ∷ (123, "Exponent too large")
+    ∷ (124, "Too many digits")
+    ∷ (138, "Suffix not allowed")
+    ∷ (141, "Invalid character data")
+    ∷ (221, "Settings conflict")
+    ∷ (222, "Data out of range")
+    ∷ (350, "Queue overflow")
+    ∷ (363, "Input buffer overrun")
+    ∷ (410, "Query INTERRUPTED")
+    ∷ (420, "Query UNTERMINATED")
+    ∷ (430, "Query DEADLOCKED")
+    ∷ []
+
+-- the text of a number; none for a number that has none
+unfoldable pub messageIn : List (ℕ × String) → ℕ → String
+messageIn [] n = ""
+messageIn (m ∷ ms) n = if eqb (m .0) n then m .1 else messageIn ms n
+
+-- SYSTem:ERRor? answers `-222,"Data out of range"`, or `0,"No error"`
+unfoldable pub errorText : ℕ → Text
+errorText n =
+    (if eqb n 0 then [] else code "-" ∷ []) ++ decimal n ++ code "," ∷ code "\"" ∷ bytes (messageIn messages n) ++ code "\"" ∷ []
+
+-- the numbers that 01 puts into the queue
+unfoldable pub queueable : List ℕ
+queueable = 101 ∷ 102 ∷ 104 ∷ 108 ∷ 109 ∷ 113 ∷ 121 ∷ 123 ∷ 124 ∷ 138 ∷ 141 ∷ 221 ∷ 222 ∷ 350 ∷ 363 ∷ 410 ∷ 420 ∷ 430 ∷ []
+
+abbrev pub among : ℕ → List ℕ → Bool
+among n [] = false
+among n (x ∷ xs) = eqb x n || among n xs
+
+unfoldable pub known : ℕ → Bool
+known n = among n queueable

@@ -1,0 +1,15 @@
+pub mod Text
+pub mod Check
+pub mod Words
+pub mod Answer
+pub mod AnswerParts
+pub mod Errors
+pub mod ErrorParts
+pub mod Number
+pub mod NumberParts
+pub mod Rounding
+pub mod RoundingParts
+pub mod Settings
+pub mod SettingsParts
+pub mod Group
+pub mod Status

@@ -1,0 +1,120 @@
+-- Check 6: a number as it is written, its exact decimal value, and the four refusals in their order.
+use mathlib.Core.Bool.{Bool, not, _&&_, _||_}
+use mathlib.Core.List.{[], _∷_, _++_}
+use Prim.Native.Nat.{ℕ, _+_, _-_, _*_}
+use Prim.Native.Char.{code}
+use lib.Dec.{leb, eqb}
+use lib.ListN.{length}
+use Rattle.registers.specs.Text.{Text, if_then_else_, digit, letter, white, capital, empty, first, rest, start, after}
+use Rattle.registers.specs.Check.{Checked, refused, passed, _>>_, check}
+use Rattle.registers.specs.Errors.{numberOf}
+use Rattle.registers.specs.declared.number.Decimal.{Decimal}
+use Rattle.registers.specs.declared.number.Reading.{Reading}
+use Rattle.registers.specs.declared.number.Reading.the-variants.{Refused, Number}
+
+-- ---- "optional sign, digits with an optional point, and as an option `E` or `e`, optional sign, at least one digit"
+
+abbrev pub sign : ℕ → Bool
+sign b = eqb b (code "+") || eqb b (code "-")
+
+abbrev pub point : ℕ → Bool
+point b = eqb b (code ".")
+
+unfoldable pub afterSign : Text → Text
+afterSign t = if sign (first t) then rest t else t
+
+-- the digits behind the point that a text starts with, and what stands after them
+unfoldable pub fractionOf : Text → Text
+fractionOf t = if point (first t) then start digit (rest t) else []
+
+unfoldable pub afterFraction : Text → Text
+afterFraction t = if point (first t) then after digit (rest t) else t
+
+-- the digits of the exponent that a text starts with, and what stands after it: without a digit there is no exponent
+unfoldable pub exponentOf : Text → Text
+exponentOf t = if eqb (capital (first t)) (code "E") then start digit (afterSign (rest t)) else []
+
+unfoldable pub afterExponent : Text → Text
+afterExponent t = if empty (exponentOf t) then t else after digit (afterSign (rest t))
+
+-- an exponent is there, and its sign is a minus
+unfoldable pub lowering : Text → Bool
+lowering t = not (empty (exponentOf t)) && eqb (first (rest t)) (code "-")
+
+pub record Written : Type 0 where
+  pub minus : Bool  -- its sign is a minus
+  pub whole : Text  -- the digits before the point
+  pub fraction : Text  -- the digits behind it
+  pub lowers : Bool  -- the exponent's sign is a minus
+  pub exponent : Text  -- the exponent's digits
+  pub remainder : Text  -- what stands behind the number
+
+-- "The longest such start is read"
+unfoldable pub written : Text → Written
+written t =
+    let behindWhole = after digit (afterSign t) in
+    let behind = afterFraction behindWhole in
+    record {
+      minus = eqb (first t) (code "-");
+      whole = start digit (afterSign t);
+      fraction = fractionOf behindWhole;
+      lowers = lowering behind;
+      exponent = exponentOf behind;
+      remainder = afterExponent behind;
+    }
+
+-- ---- the exact decimal value: the digits, times 10 to the power up, over 10 to the power down, with the sign
+
+-- digits as a number, behind those of n
+unfoldable pub numeralFrom : ℕ → Text → ℕ
+numeralFrom n [] = n
+numeralFrom n (d ∷ ds) = numeralFrom (n * 10 + (d - code "0")) ds
+
+abbrev pub numeral : Text → ℕ
+numeral ds = numeralFrom 0 ds
+
+-- of a sign, all the digits, how many of them are behind the point, and the exponent
+unfoldable pub decimalOf : Bool → ℕ → ℕ → Bool → ℕ → Decimal
+decimalOf minus digits places lowers exponent =
+    record {
+      minus = minus;
+      digits = digits;
+      up = if lowers then 0 else exponent - places;
+      down = if lowers then places + exponent else places - exponent;
+    }
+
+unfoldable pub valueOf : Written → Decimal
+valueOf w = decimalOf (w .minus) (numeral (w .whole ++ w .fraction)) (length (w .fraction)) (w .lowers) (numeral (w .exponent))
+
+-- ---- check 6
+
+-- "-124 for more than 12 mantissa digits after leading zeros"
+abbrev pub mostDigits : ℕ
+mostDigits = 12
+
+-- "-123 for an exponent above 9 in size"
+abbrev pub mostExponent : ℕ
+mostExponent = 9
+
+-- "if more remains, -138 where it begins with a letter, else -121"
+unfoldable pub remains : Text → Checked (Unit {0})
+remains t = if letter (first t) then refused 138 else check 121 (empty t)
+
+unfoldable pub number : Text → Checked Decimal
+number t =
+    let w = written t in
+    check 121 (not (empty (w .whole ++ w .fraction)))
+    >> remains (after white (w .remainder))
+    >> check 124 (leb (length (after (eqb (code "0")) (w .whole ++ w .fraction))) mostDigits)
+    >> check 123 (leb (numeral (w .exponent)) mostExponent)
+    >> passed (valueOf w)
+
+-- ---- what the reader's answer means
+
+abbrev pub meant : Reading → Checked Decimal
+meant (Refused e) = refused (numberOf e)
+meant (Number d) = passed d
+
+-- "zero is off, any other is on"
+unfoldable pub switchedOn : Decimal → Bool
+switchedOn d = not (eqb (d .digits) 0)

@@ -1,0 +1,28 @@
+-- Check 7: "The exact decimal value is rounded to the row's step, halves away from zero, and only then compared".
+use mathlib.Core.Bool.{Bool, true, false, _&&_}
+use Prim.Native.Nat.{ℕ, _+_, _*_, _/_, _^_}
+use lib.IntN.{ℤ, pos, negℤ}
+use lib.Signed.{leZ}
+use Rattle.registers.specs.Text.{if_then_else_}
+use Rattle.registers.specs.declared.number.Decimal.{Decimal}
+use Rattle.registers.specs.declared.rounding.Fit.{Fit}
+use Rattle.registers.specs.declared.rounding.Fit.the-variants.{Within, Outside}
+
+-- the whole number that is nearest to num / den; a half goes up
+unfoldable pub nearest : ℕ → ℕ → ℕ
+nearest num den = (2 * num + den) / (2 * den)
+
+abbrev pub signed : Bool → ℕ → ℤ
+signed true n = negℤ (pos n)
+signed false n = pos n
+
+-- a value's size in steps of which k make one, rounded; and with its sign, so that a half goes away from zero
+unfoldable pub sizeIn : ℕ → Decimal → ℕ
+sizeIn k d = nearest (d .digits * 10 ^ d .up * k) (10 ^ d .down)
+
+unfoldable pub rounded : ℕ → Decimal → ℤ
+rounded k d = signed (d .minus) (sizeIn k d)
+
+-- rounded, and only then compared with the lowest and the highest value
+unfoldable pub fitted : ℕ → ℤ → ℤ → Decimal → Fit
+fitted k low high d = if leZ low (rounded k d) && leZ (rounded k d) high then Within (rounded k d) else Outside

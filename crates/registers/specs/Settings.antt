@@ -1,0 +1,149 @@
+-- The sixteen settings: headers, values, steps, limits and values at *RST, and how a value is answered.
+-- A bool is 0 or 1, a word its place in its list from 0, and a number is counted in its steps.
+use mathlib.Core.Bool.{Bool, not, _&&_}
+use mathlib.Core.List.{List, [], _∷_, map}
+use Prim.Native.Nat.{ℕ, pred}
+use Prim.Native.String.{String}
+use lib.Dec.{eqb}
+use lib.ListN.{length, getD, set}
+use lib.IntN.{ℤ, pos, negsuc, negℤ}
+use lib.Signed.{leZ, ltZ}
+use Rattle.registers.specs.Text.{Text, if_then_else_, below}
+use Rattle.registers.specs.Answer.{decimal, tenths, signedText}
+use Rattle.registers.specs.Words.{Node, must, may, shortForm}
+use Rattle.registers.specs.declared.settings.Settings.{Settings}
+use Rattle.registers.specs.declared.settings.Values.{Values}
+use Rattle.registers.specs.declared.settings.Values.the-variants.{Bool as BoolValue, Word, Tenths, Whole}
+
+pub data Kind : Type 0 where
+  bool : Kind
+  words : List String → Kind
+  number : ℕ → ℤ → ℤ → Kind  -- how many steps make one; the lowest and the highest value, in steps
+
+pub record Setting : Type 0 where
+  pub nodes : List Node
+  pub kind : Kind
+  pub reset : ℤ
+
+abbrev pub row : List Node → Kind → ℤ → Setting
+row nodes kind reset = record { nodes = nodes; kind = kind; reset = reset }
+
+abbrev pub minus : ℕ → ℤ
+minus n = negℤ (pos n)
+
+-- "Two dots stand for [SOURce:]CURRent:LIMit"
+abbrev pub underLimit : List Node → List Node
+underLimit nodes = may "SOURce" ∷ must "CURRent" ∷ must "LIMit" ∷ nodes
+
+-- "The sixteen settings", in 01's order
+unfoldable pub table : List Setting
+table =
+    row (must "OUTPut" ∷ may "STATe" ∷ []) bool (pos 0)
+    ∷ row (must "OUTPut" ∷ must "PON" ∷ []) bool (pos 0)
+    ∷ row (must "OUTPut" ∷ must "RELay" ∷ []) bool (pos 1)
+    ∷ row (must "OUTPut" ∷ must "MONitor" ∷ must "MODE" ∷ []) (words ("CURRent" ∷ "SCURrent" ∷ "VOLTage" ∷ [])) (pos 2)
+    ∷ row (may "SOURce" ∷ must "VOLTage" ∷ may "LEVel" ∷ may "IMMediate" ∷ may "AMPLitude" ∷ []) (number 10 (pos 0) (pos 240)) (pos 0)
+    ∷ row (may "SOURce" ∷ must "VOLTage" ∷ must "RANGe" ∷ []) (words ("R12V" ∷ "R24V" ∷ [])) (pos 0)
+    ∷ row (may "SOURce" ∷ must "FREQuency" ∷ []) (number 10 (pos 400) (pos 5500)) (pos 500)
+    ∷ row (underLimit (must "RMS" ∷ may "AMPLitude" ∷ [])) (number 10 (pos 1) (pos 20)) (pos 10)
+    ∷ row (underLimit (must "RMS" ∷ must "MODE" ∷ [])) (words ("CONTinuous" ∷ "OFF" ∷ [])) (pos 1)
+    ∷ row (underLimit (must "PEAK" ∷ must "MODE" ∷ [])) (words ("CONTinuous" ∷ "OFF" ∷ [])) (pos 1)
+    ∷ row (underLimit (must "RMS" ∷ must "TIME" ∷ [])) (number 1 (pos 1) (pos 10)) (pos 1)
+    ∷ row (underLimit (must "PEAK" ∷ must "TIME" ∷ [])) (number 1 (pos 1) (pos 10)) (pos 1)
+    ∷ row (underLimit (must "PEAK" ∷ must "HIGH" ∷ [])) (number 10 (pos 5) (pos 80)) (pos 40)
+    ∷ row (underLimit (must "PEAK" ∷ must "LOW" ∷ [])) (number 10 (minus 80) (minus 5)) (minus 40)
+    ∷ row (must "DISPlay" ∷ must "BRIGhtness" ∷ []) (number 1 (pos 0) (pos 99)) (pos 50)
+    ∷ row (must "SYSTem" ∷ must "KLOCk" ∷ []) bool (pos 0)
+    ∷ []
+
+-- how many there are, and the two that a rule names, by their place in the table
+abbrev pub count : ℕ
+count = 16
+
+abbrev pub voltage : ℕ
+voltage = 4
+
+abbrev pub range : ℕ
+range = 5
+
+unfoldable pub settingAt : ℕ → Setting
+settingAt i = getD table i (row [] bool (pos 0))
+
+abbrev pub kindOf : ℕ → Kind
+kindOf i = settingAt i .kind
+
+-- ---- the values of all settings
+
+abbrev pub valueAt : Settings → ℕ → ℤ
+valueAt s i = getD (s .values) i (pos 0)
+
+abbrev pub withValue : ℕ → ℤ → Settings → Settings
+withValue i v s = record { values = set (s .values) i v }
+
+-- "At *RST"
+unfoldable pub atReset : Settings
+atReset = record { values = map (λ (x : Setting). x .reset) table }
+
+-- ---- limits
+
+abbrev pub lowestOf : Kind → ℤ
+lowestOf bool = pos 0
+lowestOf (words ws) = pos 0
+lowestOf (number k low high) = low
+
+abbrev pub highestOf : Kind → ℤ
+highestOf bool = pos 1
+highestOf (words ws) = pos (pred (length ws))
+highestOf (number k low high) = high
+
+-- 12.0 V in steps
+abbrev pub twelveVolts : ℤ
+twelveVolts = pos 120
+
+-- R12V is word 0 of the range and R24V word 1
+unfoldable pub wideRange : Settings → Bool
+wideRange s = leZ (pos 1) (valueAt s range)
+
+unfoldable pub lowest : ℕ → ℤ
+lowest i = lowestOf (kindOf i)
+
+-- "0.0 to 12.0 or 24.0 by range"
+unfoldable pub highest : Settings → ℕ → ℤ
+highest s i = if eqb i voltage && not (wideRange s) then twelveVolts else highestOf (kindOf i)
+
+-- check 7: "-222 outside the limits"
+unfoldable pub within : Settings → ℕ → ℤ → Bool
+within s i v = leZ (lowest i) v && leZ v (highest s i)
+
+-- check 8: "-221: range R12V while the voltage is above 12.0"
+unfoldable pub conflict : Settings → ℕ → ℤ → Bool
+conflict s i v = eqb i range && (leZ v (pos 0) && ltZ twelveVolts (valueAt s voltage))
+
+-- refusal 4: "a setting outside its limits", "a voltage above its range"
+unfoldable pub possibleSettings : Settings → Bool
+possibleSettings s = below count (λ i. within s i (valueAt s i))
+
+-- a value is stored only where checks 7 and 8 let it pass
+unfoldable pub stored : ℕ → ℤ → Settings → Settings
+stored i v s = if within s i v && not (conflict s i v) then withValue i v s else s
+
+-- ---- "Answers: 0 or 1; plain integers; one decimal for step 0.1; words in short form"
+
+abbrev pub wordAt : List String → ℕ → String
+wordAt ws i = getD ws i ""
+
+-- the short form of a word by its place in its list
+abbrev pub wordText : List String → ℤ → Text
+wordText ws (pos n) = shortForm (wordAt ws n)
+wordText ws (negsuc n) = []
+
+unfoldable pub answerOf : Kind → ℤ → Text
+answerOf bool v = signedText decimal v
+answerOf (words ws) v = wordText ws v
+answerOf (number k low high) v = signedText (if eqb k 10 then tenths else decimal) v
+
+-- what the code's answer says of a row's values
+abbrev pub valuesIn : Kind → Values
+valuesIn bool = BoolValue
+valuesIn (words ws) = Word
+valuesIn (number k low high) = if eqb k 10 then Tenths else Whole

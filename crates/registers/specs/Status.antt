@@ -1,0 +1,173 @@
+-- Registers, error queue and status byte. `Trouble` is the event status register and the error queue, all that a refused
+-- unit adds to; `Registers` is what it leaves alone.
+use mathlib.Core.Bool.{Bool, true, false, not, _&&_}
+use mathlib.Core.List.{List, [], _∷_, _++_}
+use Prim.Native.Nat.{ℕ, _+_, _-_, _^_}
+use lib.Dec.{leb, ltb, eqb}
+use lib.ListN.{length, take, drop, set}
+use lib.Bits.{bitAnd, bitOr}
+use Rattle.registers.specs.Text.{if_then_else_, every, empty, first, rest}
+use Rattle.registers.specs.Errors.{eventBit, overflow, known}
+use Rattle.registers.specs.Group.{conditionIs, eventRead, withEnable, withPtr, withNtr, possibleGroup, groupAtStart, widestGroup}
+use Rattle.registers.specs.declared.group.Group.{Group}
+use Rattle.registers.specs.declared.status.Status.{Status}
+use Rattle.registers.specs.declared.status.Register.{Register}
+use Rattle.registers.specs.declared.status.Register.the-variants.{Ese, Sre, Enable, Ntr, Ptr}
+
+pub record Registers : Type 0 where
+  pub ese : ℕ  -- *ESE
+  pub sre : ℕ  -- *SRE
+  pub operation : Group  -- STATus:OPERation
+
+pub record Trouble : Type 0 where
+  pub events : ℕ  -- the event status register
+  pub queue : List ℕ  -- oldest first; 222 stands for -222
+
+-- ---- what a status record means: "The array places beyond a stored length mean nothing"
+
+abbrev pub registersOf : Status → Registers
+registersOf s = record { ese = s .ese; sre = s .sre; operation = s .operation }
+
+abbrev pub troubleOf : Status → Trouble
+troubleOf s = record { events = s .events; queue = take (s .queued) (s .errors) }
+
+-- ---- errors
+
+-- "The queue holds 16 numbers"
+abbrev pub most : ℕ
+most = 16
+
+-- "An error raised when it is full turns the sixteenth into -350 and sets bit 3 besides its own bit"
+unfoldable pub raised : ℕ → Trouble → Trouble
+raised n t =
+    if ltb (length (t .queue)) most
+    then record { events = bitOr (t .events) (eventBit n); queue = t .queue ++ n ∷ [] }
+    else record { events = bitOr (bitOr (t .events) (eventBit n)) (eventBit overflow); queue = take 15 (t .queue) ++ overflow ∷ [] }
+
+abbrev pub noTrouble : Trouble
+noTrouble = record { events = 0; queue = [] }
+
+-- "*OPC sets event bit 0"
+unfoldable pub completed : Trouble → Trouble
+completed t = record { events = bitOr (t .events) 1; queue = t .queue }
+
+-- "Reading *ESR? .. clears it"
+unfoldable pub eventsRead : Trouble → Trouble
+eventsRead t = record { events = 0; queue = t .queue }
+
+-- "SYSTem:ERRor? removes the oldest"
+unfoldable pub oldestRead : Trouble → Trouble
+oldestRead t = record { events = t .events; queue = rest (t .queue) }
+
+-- ---- the registers that are set and asked
+
+abbrev pub withOperation : Group → Registers → Registers
+withOperation g r = record { ese = r .ese; sre = r .sre; operation = g }
+
+-- "0 to 255", "0 to 32,767"
+abbrev pub widest : Register → ℕ
+widest Ese = 255
+widest Sre = 255
+widest Enable = widestGroup
+widest Ntr = widestGroup
+widest Ptr = widestGroup
+
+-- "bit 6 of *SRE is stored as 0"
+unfoldable pub withoutBit6 : ℕ → ℕ
+withoutBit6 n = n - bitAnd n (2 ^ 6)
+
+unfoldable pub storedIn : Register → ℕ → Registers → Registers
+storedIn Ese n r = record { ese = n; sre = r .sre; operation = r .operation }
+storedIn Sre n r = record { ese = r .ese; sre = withoutBit6 n; operation = r .operation }
+storedIn Enable n r = withOperation (withEnable n (r .operation)) r
+storedIn Ntr n r = withOperation (withNtr n (r .operation)) r
+storedIn Ptr n r = withOperation (withPtr n (r .operation)) r
+
+unfoldable pub registerIn : Register → Registers → ℕ
+registerIn Ese r = r .ese
+registerIn Sre r = r .sre
+registerIn Enable r = r .operation .enable
+registerIn Ntr r = r .operation .ntr
+registerIn Ptr r = r .operation .ptr
+
+-- the operation event register read, or cleared by *CLS
+abbrev pub operationRead : Registers → Registers
+operationRead r = withOperation (eventRead (r .operation)) r
+
+-- ---- the status byte
+
+abbrev pub bitIf : Bool → ℕ → ℕ
+bitIf true k = 2 ^ k
+bitIf false k = 0
+
+-- some bit is in both
+abbrev pub meet : ℕ → ℕ → Bool
+meet a b = not (eqb (bitAnd a b) 0)
+
+-- "bit 7 operation event AND its enable is not 0; bit 5 the same for *ESR and *ESE; bit 4 an answer has bytes; bit 2 queue not empty"
+unfoldable pub summary : Registers → Trouble → Bool → ℕ
+summary r t answers =
+    bitIf (meet (r .operation .event) (r .operation .enable)) 7
+    + bitIf (meet (t .events) (r .ese)) 5
+    + bitIf answers 4
+    + bitIf (not (empty (t .queue))) 2
+
+-- "bit 6 exactly when another set bit is enabled by *SRE"
+unfoldable pub statusByte : Registers → Trouble → Bool → ℕ
+statusByte r t answers = summary r t answers + bitIf (meet (summary r t answers) (r .sre)) 6
+
+-- ---- refusal 4: what couldn't be the box's
+
+-- "a register above its width (255 for the event status register, *ESE and *SRE ..), *SRE with bit 6"
+unfoldable pub possibleRegisters : Registers → Bool
+possibleRegisters r = leb (r .ese) 255 && leb (r .sre) 255 && eqb (bitAnd (r .sre) (2 ^ 6)) 0 && possibleGroup (r .operation)
+
+-- "a queue above 16 or holding a number this paper never puts there"
+unfoldable pub possibleTrouble : Trouble → Bool
+possibleTrouble t = leb (length (t .queue)) most && (leb (t .events) 255 && every known (t .queue))
+
+-- the record's own queue length is tested, not the list cut to it
+unfoldable pub possibleStatus : Status → Bool
+possibleStatus s = leb (s .queued) most && (possibleRegisters (registersOf s) && possibleTrouble (troubleOf s))
+
+-- ---- the status record after each of its methods, for any record at all
+
+-- other registers, or other trouble, in the same record
+abbrev pub withRegisters : Registers → Status → Status
+withRegisters r s =
+    record { events = s .events; ese = r .ese; sre = r .sre; operation = r .operation; queued = s .queued; errors = s .errors }
+
+abbrev pub withTrouble : ℕ → ℕ → List ℕ → Status → Status
+withTrouble events queued errors s =
+    record { events = events; ese = s .ese; sre = s .sre; operation = s .operation; queued = queued; errors = errors }
+
+unfoldable pub raisedIn : ℕ → Status → Status
+raisedIn n s =
+    if ltb (s .queued) most
+    then withTrouble (bitOr (s .events) (eventBit n)) (s .queued + 1) (set (s .errors) (s .queued) n) s
+    else withTrouble (bitOr (bitOr (s .events) (eventBit n)) (eventBit overflow)) (s .queued) (set (s .errors) 15 overflow) s
+
+-- *CLS
+unfoldable pub clearedIn : Status → Status
+clearedIn s = withRegisters (operationRead (registersOf s)) (withTrouble 0 0 (s .errors) s)
+
+unfoldable pub eventsIn : ℕ → Status → Status
+eventsIn n s = withTrouble n (s .queued) (s .errors) s
+
+unfoldable pub oldestReadIn : Status → Status
+oldestReadIn s =
+    if eqb (s .queued) 0 then s else withTrouble (s .events) (s .queued - 1) (drop 1 (s .errors) ++ 0 ∷ []) s
+
+-- a condition is reported; refusal 3: one "above 32,767" is none
+unfoldable pub reportedIn : ℕ → Status → Status
+reportedIn n s = if leb n widestGroup then withRegisters (withOperation (conditionIs n (s .operation)) (registersOf s)) s else s
+
+-- a register takes a value; one above its width is not stored
+unfoldable pub registerSet : Register → ℕ → Status → Status
+registerSet x n s = if leb n (widest x) then withRegisters (storedIn x n (registersOf s)) s else s
+
+-- ---- power-up: "event status 128, enables 0 .. all else empty"
+
+unfoldable pub atStart : Status
+atStart =
+    record { events = 128; ese = 0; sre = 0; operation = groupAtStart; queued = 0; errors = lib.ListN.replicate most 0 }

@@ -1,0 +1,13 @@
+// The lower crate of the bench box: numbers as they are written and answered, the sixteen settings,
+// and the status record with its registers and its error queue.
+//
+// No public function has a `requires`: each says, for any input and any record, what it answers.
+// The definitions that the contracts cite are in specs/, in the words of document 01.
+pub mod answer;
+pub mod error;
+pub mod group;
+pub mod number;
+pub mod rounding;
+pub mod settings;
+pub mod status;
+pub mod text;

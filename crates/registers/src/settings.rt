@@ -1,0 +1,153 @@
+// The sixteen settings, by their row in 01's table: bools 0 and 1, words by their place, numbers in
+// steps, the negative peak limit as signed tenths.
+ghost use mathlib.Core.Path.{_≡_};
+ghost use Rattle.registers.specs.SettingsParts.{valuesFrom};
+ghost use Rattle.registers.specs.Settings.{valueAt, atReset, lowest, highest, within, conflict, possibleSettings, stored, kindOf, valuesIn};
+
+pub struct Settings {
+    pub values: [i32; 16],
+}
+
+// What a row's values are: on or off, words, numbers of step 0.1, numbers of step 1.
+pub enum Values {
+    Bool,
+    Word,
+    Tenths,
+    Whole,
+}
+
+// Each row's kind of values: 0 for a bool, 1 for words, 2 for step 0.1, 3 for step 1.
+const KINDS: [u8; 16] = [0, 0, 0, 1, 2, 1, 2, 2, 1, 1, 3, 3, 2, 2, 3, 0];
+
+fn values_from(kind: u8) -> Values
+    ensures { λ r. ⌜ r ≡ valuesFrom kind ⌝ }
+{
+    if kind == 0 {
+        return Values::Bool;
+    }
+    if kind == 1 {
+        return Values::Word;
+    }
+    if kind == 2 {
+        return Values::Tenths;
+    }
+    Values::Whole
+}
+
+impl Settings {
+    pub const COUNT: usize = 16;
+
+    pub const VOLTAGE: usize = 4;
+
+    pub const RANGE: usize = 5;
+
+    pub const TWELVE_VOLTS: i32 = 120;
+
+    pub const LOWEST: [i32; 16] = [0, 0, 0, 0, 0, 0, 400, 1, 0, 0, 1, 1, 5, -80, 0, 0];
+
+    pub const HIGHEST: [i32; 16] = [1, 1, 1, 2, 240, 1, 5500, 20, 1, 1, 10, 10, 80, -5, 99, 1];
+
+    // The values at *RST.
+    pub fn reset() -> Settings
+        ensures { λ r. ⌜ r ≡ atReset ⌝ }
+    {
+        Settings {
+            values: [0, 0, 1, 2, 0, 0, 500, 10, 1, 1, 1, 1, 40, -40, 50, 0],
+        }
+    }
+
+    // What a row's values are; a row behind the table counts as a bool.
+    pub fn values_of(row: usize) -> Values
+        ensures { λ r. ⌜ r ≡ valuesIn (kindOf row) ⌝ }
+    {
+        if row < Settings::COUNT {
+            let kinds = KINDS;
+            return values_from(kinds[row]);
+        }
+        Values::Bool
+    }
+
+    // The lowest value of a row.
+    pub fn lowest(row: usize) -> i32
+        ensures { λ r. ⌜ r ≡ lowest row ⌝ }
+    {
+        if row < Settings::COUNT {
+            let lows = Settings::LOWEST;
+            return lows[row];
+        }
+        0
+    }
+
+    // The highest value of a row; the voltage's goes by the range.
+    pub fn highest(self, row: usize) -> i32
+        ensures { λ r. ⌜ r ≡ highest self row ⌝ }
+    {
+        let range = self.values[5];
+        if (row == Settings::VOLTAGE) & (range < 1) {
+            return Settings::TWELVE_VOLTS;
+        }
+        if row < Settings::COUNT {
+            let highs = Settings::HIGHEST;
+            return highs[row];
+        }
+        1
+    }
+
+    // The value of a row, 0 behind the table.
+    pub fn value(self, row: usize) -> i32
+        ensures { λ r. ⌜ r ≡ valueAt self row ⌝ }
+    {
+        let values = self.values;
+        if row < Settings::COUNT {
+            return values[row];
+        }
+        0
+    }
+
+    // Check 7's comparison.
+    pub fn within(self, row: usize, value: i32) -> bool
+        ensures { λ r. ⌜ r ≡ within self row value ⌝ }
+    {
+        let low = Settings::lowest(row);
+        let high = self.highest(row);
+        (low <= value) & (value <= high)
+    }
+
+    // Check 8: R12V while the voltage is above 12.0.
+    pub fn conflicts(self, row: usize, value: i32) -> bool
+        ensures { λ r. ⌜ r ≡ conflict self row value ⌝ }
+    {
+        let volts = self.values[4];
+        (row == Settings::RANGE) & (value <= 0) & (Settings::TWELVE_VOLTS < volts)
+    }
+
+    // The settings with a row's value, where checks 7 and 8 let it pass.
+    pub fn store(mut self, row: usize, value: i32) -> Settings
+        ensures { λ r. ⌜ r ≡ stored row value self ⌝ }
+    {
+        if row < Settings::COUNT {
+            if self.within(row, value) {
+                if !self.conflicts(row, value) {
+                    self.values[row] = value;
+                }
+            }
+        }
+        self
+    }
+
+    // Refusal 4 on the settings: every value within its limits.
+    pub fn possible(self) -> bool
+        ensures { λ r. ⌜ r ≡ possibleSettings self ⌝ }
+    {
+        let values = self.values;
+        let mut row: usize = 0;
+        while row < 16 {
+            let value = values[row];
+            if !self.within(row, value) {
+                return false;
+            }
+            row += 1;
+        }
+        true
+    }
+}

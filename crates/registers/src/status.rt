@@ -1,0 +1,281 @@
+// The status record: event status, enables, the operation group, and the queue of error numbers
+// (without their minus).
+use crate::error;
+use crate::error::Error;
+use crate::group::Group;
+ghost use mathlib.Core.Path.{_≡_};
+ghost use mathlib.Core.List.{_++_, _∷_, []};
+ghost use Prim.Native.Nat.{_≤_};
+ghost use lib.Bits.{bitOr};
+ghost use lib.ListN.{drop};
+ghost use Rattle.registers.specs.Text.{if_then_else_, every, first};
+ghost use Rattle.registers.specs.Errors.{numberOf, known};
+ghost use Rattle.registers.specs.Status.{registersOf, troubleOf, withRegisters, raisedIn, clearedIn, eventsIn, oldestReadIn, operationRead, reportedIn, registerSet, registerIn, widest, withoutBit6, statusByte, possibleRegisters, possibleStatus, atStart};
+
+pub struct Status {
+    pub events: u16,
+    pub ese: u16,
+    pub sre: u16,
+    pub operation: Group,
+    pub queued: usize,
+    pub errors: [u16; 16],
+}
+
+// The registers that a command sets and a query asks.
+pub enum Register {
+    Ese,
+    Sre,
+    Enable,
+    Ntr,
+    Ptr,
+}
+
+// All but the first number, and a 0 behind them.
+fn shifted(errors: [u16; 16]) -> [u16; 16]
+    ensures { λ r. ⌜ r ≡ drop 1 errors ++ 0 ∷ [] ⌝ }
+{
+    let mut next = [0u16; 16];
+    let mut i: usize = 0;
+    while i < 15 {
+        next[i] = errors[i + 1];
+        i += 1;
+    }
+    next
+}
+
+// Whether every number may stand in the queue.
+fn all_known(errors: &[u16]) -> bool
+    ensures { λ r. ⌜ r ≡ every known (now (errors .entry)) ⌝ }
+{
+    let mut i = 0;
+    while i < errors.len() {
+        if !error::is_known(errors[i]) {
+            return false;
+        }
+        i += 1;
+    }
+    true
+}
+
+// The weight of bit k where it is on.
+fn bit_if(on: bool, weight: u8) -> u8
+    ensures { λ r. ⌜ r ≡ if on then weight else 0 ⌝ }
+    ensures { λ r. ⌜ r ≤ weight ⌝ }
+{
+    if on { weight } else { 0 }
+}
+
+fn without_bit6(value: u16) -> u16
+    ensures { λ r. ⌜ r ≡ withoutBit6 value ⌝ }
+{
+    value - (value & 64)
+}
+
+impl Register {
+    // The widest value that the register takes.
+    pub fn widest(self) -> u16
+        ensures { λ r. ⌜ r ≡ widest self ⌝ }
+    {
+        match self {
+            Register::Ese => 255,
+            Register::Sre => 255,
+            Register::Enable => 32_767,
+            Register::Ntr => 32_767,
+            Register::Ptr => 32_767,
+        }
+    }
+}
+
+impl Status {
+    // How many errors wait at most, and the number that stands for those that were lost.
+    pub const MOST: usize = 16;
+
+    pub const OVERFLOW: u16 = 350;
+
+    pub fn power_up() -> Status
+        ensures { λ r. ⌜ r ≡ atStart ⌝ }
+    {
+        let operation = Group::power_up();
+        Status {
+            events: 128,
+            ese: 0,
+            sre: 0,
+            operation,
+            queued: 0,
+            errors: [0u16; 16],
+        }
+    }
+
+    // An error is raised: its event bit, and its number behind those that wait.
+    pub fn raise(mut self, error: Error) -> Status
+        ensures { λ r. ⌜ r ≡ raisedIn (numberOf error) self ⌝ }
+    {
+        let number = error.number();
+        let at = self.queued;
+        self.events = self.events | error::event_bit(number);
+        if at < Status::MOST {
+            self.errors[at] = number;
+            self.queued = at + 1;
+        } else {
+            self.errors[15] = Status::OVERFLOW;
+            self.events = self.events | error::event_bit(Status::OVERFLOW);
+        }
+        self
+    }
+
+    // *CLS.
+    pub fn clear(mut self) -> Status
+        ensures { λ r. ⌜ r ≡ clearedIn self ⌝ }
+    {
+        let operation = self.operation;
+        let read = operation.read_event();
+        self.operation = read;
+        self.events = 0;
+        self.queued = 0;
+        self
+    }
+
+    // *OPC.
+    pub fn complete(mut self) -> Status
+        ensures { λ r. ⌜ r ≡ eventsIn (bitOr (self .events) 1) self ⌝ }
+    {
+        self.events = self.events | 1;
+        self
+    }
+
+    // The event status register is read, and so cleared.
+    pub fn read_events(mut self) -> Status
+        ensures { λ r. ⌜ r ≡ eventsIn 0 self ⌝ }
+    {
+        self.events = 0;
+        self
+    }
+
+    // The operation event register is read, and so cleared.
+    pub fn read_operation(mut self) -> Status
+        ensures { λ r. ⌜ r ≡ withRegisters (operationRead (registersOf self)) self ⌝ }
+    {
+        let operation = self.operation;
+        let read = operation.read_event();
+        self.operation = read;
+        self
+    }
+
+    // The oldest error, 0 where none waits.
+    pub fn oldest(self) -> u16
+        ensures { λ r. ⌜ r ≡ first (troubleOf self .queue) ⌝ }
+    {
+        let errors = self.errors;
+        if self.queued == 0 {
+            return 0;
+        }
+        errors[0]
+    }
+
+    // The oldest error is removed.
+    pub fn read_oldest(mut self) -> Status
+        ensures { λ r. ⌜ r ≡ oldestReadIn self ⌝ }
+    {
+        let count = self.queued;
+        if count == 0 {
+            return self;
+        }
+        let errors = self.errors;
+        let left = shifted(errors);
+        self.errors = left;
+        self.queued = count - 1;
+        self
+    }
+
+    // The operation condition is reported; a value above 32,767 is no report.
+    pub fn report(mut self, condition: u16) -> Status
+        ensures { λ r. ⌜ r ≡ reportedIn condition self ⌝ }
+    {
+        if Group::WIDEST < condition {
+            return self;
+        }
+        let operation = self.operation;
+        let next = operation.report(condition);
+        self.operation = next;
+        self
+    }
+
+    // A register's value.
+    pub fn register(self, register: Register) -> u16
+        ensures { λ r. ⌜ r ≡ registerIn register (registersOf self) ⌝ }
+    {
+        match register {
+            Register::Ese => self.ese,
+            Register::Sre => self.sre,
+            Register::Enable => self.operation.enable,
+            Register::Ntr => self.operation.ntr,
+            Register::Ptr => self.operation.ptr,
+        }
+    }
+
+    // A register takes a value; one above the register's width is not stored.
+    pub fn store(mut self, register: Register, value: u16) -> Status
+        ensures { λ r. ⌜ r ≡ registerSet register value self ⌝ }
+    {
+        if register.widest() < value {
+            return self;
+        }
+        match register {
+            Register::Ese => {
+                self.ese = value;
+            }
+            Register::Sre => {
+                self.sre = without_bit6(value);
+            }
+            Register::Enable => {
+                self.operation.enable = value;
+            }
+            Register::Ntr => {
+                self.operation.ntr = value;
+            }
+            Register::Ptr => {
+                self.operation.ptr = value;
+            }
+        }
+        self
+    }
+
+    // The status byte, with its summary in bit 6.
+    pub fn status_byte(self, answers: bool) -> u8
+        ensures { λ r. ⌜ r ≡ statusByte (registersOf self) (troubleOf self) answers ⌝ }
+    {
+        let operation = bit_if(self.operation.event & self.operation.enable != 0, 128);
+        let standard = bit_if(self.events & self.ese != 0, 32);
+        let answer = bit_if(answers, 16);
+        let queue = bit_if(self.queued != 0, 4);
+        let summary = operation + standard + answer + queue;
+        summary + bit_if(summary as u16 & self.sre != 0, 64)
+    }
+
+    // Refusal 4 on the registers that a refused unit leaves alone.
+    fn possible_registers(self) -> bool
+        ensures { λ r. ⌜ r ≡ possibleRegisters (registersOf self) ⌝ }
+    {
+        let operation = self.operation;
+        let group = operation.possible();
+        (self.ese <= 255) & (self.sre <= 255) & (self.sre & 64 == 0) & group
+    }
+
+    // Refusal 4 on the status.
+    pub fn possible(self) -> bool
+        ensures { λ r. ⌜ r ≡ possibleStatus self ⌝ }
+    {
+        let count = self.queued;
+        let errors = self.errors;
+        if Status::MOST < count {
+            return false;
+        }
+        if !self.possible_registers() {
+            return false;
+        }
+        if 255 < self.events {
+            return false;
+        }
+        all_known(&errors[0..count])
+    }
+}
