@@ -1,0 +1,483 @@
+//! A history that looks for the edges: odd bytes, full lines, answers and queues, numbers and
+//! words that nearly are, and hand-made records.
+
+use std::io;
+
+use twin::paper::{nodes, Use, HEADERS};
+
+use crate::dice::Dice;
+use crate::lines::{spell, Lines, Manner};
+use crate::script::{Field, Script};
+
+pub fn write(script: &mut Script, count: usize) -> io::Result<()> {
+    let lines = Lines::new(Manner::Varied);
+    script.power_up()?;
+    while script.events < count {
+        match script.dice.below(20) {
+            0..=3 => send_line(script, |dice| lines.good(dice))?,
+            4 => send_line(script, |dice| lines.faulty(dice))?,
+            5 => send_line(script, odd_bytes)?,
+            6 | 7 => send_line(script, |dice| full_line(dice, &lines))?,
+            8 | 9 => send_line(script, full_answer)?,
+            10 => send_line(script, many_units)?,
+            11 | 12 => send_line(script, near_miss)?,
+            13 | 14 => send_line(script, odd_number)?,
+            15 => send_line(script, near_limit)?,
+            16 if script.dice.chance(50) => full_queue(script)?,
+            16 => query_that_does_not_fit(script)?,
+            17 => hand_made_from_power_up(script, &lines)?,
+            18 => hand_made_on_the_way(script, &lines)?,
+            _ => script.between()?,
+        }
+        let length = match script.dice.below(10) {
+            0 => script.dice.below(4097),
+            1 => script.dice.between(1018, 1026) as usize,
+            2 => script.dice.below(12),
+            _ => 1024,
+        };
+        if script.dice.chance(25) {
+            script.state()?;
+        }
+        script.collect(length)?;
+        script.empty_queue()?;
+        if script.dice.chance(2) {
+            script.power_up()?;
+        }
+    }
+    script.state()
+}
+
+fn send_line(script: &mut Script, line: impl Fn(&mut Dice) -> Vec<u8>) -> io::Result<()> {
+    let mut bytes = line(&mut script.dice);
+    if !script.dice.chance(3) {
+        bytes.push(b'\n');
+    }
+    script.send(&bytes)
+}
+
+fn odd_bytes(dice: &mut Dice) -> Vec<u8> {
+    let length = dice.pick(&[0, 1, 2, 3, 8, 20, 60, 600]);
+    let bytes = (0..length).map(|_| match dice.below(4) {
+        0 => dice.below(256) as u8,
+        1 => dice.pick(b"\n\0\r\t ;;::**??,,..+-__##\"'"),
+        2 => 33 + dice.below(94) as u8,
+        _ => dice.pick(b"VOLTFREQvoltE0159"),
+    });
+    bytes.collect()
+}
+
+/// A line whose length is near 512.
+fn full_line(dice: &mut Dice, lines: &Lines) -> Vec<u8> {
+    let length = match dice.below(4) {
+        0 => dice.pick(&[510, 511, 512, 513, 514, 515]),
+        1 => dice.pick(&[600, 1023, 1024, 1025, 2000]),
+        _ => dice.pick(&[511, 512, 513]),
+    };
+    let unit = match dice.below(4) {
+        0 => Vec::new(),
+        1 => lines.faulty(dice),
+        _ => lines.good(dice),
+    };
+    let padding = length - unit.len().min(length);
+    match dice.below(5) {
+        0 => [&vec![b' '; padding], &unit[..]].concat(),
+        1 => [&unit[..], &vec![0; padding]].concat(),
+        2 => zeros("FREQ ", length, "60"),
+        3 => zeros("VOLT?;VOLT 7.", length, "\r"),
+        _ => {
+            let blanks = vec![b' '; padding - padding.min(1)];
+            [&unit[..], b";", &blanks].concat()
+        }
+    }
+}
+
+fn zeros(start: &str, length: usize, end: &str) -> Vec<u8> {
+    let count = length - start.len() - end.len();
+    format!("{start}{}{end}", "0".repeat(count)).into_bytes()
+}
+
+/// A line whose answer is near 1,024 bytes: 46 times *IDN? and 3 times VOLT? make just that.
+fn full_answer(dice: &mut Dice) -> Vec<u8> {
+    let mut units = vec!["*IDN?"; dice.pick(&[30, 44, 45, 46, 46, 46, 47])];
+    for _ in 0..dice.below(6) {
+        units.push(dice.pick(&[
+            "VOLT?",
+            "VOLT?",
+            "VOLT?",
+            "*OPC?",
+            "*TST?",
+            "VOLT 3",
+            "FREQ?",
+            "*WAI",
+            "CURR:LIM:RMS?",
+            "*CLS",
+        ]));
+    }
+    units.push(dice.pick(&[
+        "VOLT?",
+        "FREQ?",
+        ":SYST:ERR?",
+        "*ESR?",
+        "*STB?",
+        ":STAT:OPER?",
+        "FOO",
+        "*OPC?",
+    ]));
+    if dice.chance(30) {
+        units.push(dice.pick(&[":VOLT 4", "*CLS", ":DISP:BRIG 3", ""]));
+    }
+    units.join(";").into_bytes()
+}
+
+fn many_units(dice: &mut Dice) -> Vec<u8> {
+    let count = dice.pick(&[5, 40, 85, 100, 128, 170, 511, 512, 513]);
+    let unit = dice.pick(&[
+        "", "*WAI", "*OPC", ":VOLT 1", "*RST", "VOLT?", "*SRE 255", "*ESR?",
+    ]);
+    let mut units = vec![unit; count];
+    if dice.chance(50) {
+        let place = dice.below(units.len());
+        units[place] = dice.pick(&["FOO", "*IDN?", ":FREQ 61", ":VOLT:RANG R24V", "LEV 2"]);
+    }
+    units.join(";").into_bytes()
+}
+
+/// A header or a parameter word with one word of it nearly right.
+fn near_miss(dice: &mut Dice) -> Vec<u8> {
+    let (_, printed, takes) = HEADERS[dice.below(HEADERS.len())];
+    let kept = nodes(printed).into_iter();
+    let mut words: Vec<String> = kept
+        .filter(|&(_, optional)| !optional || dice.chance(50))
+        .map(|(node, _)| node)
+        .collect::<Vec<&str>>()
+        .iter()
+        .map(|node| spell(dice, node))
+        .collect();
+    let mut parameter = match takes {
+        Use::Words(list) => {
+            let word = dice.pick(list);
+            spell(dice, word)
+        }
+        Use::Bool => dice.pick(&["ON", "OFF"]).to_string(),
+        _ => {
+            let word = dice.pick(&["MINimum", "MAXimum"]);
+            spell(dice, word)
+        }
+    };
+    if dice.chance(30) {
+        parameter = nearly(dice, &parameter);
+    } else {
+        let place = dice.below(words.len());
+        words[place] = nearly(dice, &words[place]);
+    }
+    if dice.chance(10) {
+        words.reverse();
+    }
+    let colon = dice.pick(&[":", ":", ":", ":", ":", ":", "::", " ", "", ";"]);
+    let lead = dice.pick(&[
+        "",
+        "",
+        ":",
+        "*",
+        "VOLT:LEV 1;",
+        "CURR:LIM:RMS 1;",
+        "STAT:OPER?;",
+    ]);
+    let form = dice.pick(&["? ", " ", "?", "", "?? ", " ?"]);
+    format!("{lead}{}{form}{parameter}", words.join(colon)).into_bytes()
+}
+
+fn nearly(dice: &mut Dice, word: &str) -> String {
+    let mut letters: Vec<char> = word.chars().collect();
+    match dice.below(8) {
+        0 => drop(letters.pop()),
+        1 => letters.push(dice.pick(&['A', 'e', 'T', '1', '2', '_', '0', 'S'])),
+        2 => letters.truncate(3),
+        3 => letters.truncate(5),
+        4 => letters.insert(0, dice.pick(&['_', '1', 'X', '*', ':'])),
+        5 => letters.extend("ABCDEFGHIJKLMNOPQRSTUVWXYZ".chars()),
+        6 if letters.len() > 1 => letters.swap(0, 1),
+        _ => {}
+    }
+    letters.into_iter().collect()
+}
+
+static NUMBER_HEADERS: [&str; 16] = [
+    "VOLT",
+    "FREQ",
+    "CURR:LIM:RMS",
+    "CURR:LIM:RMS:TIME",
+    "CURR:LIM:PEAK:TIME",
+    "CURR:LIM:PEAK:HIGH",
+    "CURR:LIM:PEAK:LOW",
+    "DISP:BRIG",
+    "OUTP",
+    "SYST:KLOC",
+    "*ESE",
+    "*SRE",
+    "STAT:OPER:ENAB",
+    "STAT:OPER:NTR",
+    "VOLT:RANG",
+    "VOLT?",
+];
+
+fn odd_number(dice: &mut Dice) -> Vec<u8> {
+    let header = dice.pick(&NUMBER_HEADERS);
+    let sign = dice.pick(&["", "", "", "+", "-", "-", "--", "+ ", "-+"]);
+    let whole_zeros = dice.pick(&[0, 0, 0, 0, 1, 3, 200, 480]);
+    let whole = digits(dice);
+    let point = dice.pick(&["", ".", ".", ".", "..", ","]);
+    let fraction_zeros = dice.pick(&[0, 0, 0, 0, 1, 9, 12, 13, 200, 470]);
+    let fraction = digits(dice);
+    let exponent = dice.pick(&[
+        "",
+        "",
+        "",
+        "E",
+        "E+",
+        "e-",
+        "E0",
+        "e1",
+        "E+2",
+        "E-3",
+        "E8",
+        "E9",
+        "E-9",
+        "E10",
+        "e-10",
+        "E009",
+        "E0000000009",
+        "E-0000000010",
+        "E99999999999999999999",
+        "E 1",
+        " E1",
+        "E1.5",
+    ]);
+    let tail = dice.pick(&[
+        "", "", "", "", "", "V", " V", "%", "_", "\t", ".", " 1", "\r", "E5",
+    ]);
+    let zeros_before = "0".repeat(whole_zeros);
+    let zeros_behind = "0".repeat(fraction_zeros);
+    format!("{header} {sign}{zeros_before}{whole}{point}{zeros_behind}{fraction}{exponent}{tail}")
+        .into_bytes()
+}
+
+fn digits(dice: &mut Dice) -> String {
+    let count = dice.pick(&[0, 0, 1, 1, 1, 2, 2, 3, 5, 6, 7, 11, 12, 13, 300]);
+    let digits = (0..count).map(|_| dice.pick(&['0', '1', '2', '4', '5', '9']));
+    digits.collect()
+}
+
+/// A number within a half step of a limit, some ten-thousandths off.
+fn near_limit(dice: &mut Dice) -> Vec<u8> {
+    let (header, lowest, highest, tenth) = dice.pick(&[
+        ("VOLT", 0, 120, true),
+        ("VOLT:RANG R24V;LEV", 0, 240, true),
+        ("FREQ", 400, 5500, true),
+        ("CURR:LIM:RMS", 1, 20, true),
+        ("CURR:LIM:RMS:TIME", 10, 100, false),
+        ("CURR:LIM:PEAK:TIME", 10, 100, false),
+        ("CURR:LIM:PEAK:HIGH", 5, 80, true),
+        ("CURR:LIM:PEAK:LOW", -80, -5, true),
+        ("DISP:BRIG", 0, 990, false),
+        ("*ESE", 0, 2550, false),
+        ("*SRE", 0, 2550, false),
+        ("STAT:OPER:PTR", 0, 327_670, false),
+    ]);
+    let off = dice.pick(&[-501, -500, -499, -1, 0, 1, 499, 500, 501]);
+    let off = if tenth { off } else { 10 * off };
+    let limit: i64 = dice.pick(&[lowest, highest]);
+    let value = limit * 1000 + off;
+    let sign = if value < 0 { "-" } else { "" };
+    let size = value.abs();
+    let number = match dice.below(6) {
+        0 => format!("{value}E-4"),
+        1 => format!("{value}E-0000000004"),
+        2 => format!("{sign}.{size:012}e8"),
+        3 => format!("{sign}.{size:012}e+0000000008"),
+        4 => format!("{sign}0.000{size:09}E+05"),
+        _ => format!("{sign}{}.{:04}", size / 10_000, size % 10_000),
+    };
+    format!("{header} {number}").into_bytes()
+}
+
+/// A query that would clear something if its answer fitted, which it mostly doesn't.
+fn query_that_does_not_fit(script: &mut Script) -> io::Result<()> {
+    let condition = script.dice.below(32_768) as u16;
+    script.condition(condition)?;
+    script.send(b"*OPC;*WAI\n")?;
+    let query = script
+        .dice
+        .pick(&[":SYST:ERR?", "*ESR?", ":STAT:OPER?", ":STAT:OPER:EVEN?"]);
+    let before = script.dice.pick(&[
+        "VOLT?;VOLT?;VOLT?",
+        "VOLT?;VOLT?;*TST?",
+        "VOLT?;*TST?",
+        "*TST?",
+    ]);
+    let line = format!("{}{before};{query}\n", "*IDN?;".repeat(46));
+    script.send(line.as_bytes())?;
+    script.state()
+}
+
+/// Errors up to the sixteenth or beyond, and some of them read.
+fn full_queue(script: &mut Script) -> io::Result<()> {
+    let mut bytes = Vec::new();
+    for _ in 0..script.dice.pick(&[14, 15, 16, 17, 18, 20]) {
+        let fault = script
+            .dice
+            .pick(&["FOO", "VOLT 99", "VOLT 5V", ";", "VOLT", "VOLT 1E10"]);
+        bytes.extend_from_slice(fault.as_bytes());
+        bytes.push(b'\n');
+    }
+    script.send(&bytes)?;
+    for _ in 0..script.dice.below(3) {
+        script.take(0)?;
+    }
+    for _ in 0..script.dice.pick(&[0, 1, 2, 17]) {
+        script.send(b"SYST:ERR?;*ESR?\n")?;
+        script.take(1024)?;
+    }
+    Ok(())
+}
+
+static ALLOWED_ERRORS: [i32; 18] = [
+    101, 102, 104, 108, 109, 113, 121, 123, 124, 138, 141, 221, 222, 350, 363, 410, 420, 430,
+];
+
+static REGISTERS: [&str; 8] = [
+    "esr",
+    "ese",
+    "sre",
+    "condition",
+    "event",
+    "enable",
+    "ptr",
+    "ntr",
+];
+
+/// The settings' limits, and the voltage's in both ranges.
+static SETTING_LIMITS: [(usize, i32, i32); 17] = [
+    (0, 0, 1),
+    (1, 0, 1),
+    (2, 0, 1),
+    (3, 0, 2),
+    (4, 0, 120),
+    (4, 0, 240),
+    (5, 0, 1),
+    (6, 400, 5500),
+    (7, 1, 20),
+    (8, 0, 1),
+    (9, 0, 1),
+    (10, 1, 10),
+    (11, 1, 10),
+    (12, 5, 80),
+    (13, -80, -5),
+    (14, 0, 99),
+    (15, 0, 1),
+];
+
+/// A number that may stand in the record at any time, or just not.
+fn number_for_any_time(dice: &mut Dice) -> (Field, i32) {
+    match dice.below(3) {
+        0 => {
+            let (place, lowest, highest) = dice.pick(&SETTING_LIMITS);
+            let around = [lowest, highest, lowest - 1, highest + 1, i32::MIN, i32::MAX];
+            (Field::Setting(place), dice.pick(&around))
+        }
+        1 => {
+            let (name, around) = match dice.below(8) {
+                place @ 0..=2 => (REGISTERS[place], [0, 63, 64, 127, 191, 192, 255, 256]),
+                place => (
+                    REGISTERS[place],
+                    [0, 1, 255, 256, 32_767, 32_768, 40_000, 65_535],
+                ),
+            };
+            (Field::Register(name), dice.pick(&around))
+        }
+        _ => {
+            let number = match dice.below(3) {
+                0 => dice.below(65_536) as i32,
+                1 => dice.pick(&[0, 100, 103, 114, 131, 150, 220, 223, 314, 351, 440]),
+                _ => dice.pick(&ALLOWED_ERRORS),
+            };
+            (Field::Error(dice.below(16)), number)
+        }
+    }
+}
+
+/// Lengths may grow only right after power-up, where every implementation has the same bytes.
+fn hand_made_from_power_up(script: &mut Script, lines: &Lines) -> io::Result<()> {
+    script.power_up()?;
+    for _ in 0..1 + script.dice.below(3) {
+        match script.dice.below(5) {
+            0 => {
+                let length = script
+                    .dice
+                    .pick(&[1, 3, 500, 510, 511, 512, 513, 600, 65_535]);
+                script.overwrite(Field::Line, length)?;
+            }
+            1 => {
+                let length = script.dice.pick(&[1, 3, 1000, 1023, 1024, 1025, 65_535]);
+                script.overwrite(Field::Answer, length)?;
+            }
+            2 => hand_made_queue(script)?,
+            _ => {
+                let (field, value) = number_for_any_time(&mut script.dice);
+                script.overwrite(field, value)?;
+            }
+        }
+    }
+    play_on(script, lines)?;
+    if script.dice.chance(60) || script.box_state.look().is_err() {
+        script.power_up()?;
+    }
+    Ok(())
+}
+
+fn hand_made_queue(script: &mut Script) -> io::Result<()> {
+    let length = script.dice.pick(&[1, 2, 15, 16, 16, 17, 18, 600, 65_535]);
+    for place in 0..length.min(16) {
+        let number = script.dice.pick(&ALLOWED_ERRORS);
+        script.overwrite(Field::Error(place as usize), number)?;
+    }
+    script.overwrite(Field::Queued, length)
+}
+
+/// Overwrites one number of a running box and puts it back, or powers up, if it couldn't be.
+fn hand_made_on_the_way(script: &mut Script, lines: &Lines) -> io::Result<()> {
+    let (field, value) = if script.dice.chance(30) {
+        let field = script
+            .dice
+            .pick(&[Field::Queued, Field::Line, Field::Answer]);
+        let length = field.value(&mut script.box_state);
+        (field, script.dice.between(0, length))
+    } else {
+        number_for_any_time(&mut script.dice)
+    };
+    let before = field.value(&mut script.box_state);
+    script.overwrite(field, value)?;
+    play_on(script, lines)?;
+    if script.box_state.look().is_ok() {
+        return Ok(());
+    }
+    if script.dice.chance(50) {
+        script.overwrite(field, before)?;
+    }
+    if script.box_state.look().is_err() {
+        script.power_up()?;
+    }
+    Ok(())
+}
+
+/// Some events on a record that may be no box's.
+fn play_on(script: &mut Script, lines: &Lines) -> io::Result<()> {
+    for _ in 0..2 + script.dice.below(4) {
+        if script.dice.chance(50) {
+            send_line(script, |dice| lines.good(dice))?;
+        } else {
+            script.between()?;
+        }
+    }
+    script.state()
+}

@@ -1,0 +1,288 @@
+//! Command lines in all spellings.
+
+use twin::paper::{nodes, Printed, Use, HEADERS};
+
+use crate::dice::Dice;
+
+#[derive(Clone, Copy, PartialEq, Eq)]
+pub enum Manner {
+    /// As a script for the marking server has them: blanks only, and no voltage above 12.0.
+    Plain,
+    /// With every kind of white space and the odder forms.
+    Varied,
+}
+
+/// The voltage's place among the settings.
+const VOLTAGE: usize = 4;
+
+pub struct Lines {
+    manner: Manner,
+}
+
+/// Units that are refused wherever they stand.
+static FAULTY_UNITS: [&str; 72] = [
+    "VOLTA 5",
+    ":VOLTA?",
+    ":OUTPU 1",
+    ":FREQ:IMM 60",
+    ":FREQUENC 60",
+    ":CURR:LIMI:RMS 1",
+    ":SYST:ERR:NEXT?",
+    ":SYST:VERS?",
+    ":SYST:ERR",
+    ":STAT:PRES",
+    ":STAT:OPER 1",
+    ":STAT:OPER:COND 1",
+    ":DISP:CONT 5",
+    ":VOLT1 5",
+    "RST",
+    "*RST?",
+    "*IDN",
+    "*VOLT 5",
+    "*CLS?",
+    ":VOLT::LEV 5",
+    ":VOLT: 5",
+    "::VOLT 5",
+    "?",
+    ":VOLT??",
+    ":VOLT?MAX",
+    ":VOLT,5",
+    ":VOLT+5",
+    "* IDN?",
+    "*RST:X",
+    ":*RST",
+    "5VOLT",
+    "_VOLT",
+    "FOO 1,,2",
+    ":VOLT ,5",
+    ":VOLT 5,",
+    "",
+    ":VOLT",
+    ":OUTP",
+    ":DISP:BRIG",
+    "*ESE",
+    ":VOLT 1,2",
+    ":VOLT? MIN,MAX",
+    ":OUTP? 1",
+    "*OPC? 1",
+    ":VOLT:RANG? R12V",
+    ":VOLT ?",
+    ":VOLT? 5",
+    ":VOLT:RANG 5",
+    ":VOLT #H10",
+    ":VOLT \"5\"",
+    ":VOLT? FOO",
+    "*ESE MAX",
+    ":OUTP MIN",
+    ":VOLT MIN MAX",
+    ":VOLT INF",
+    ":VOLT 5V",
+    ":VOLT 1E",
+    ":VOLT 1 2",
+    ":VOLT 1.2.3",
+    ":VOLT --5",
+    ":VOLT 1234567890123",
+    ":VOLT 1E10",
+    ":VOLT 30",
+    ":VOLT -0.05",
+    ":FREQ 39.9",
+    ":FREQ 1E3",
+    ":CURR:LIM:RMS 0.04",
+    ":CURR:LIM:PEAK:HIGH 8.05",
+    ":CURR:LIM:PEAK:LOW -0.44",
+    ":CURR:LIM:RMS:TIME 0",
+    ":DISP:BRIG 99.5",
+    "*SRE 256",
+];
+
+impl Lines {
+    pub fn new(manner: Manner) -> Lines {
+        Lines { manner }
+    }
+
+    /// A line whose units are all good in form; only -221, -222 by range and -430 may befall it.
+    pub fn good(&self, dice: &mut Dice) -> Vec<u8> {
+        let mut path = Vec::new();
+        let count = dice.pick(&[1, 1, 1, 1, 1, 1, 2, 2, 3, 5]);
+        let units: Vec<String> = (0..count).map(|_| self.unit(dice, &mut path)).collect();
+        let mut line = units.join(";");
+        if self.manner == Manner::Varied && dice.chance(10) {
+            line.push('\r');
+        }
+        line.into_bytes()
+    }
+
+    /// A line that is refused somewhere; in the varied manner almost always.
+    pub fn faulty(&self, dice: &mut Dice) -> Vec<u8> {
+        if self.manner == Manner::Varied && dice.chance(50) {
+            return self.spoiled(dice);
+        }
+        let fault = dice.pick(&FAULTY_UNITS);
+        match dice.below(4) {
+            // An empty unit needs another beside it, or the line is blank.
+            0 => [&self.good(dice)[..], b";", fault.as_bytes()].concat(),
+            1 => [fault.as_bytes(), b";", &self.good(dice)[..]].concat(),
+            _ if fault.is_empty() => b";".to_vec(),
+            _ => fault.as_bytes().to_vec(),
+        }
+    }
+
+    /// A good line with one byte added, lost or changed.
+    fn spoiled(&self, dice: &mut Dice) -> Vec<u8> {
+        let mut line = self.good(dice);
+        let place = dice.below(line.len());
+        let byte = match dice.below(4) {
+            0 => dice.pick(b";:,*?. _#\"E-+0\0\t"),
+            1 => 127 + dice.below(129) as u8,
+            _ => 33 + dice.below(94) as u8,
+        };
+        match dice.below(3) {
+            0 => line.insert(place, byte),
+            1 => line[place] = byte,
+            _ => drop(line.remove(place)),
+        }
+        line
+    }
+
+    fn unit(&self, dice: &mut Dice, path: &mut Vec<&'static str>) -> String {
+        let (written, printed) = self.choose(dice, path);
+        let header = write_header(dice, &written, path);
+        let query = asks(dice, printed.2);
+        let mark = if query { "?" } else { "" };
+        let unit = match self.parameter(dice, printed, query) {
+            None => format!("{header}{mark}"),
+            Some(parameter) => format!("{header}{mark}{}{parameter}", self.blank(dice)),
+        };
+        if self.manner == Manner::Varied && dice.chance(8) {
+            format!(" {unit}{}", self.blank(dice))
+        } else {
+            unit
+        }
+    }
+
+    /// A header with its optional nodes kept or left out, most often one that the path leads to.
+    fn choose(&self, dice: &mut Dice, path: &[&str]) -> (Vec<&'static str>, Printed) {
+        let mut tries = 8;
+        loop {
+            // The settings come twice as often as the rest.
+            let most = dice.pick(&[16, HEADERS.len()]);
+            let printed = HEADERS[dice.below(most)];
+            let nodes = nodes(printed.1).into_iter();
+            let kept = nodes.filter(|&(_, optional)| !optional || dice.chance(40));
+            let written: Vec<&str> = kept.map(|(node, _)| node).collect();
+            tries -= 1;
+            if tries == 0 || written.len() > path.len() && written.starts_with(path) {
+                return (written, printed);
+            }
+        }
+    }
+
+    fn parameter(&self, dice: &mut Dice, printed: Printed, query: bool) -> Option<String> {
+        let (place, _, takes) = printed;
+        match takes {
+            Use::Number(..) if dice.chance(if query { 20 } else { 10 }) => {
+                let limit = dice.pick(&["MINimum", "MAXimum"]);
+                Some(spell(dice, limit))
+            }
+            _ if query => None,
+            Use::QueryOnly | Use::CommandOnly | Use::Both => None,
+            Use::Bool => Some(
+                dice.pick(&["ON", "OFF", "0", "1", "on", "0.4", "-1"])
+                    .into(),
+            ),
+            Use::Words(words) => {
+                let word = dice.pick(words);
+                Some(spell(dice, word))
+            }
+            Use::Number(lowest, highest, tenth) => {
+                let in_r12v = self.manner == Manner::Plain || dice.chance(70);
+                let highest = if place == Some(VOLTAGE) && in_r12v {
+                    120
+                } else {
+                    highest
+                };
+                Some(number(dice, lowest, highest, tenth))
+            }
+            Use::Register(highest) => Some(number(dice, 0, i32::from(highest) * 10, false)),
+        }
+    }
+
+    fn blank(&self, dice: &mut Dice) -> &'static str {
+        if self.manner == Manner::Varied && dice.chance(15) {
+            dice.pick(&["  ", "\t", "\0", " \r ", "\x0B", "\x1F "])
+        } else {
+            " "
+        }
+    }
+}
+
+fn asks(dice: &mut Dice, takes: Use) -> bool {
+    match takes {
+        Use::QueryOnly => true,
+        Use::CommandOnly => false,
+        _ => dice.chance(45),
+    }
+}
+
+/// Writes the header after the path where that spells it, else from the root.
+fn write_header(dice: &mut Dice, written: &[&'static str], path: &mut Vec<&'static str>) -> String {
+    if written[0].starts_with('*') {
+        return spell(dice, written[0]);
+    }
+    let follows = written.len() > path.len() && written.starts_with(path);
+    let (lead, nodes) = if follows && !dice.chance(15) {
+        ("", &written[path.len()..])
+    } else {
+        (":", written)
+    };
+    let nodes: Vec<String> = nodes.iter().map(|node| spell(dice, node)).collect();
+    path.clear();
+    path.extend_from_slice(&written[..written.len() - 1]);
+    format!("{lead}{}", nodes.join(":"))
+}
+
+/// A printed word in short or long form and in some letter case.
+pub fn spell(dice: &mut Dice, printed: &str) -> String {
+    let short = printed.chars().filter(|letter| !letter.is_lowercase());
+    let form = if dice.chance(60) {
+        short.collect()
+    } else {
+        printed.to_string()
+    };
+    match dice.below(5) {
+        0 => form.to_lowercase(),
+        1 => mix_case(dice, &form),
+        2 => form,
+        _ => form.to_uppercase(),
+    }
+}
+
+fn mix_case(dice: &mut Dice, text: &str) -> String {
+    let letters = text.chars();
+    letters
+        .map(|letter| match dice.chance(50) {
+            true => letter.to_ascii_lowercase(),
+            false => letter.to_ascii_uppercase(),
+        })
+        .collect()
+}
+
+/// A number within limits given in tenths, in one of its forms.
+fn number(dice: &mut Dice, lowest: i32, highest: i32, tenth: bool) -> String {
+    let tenths = if tenth {
+        dice.between(lowest, highest)
+    } else {
+        10 * dice.between(lowest / 10, highest / 10)
+    };
+    let sign = if tenths < 0 { "-" } else { "" };
+    let (whole, rest) = (tenths.abs() / 10, tenths.abs() % 10);
+    match dice.below(12) {
+        0 => format!("{sign}{whole}.{rest}4"),
+        1 => format!("{sign}0{whole}.{rest}00"),
+        2 => format!("{tenths}E-1"),
+        3 => format!("{sign}{}.{}{rest}e1", whole / 10, whole % 10),
+        4 if tenths >= 0 => format!("+{whole}.{rest}"),
+        _ if rest == 0 => format!("{sign}{whole}"),
+        _ => format!("{sign}{whole}.{rest}"),
+    }
+}

@@ -1,0 +1,202 @@
+//! A player script as it is written. The box plays along, so that hand-made lengths never bring
+//! to light array places that mean nothing (01, refusals).
+
+use std::io::{self, Write};
+
+use twin::State;
+
+use crate::dice::Dice;
+
+pub struct Script<'output> {
+    pub dice: Dice,
+    pub box_state: State,
+    pub events: usize,
+    until_state: usize,
+    output: &'output mut dyn Write,
+}
+
+impl<'output> Script<'output> {
+    pub fn new(dice: Dice, output: &'output mut dyn Write) -> Script<'output> {
+        Script {
+            dice,
+            box_state: State::power_up(),
+            events: 0,
+            until_state: 20,
+            output,
+        }
+    }
+
+    fn count(&mut self) -> io::Result<()> {
+        self.events += 1;
+        self.until_state -= 1;
+        if self.until_state == 0 {
+            self.state()?;
+        }
+        Ok(())
+    }
+
+    pub fn state(&mut self) -> io::Result<()> {
+        self.events += 1;
+        self.until_state = 20 + self.dice.below(31);
+        writeln!(self.output, "s")
+    }
+
+    pub fn power_up(&mut self) -> io::Result<()> {
+        self.box_state = State::power_up();
+        writeln!(self.output, "u")?;
+        self.count()
+    }
+
+    pub fn piece(&mut self, bytes: &[u8]) -> io::Result<()> {
+        let _ = self.box_state.piece(bytes);
+        let hex: String = bytes.iter().map(|byte| format!("{byte:02X}")).collect();
+        writeln!(self.output, "{}", format!("p {hex}").trim_end())?;
+        self.count()
+    }
+
+    pub fn take(&mut self, length: usize) -> io::Result<()> {
+        let _ = self.box_state.take(&mut vec![0; length]);
+        writeln!(self.output, "t {length}")?;
+        self.count()
+    }
+
+    pub fn condition(&mut self, value: u16) -> io::Result<()> {
+        let _ = self.box_state.condition(value);
+        writeln!(self.output, "c {value}")?;
+        self.count()
+    }
+
+    pub fn look(&mut self) -> io::Result<()> {
+        writeln!(self.output, "l")?;
+        self.count()
+    }
+
+    /// Overwrites one number of the raw record.
+    pub fn overwrite(&mut self, field: Field, value: i32) -> io::Result<()> {
+        field.overwrite(&mut self.box_state, value);
+        writeln!(self.output, "x {} {value}", field.name())?;
+        self.count()
+    }
+
+    /// Sends bytes in one piece or in several, now and then with other events between them.
+    pub fn send(&mut self, bytes: &[u8]) -> io::Result<()> {
+        let mut rest = bytes;
+        while rest.len() > 1 && self.dice.chance(25) {
+            let (piece, further) = rest.split_at(self.dice.below(rest.len() + 1));
+            self.piece(piece)?;
+            rest = further;
+            if self.dice.chance(20) {
+                self.between()?;
+            }
+        }
+        self.piece(rest)
+    }
+
+    /// Takes what a line may have answered: mostly if something waits, seldom if not, so that
+    /// the queue doesn't fill up with -410 and -420 alone.
+    pub fn collect(&mut self, length: usize) -> io::Result<()> {
+        let waits = self.box_state.instrument.answer.length > 0;
+        if self.dice.chance(if waits { 90 } else { 4 }) {
+            self.take(length)?;
+        }
+        Ok(())
+    }
+
+    /// Reads or clears a queue that is filling up, now and then.
+    pub fn empty_queue(&mut self) -> io::Result<()> {
+        while self.box_state.instrument.status.queued > 6 && self.dice.chance(40) {
+            let line = self
+                .dice
+                .pick(&["SYST:ERR?\n", "*CLS\n", "SYST:ERR?;ERR?;ERR?\n"]);
+            self.send(line.as_bytes())?;
+            self.collect(1024)?;
+        }
+        Ok(())
+    }
+
+    /// An event that is no piece.
+    pub fn between(&mut self) -> io::Result<()> {
+        match self.dice.below(10) {
+            0..=2 => self.look(),
+            3..=5 => {
+                let value = self.random_condition();
+                self.condition(value)
+            }
+            6 => self.state(),
+            7 => {
+                let length = self.dice.below(30);
+                self.take(length)
+            }
+            _ => self.take(1024),
+        }
+    }
+
+    fn random_condition(&mut self) -> u16 {
+        match self.dice.below(8) {
+            0 => self.dice.below(65_536) as u16,
+            1 => self.dice.pick(&[0, 32_767, 32_768, 65_535]),
+            2 => 1 << self.dice.below(15),
+            _ => self.dice.below(8) as u16,
+        }
+    }
+}
+
+/// A number of the raw record.
+#[derive(Clone, Copy)]
+pub enum Field {
+    Setting(usize),
+    Register(&'static str),
+    Error(usize),
+    Queued,
+    Line,
+    Answer,
+}
+
+impl Field {
+    fn name(self) -> String {
+        match self {
+            Field::Setting(place) => format!("setting.{place}"),
+            Field::Register(name) => name.to_string(),
+            Field::Error(place) => format!("error.{place}"),
+            Field::Queued => "queued".to_string(),
+            Field::Line => "line".to_string(),
+            Field::Answer => "answer".to_string(),
+        }
+    }
+
+    fn register<'state>(name: &str, state: &'state mut State) -> &'state mut u16 {
+        let status = &mut state.instrument.status;
+        match name {
+            "esr" => &mut status.esr,
+            "ese" => &mut status.ese,
+            "sre" => &mut status.sre,
+            "condition" => &mut status.condition,
+            "event" => &mut status.event,
+            "enable" => &mut status.enable,
+            "ptr" => &mut status.ptr,
+            _ => &mut status.ntr,
+        }
+    }
+
+    fn overwrite(self, state: &mut State, value: i32) {
+        match self {
+            Field::Setting(place) => state.instrument.settings.values[place] = value,
+            Field::Register(name) => *Field::register(name, state) = value as u16,
+            Field::Error(place) => state.instrument.status.errors[place] = value as u16,
+            Field::Queued => state.instrument.status.queued = value as usize,
+            Field::Line => state.line.length = value as usize,
+            Field::Answer => state.instrument.answer.length = value as usize,
+        }
+    }
+
+    pub fn value(self, state: &mut State) -> i32 {
+        match self {
+            Field::Setting(place) => state.instrument.settings.values[place],
+            Field::Register(name) => i32::from(*Field::register(name, state)),
+            Field::Error(place) => i32::from(state.instrument.status.errors[place]),
+            Field::Queued => state.instrument.status.queued as i32,
+            Field::Line => state.line.length as i32,
+            Field::Answer => state.instrument.answer.length as i32,
+        }
+    }
+}

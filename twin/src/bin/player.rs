@@ -1,0 +1,210 @@
+//! Plays a history of events from a script on standard input, one event to a line, and writes one
+//! line for each. See the README for the script's form.
+
+use std::io::{self, BufRead, BufWriter, Write};
+
+use twin::{Refusal, State};
+
+const LONGEST_BUFFER: usize = 4096;
+const LONGEST_LENGTH: usize = 65_535;
+const UNTOUCHED: u8 = 0xAA;
+
+enum Event<'script> {
+    PowerUp,
+    Piece(Vec<u8>),
+    Take(usize),
+    Condition(u16),
+    Look,
+    State,
+    Overwrite(&'script str, &'script str),
+}
+
+/// The event that a script line names, if it can be read.
+fn read_event(line: &[u8]) -> Option<Event<'_>> {
+    let line = std::str::from_utf8(line).ok()?;
+    let fields: Vec<&str> = line.split(' ').collect();
+    match fields[..] {
+        ["u"] => Some(Event::PowerUp),
+        ["p"] => Some(Event::Piece(Vec::new())),
+        ["p", hex] => Some(Event::Piece(read_hex(hex)?)),
+        ["t", length] => {
+            let length: usize = read_decimal(length)?;
+            (length <= LONGEST_BUFFER).then_some(Event::Take(length))
+        }
+        ["c", value] => Some(Event::Condition(read_decimal(value)?)),
+        ["l"] => Some(Event::Look),
+        ["s"] => Some(Event::State),
+        ["x", field, value] => Some(Event::Overwrite(field, value)),
+        _ => None,
+    }
+}
+
+fn read_hex(text: &str) -> Option<Vec<u8>> {
+    let pairs = text.as_bytes().chunks(2);
+    pairs
+        .map(|pair| match *pair {
+            [high, low] => Some(hex_digit(high)? << 4 | hex_digit(low)?),
+            _ => None,
+        })
+        .collect()
+}
+
+fn hex_digit(byte: u8) -> Option<u8> {
+    Some((byte as char).to_digit(16)? as u8)
+}
+
+/// Digits only, where the standard library would also take a plus.
+fn read_decimal<Number: std::str::FromStr>(text: &str) -> Option<Number> {
+    let all_digits = text.bytes().all(|byte| byte.is_ascii_digit());
+    all_digits.then(|| text.parse().ok())?
+}
+
+fn read_signed(text: &str) -> Option<i32> {
+    let digits = text.strip_prefix('-').unwrap_or(text);
+    let all_digits = digits.bytes().all(|byte| byte.is_ascii_digit());
+    all_digits.then(|| text.parse().ok())?
+}
+
+fn read_length(text: &str) -> Option<usize> {
+    read_decimal(text).filter(|&length| length <= LONGEST_LENGTH)
+}
+
+/// Overwrites one number of the raw record; nothing, if field or value can't be read.
+fn overwrite(state: &mut State, field: &str, value: &str) -> Option<()> {
+    if let Some(place) = read_place(field, "setting.") {
+        state.instrument.settings.values[place] = read_signed(value)?;
+        return Some(());
+    }
+    let status = &mut state.instrument.status;
+    if let Some(place) = read_place(field, "error.") {
+        status.errors[place] = read_decimal(value)?;
+        return Some(());
+    }
+    match field {
+        "esr" => status.esr = read_decimal(value)?,
+        "ese" => status.ese = read_decimal(value)?,
+        "sre" => status.sre = read_decimal(value)?,
+        "condition" => status.condition = read_decimal(value)?,
+        "event" => status.event = read_decimal(value)?,
+        "enable" => status.enable = read_decimal(value)?,
+        "ptr" => status.ptr = read_decimal(value)?,
+        "ntr" => status.ntr = read_decimal(value)?,
+        "queued" => status.queued = read_length(value)?,
+        "line" => state.line.length = read_length(value)?,
+        "answer" => state.instrument.answer.length = read_length(value)?,
+        _ => return None,
+    }
+    Some(())
+}
+
+/// The place in `setting.0` to `setting.15` or `error.0` to `error.15`.
+fn read_place(field: &str, array: &str) -> Option<usize> {
+    let place = field.strip_prefix(array)?;
+    (0..16).find(|number| number.to_string() == place)
+}
+
+/// What an event is answered with; nothing, if it can't be read.
+fn play(state: &mut State, line: &[u8]) -> Option<String> {
+    Some(match read_event(line)? {
+        Event::PowerUp => {
+            *state = State::power_up();
+            "u".to_string()
+        }
+        Event::Piece(bytes) => {
+            let result = state.piece(&bytes);
+            format!("p {} {}", number(&result), result.unwrap_or(0))
+        }
+        Event::Take(length) => play_take(state, length),
+        Event::Condition(value) => format!("c {}", number(&state.condition(value))),
+        Event::Look => {
+            let result = state.look();
+            format!("l {} {}", number(&result), result.unwrap_or(0))
+        }
+        Event::State => write_state(state),
+        Event::Overwrite(field, value) => {
+            overwrite(state, field, value)?;
+            "x".to_string()
+        }
+    })
+}
+
+fn play_take(state: &mut State, length: usize) -> String {
+    let mut buffer = vec![UNTOUCHED; length];
+    let result = state.take(&mut buffer);
+    let length = match result {
+        Ok(length) | Err(Refusal::BufferTooShort { needed: length }) => length,
+        Err(_) => 0,
+    };
+    format!("t {} {} {}", number(&result), length, write_hex(&buffer))
+}
+
+fn number<Value>(result: &Result<Value, Refusal>) -> u8 {
+    match result {
+        Ok(_) => 0,
+        Err(refusal) => refusal.number(),
+    }
+}
+
+fn write_state(state: &State) -> String {
+    let status = &state.instrument.status;
+    let answer = &state.instrument.answer;
+    let line = &state.line;
+    format!(
+        "s {} {} {} {} {} {} {} {} {} {} {} {} {}",
+        write_list(&state.instrument.settings.values),
+        status.esr,
+        status.ese,
+        status.sre,
+        status.condition,
+        status.event,
+        status.enable,
+        status.ptr,
+        status.ntr,
+        write_list(up_to(&status.errors, status.queued)),
+        u8::from(line.overlong),
+        write_hex(up_to(&line.bytes, line.length)),
+        write_hex(up_to(&answer.bytes, answer.length)),
+    )
+}
+
+/// A hand-made length may be beyond the array.
+fn up_to<Item>(items: &[Item], length: usize) -> &[Item] {
+    &items[..length.min(items.len())]
+}
+
+fn write_list<Item: ToString>(items: &[Item]) -> String {
+    let items: Vec<String> = items.iter().map(Item::to_string).collect();
+    or_dash(items.join(","))
+}
+
+fn write_hex(bytes: &[u8]) -> String {
+    let digits = b"0123456789ABCDEF";
+    let pairs = bytes.iter().flat_map(|&byte| [byte >> 4, byte & 15]);
+    or_dash(pairs.map(|half| digits[half as usize] as char).collect())
+}
+
+fn or_dash(text: String) -> String {
+    if text.is_empty() {
+        "-".to_string()
+    } else {
+        text
+    }
+}
+
+fn main() -> io::Result<()> {
+    let mut input = io::stdin().lock();
+    let mut output = BufWriter::new(io::stdout().lock());
+    let mut state = State::power_up();
+    let mut line = Vec::new();
+    let mut line_number: u64 = 0;
+    while input.read_until(b'\n', &mut line)? > 0 {
+        line_number += 1;
+        let event = line.strip_suffix(b"\n").unwrap_or(&line);
+        match play(&mut state, event) {
+            Some(report) => writeln!(output, "{report}")?,
+            None => writeln!(output, "? {line_number}")?,
+        }
+        line.clear();
+    }
+    output.flush()
+}

@@ -1,0 +1,25 @@
+//! The command side of the bench box, as document 01 has it: bytes come in, settings and status
+//! change, answers go out. Written from the paper alone, as an oracle for another implementation.
+//!
+//! [`State`] is the raw record. Every field may be overwritten by hand; each event then tests
+//! first whether the record could be the box's (refusal 4 of 01).
+
+mod answer;
+mod error;
+mod header;
+mod line;
+mod number;
+pub mod paper;
+mod settings;
+mod state;
+mod status;
+mod text;
+mod unit;
+
+pub use answer::{Answer, ANSWER_LIMIT};
+pub use line::{Line, LINE_LIMIT};
+pub use settings::{Settings, SETTINGS};
+pub use state::{Refusal, State};
+pub use status::{Status, QUEUE_LIMIT};
+pub use text::find;
+pub use unit::Instrument;

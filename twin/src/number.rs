@@ -1,0 +1,235 @@
+//! Reading, rounding and writing numbers, in integers throughout.
+
+use crate::error::Error;
+use crate::text::skip_white_space;
+
+/// 01, check 6.
+const MOST_DIGITS: usize = 12;
+const LARGEST_EXPONENT: u32 = 9;
+
+/// What a row's numbers are rounded to, and counted in.
+#[derive(Clone, Copy, Debug, PartialEq, Eq)]
+pub enum Step {
+    One,
+    Tenth,
+}
+
+impl Step {
+    fn decimals(self) -> i64 {
+        match self {
+            Step::One => 0,
+            Step::Tenth => 1,
+        }
+    }
+}
+
+/// An exact decimal value: `digits` times ten to the `power`, below zero if `negative`.
+#[derive(Clone, Copy, Debug, PartialEq, Eq)]
+pub struct Decimal {
+    negative: bool,
+    digits: u64,
+    power: i64,
+}
+
+static POWERS_OF_TEN: [u64; MOST_DIGITS + 1] = powers_of_ten();
+
+const fn powers_of_ten() -> [u64; MOST_DIGITS + 1] {
+    let mut powers = [1; MOST_DIGITS + 1];
+    let mut place = 1;
+    while place < powers.len() {
+        powers[place] = 10 * powers[place - 1];
+        place += 1;
+    }
+    powers
+}
+
+impl Decimal {
+    pub fn is_zero(self) -> bool {
+        self.digits == 0
+    }
+
+    /// 01, check 7: rounded to the step, halves away from zero, and counted in steps.
+    pub fn in_steps(self, step: Step) -> i64 {
+        let power = self.power + step.decimals();
+        let size = if power >= 0 {
+            scale_up(self.digits, power.unsigned_abs())
+        } else {
+            scale_down(self.digits, power.unsigned_abs())
+        };
+        let size = i64::try_from(size).unwrap_or(i64::MAX);
+        if self.negative {
+            -size
+        } else {
+            size
+        }
+    }
+}
+
+/// A product too large for 64 bits stays far outside every limit of 01, so it may saturate.
+fn scale_up(digits: u64, power: u64) -> u64 {
+    let factor = POWERS_OF_TEN.get(power as usize);
+    digits.saturating_mul(*factor.unwrap_or(&u64::MAX))
+}
+
+fn scale_down(digits: u64, power: u64) -> u64 {
+    match POWERS_OF_TEN.get(power as usize) {
+        Some(divisor) => (digits + divisor / 2) / divisor,
+        // Twelve digits are less than a tenth of that divisor.
+        None => 0,
+    }
+}
+
+/// 01, check 6, over the whole text of a parameter.
+pub fn read(text: &[u8]) -> Result<Decimal, Error> {
+    let (negative, text) = read_sign(text);
+    let (mantissa, text) = read_mantissa(text).ok_or(Error::InvalidCharacterInNumber)?;
+    let (exponent, text) = read_exponent(text);
+    match skip_white_space(text).first() {
+        None => {}
+        Some(byte) if byte.is_ascii_alphabetic() => return Err(Error::SuffixNotAllowed),
+        Some(_) => return Err(Error::InvalidCharacterInNumber),
+    }
+    if mantissa.significant > MOST_DIGITS {
+        return Err(Error::TooManyDigits);
+    }
+    if exponent.size > LARGEST_EXPONENT {
+        return Err(Error::ExponentTooLarge);
+    }
+    Ok(Decimal {
+        negative,
+        digits: mantissa.digits,
+        power: exponent.value() - mantissa.decimals as i64,
+    })
+}
+
+fn read_sign(text: &[u8]) -> (bool, &[u8]) {
+    match text {
+        [b'-', rest @ ..] => (true, rest),
+        [b'+', rest @ ..] => (false, rest),
+        _ => (false, text),
+    }
+}
+
+struct Mantissa {
+    /// The value of the first twelve digits after the leading zeros.
+    digits: u64,
+    /// How many digits follow the leading zeros, across the point.
+    significant: usize,
+    /// How many digits follow the point.
+    decimals: usize,
+}
+
+/// The longest start of the text that is digits with an optional point, if it has a digit.
+fn read_mantissa(text: &[u8]) -> Option<(Mantissa, &[u8])> {
+    let mut digits = 0;
+    let mut significant = 0;
+    let mut point = None;
+    let mut length = 0;
+    for &byte in text {
+        match byte {
+            b'0'..=b'9' => {
+                let digit = byte - b'0';
+                if digit != 0 || significant != 0 {
+                    significant += 1;
+                    if significant <= MOST_DIGITS {
+                        digits = 10 * digits + digit as u64;
+                    }
+                }
+            }
+            b'.' if point.is_none() => point = Some(length),
+            _ => break,
+        }
+        length += 1;
+    }
+    let decimals = point.map_or(0, |point| length - point - 1);
+    let all_digits = length - point.map_or(0, |_| 1);
+    let mantissa = Mantissa {
+        digits,
+        significant,
+        decimals,
+    };
+    (all_digits > 0).then_some((mantissa, &text[length..]))
+}
+
+struct Exponent {
+    negative: bool,
+    /// Never counted further than is needed to tell that it is too large.
+    size: u32,
+}
+
+impl Exponent {
+    const NONE: Exponent = Exponent {
+        negative: false,
+        size: 0,
+    };
+
+    fn value(&self) -> i64 {
+        if self.negative {
+            -i64::from(self.size)
+        } else {
+            i64::from(self.size)
+        }
+    }
+}
+
+/// The exponent at the start of the text; without a digit in it there is none and nothing is read.
+fn read_exponent(text: &[u8]) -> (Exponent, &[u8]) {
+    let [b'E' | b'e', after_letter @ ..] = text else {
+        return (Exponent::NONE, text);
+    };
+    let (negative, digits) = read_sign(after_letter);
+    let mut size = 0;
+    let mut length = 0;
+    while let Some(byte @ b'0'..=b'9') = digits.get(length) {
+        size = (10 * size + u32::from(byte - b'0')).min(LARGEST_EXPONENT + 1);
+        length += 1;
+    }
+    if length == 0 {
+        return (Exponent::NONE, text);
+    }
+    (Exponent { negative, size }, &digits[length..])
+}
+
+/// A number written for an answer: plain, or with one decimal for step 0.1.
+pub struct Written {
+    bytes: [u8; Written::LONGEST],
+    start: usize,
+}
+
+impl Written {
+    /// `-214748364.8`.
+    const LONGEST: usize = 12;
+
+    pub fn new(steps: i32, step: Step) -> Written {
+        let mut written = Written {
+            bytes: [0; Written::LONGEST],
+            start: Written::LONGEST,
+        };
+        let mut rest = steps.unsigned_abs();
+        if step == Step::Tenth {
+            written.put(b'0' + (rest % 10) as u8);
+            written.put(b'.');
+            rest /= 10;
+        }
+        loop {
+            written.put(b'0' + (rest % 10) as u8);
+            rest /= 10;
+            if rest == 0 {
+                break;
+            }
+        }
+        if steps < 0 {
+            written.put(b'-');
+        }
+        written
+    }
+
+    fn put(&mut self, byte: u8) {
+        self.start -= 1;
+        self.bytes[self.start] = byte;
+    }
+
+    pub fn text(&self) -> &[u8] {
+        &self.bytes[self.start..]
+    }
+}

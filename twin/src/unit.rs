@@ -1,0 +1,337 @@
+//! One line run unit by unit, and the nine checks on one unit.
+
+use crate::answer::Answer;
+use crate::error::Error;
+use crate::header::{self, Place, Register, Row};
+use crate::number::{self, Decimal, Step, Written};
+use crate::settings::{Setting, Settings, Values, R12V};
+use crate::status::{Status, FIFTEEN_BITS};
+use crate::text::{
+    find, is_all_valid, is_white_space, read_name, skip_white_space, trim, Spelling, Word,
+};
+
+const IDENTIFICATION: &[u8] = b"COURSE,BENCH24,0,4.00";
+
+static MINIMUM: Word = Word::new("MINimum");
+static MAXIMUM: Word = Word::new("MAXimum");
+static ON: Word = Word::new("ON");
+static OFF: Word = Word::new("OFF");
+
+/// All of the box but the line that comes in.
+#[derive(Clone, Debug, PartialEq, Eq)]
+pub struct Instrument {
+    pub settings: Settings,
+    pub status: Status,
+    pub answer: Answer,
+}
+
+impl Instrument {
+    pub(crate) const fn power_up() -> Instrument {
+        Instrument {
+            settings: Settings::reset(),
+            status: Status::power_up(),
+            answer: Answer::empty(),
+        }
+    }
+
+    /// Runs the units of a line up to the first that is refused, and ends the answer.
+    pub(crate) fn run_line(&mut self, line: &[u8]) {
+        if line.iter().all(|&byte| is_white_space(byte)) {
+            return;
+        }
+        if let Err(error) = self.run_units(line) {
+            if error == Error::QueryDeadlocked {
+                self.answer.drop_bytes();
+            }
+            self.status.raise(error);
+        }
+        self.answer.end();
+    }
+
+    fn run_units(&mut self, line: &[u8]) -> Result<(), Error> {
+        let mut path = Place::Root;
+        let mut rest = line;
+        while let Some(end) = find(b';', rest) {
+            path = self.run_unit(&rest[..end], path)?;
+            rest = &rest[end + 1..];
+        }
+        self.run_unit(rest, path)?;
+        Ok(())
+    }
+
+    /// Runs one unit after the path and gives the path for the next.
+    fn run_unit(&mut self, unit: &[u8], path: Place) -> Result<Place, Error> {
+        if !is_all_valid(unit) {
+            return Err(Error::InvalidCharacter);
+        }
+        let (header, rest) = header::read(skip_white_space(unit), path)?;
+        let parameters = Parameters::read(skip_white_space(rest))?;
+        let row = header.row()?;
+        if header.query {
+            self.answer_query(row, &parameters)?;
+        } else {
+            self.obey(row, &parameters)?;
+        }
+        Ok(header.path)
+    }
+
+    fn obey(&mut self, row: Row, parameters: &Parameters) -> Result<(), Error> {
+        match row {
+            Row::Setting(setting) => self.obey_setting(setting, parameters.one()?)?,
+            Row::Register(register) => self.write_register(register, parameters.one()?)?,
+            _ => {
+                parameters.none()?;
+                self.obey_common(row);
+            }
+        }
+        Ok(())
+    }
+
+    fn obey_common(&mut self, row: Row) {
+        match row {
+            Row::OperationComplete => self.status.operation_complete(),
+            Row::Reset => self.settings = Settings::reset(),
+            Row::Clear => self.status.clear(),
+            _ => {}
+        }
+    }
+
+    fn obey_setting(&mut self, setting: Setting, parameter: &[u8]) -> Result<(), Error> {
+        let value = match setting.values() {
+            Values::Bool => read_bool(parameter)?,
+            Values::Words(words) => read_word(words, parameter)?,
+            Values::Number(step) => self.read_number(setting, *step, parameter)?,
+        };
+        if setting == Setting::VoltageRange
+            && value == R12V
+            && self.settings.voltage_is_above_r12v()
+        {
+            return Err(Error::SettingsConflict);
+        }
+        self.settings.set(setting, value);
+        Ok(())
+    }
+
+    fn read_number(&self, setting: Setting, step: Step, parameter: &[u8]) -> Result<i32, Error> {
+        match Parameter::read(parameter)? {
+            Parameter::Word(spelling) => self.limit(setting, spelling),
+            Parameter::Number(text) => round_within(
+                number::read(text)?,
+                step,
+                self.settings.lowest(setting),
+                self.settings.highest(setting),
+            ),
+        }
+    }
+
+    /// The limit that a word names.
+    fn limit(&self, setting: Setting, spelling: Spelling) -> Result<i32, Error> {
+        if MINIMUM.is_spelled(spelling) {
+            Ok(self.settings.lowest(setting))
+        } else if MAXIMUM.is_spelled(spelling) {
+            Ok(self.settings.highest(setting))
+        } else {
+            Err(Error::InvalidCharacterData)
+        }
+    }
+
+    fn write_register(&mut self, register: Register, parameter: &[u8]) -> Result<(), Error> {
+        let text = match Parameter::read(parameter)? {
+            Parameter::Word(_) => return Err(Error::InvalidCharacterData),
+            Parameter::Number(text) => text,
+        };
+        let highest = match register {
+            Register::EventStatusEnable | Register::ServiceRequestEnable => 255,
+            _ => i32::from(FIFTEEN_BITS),
+        };
+        let value = round_within(number::read(text)?, Step::One, 0, highest)? as u16;
+        match register {
+            Register::EventStatusEnable => self.status.ese = value,
+            Register::ServiceRequestEnable => self.status.enable_service_request(value),
+            Register::OperationEnable => self.status.enable = value,
+            Register::NegativeTransition => self.status.ntr = value,
+            Register::PositiveTransition => self.status.ptr = value,
+        }
+        Ok(())
+    }
+
+    fn answer_query(&mut self, row: Row, parameters: &Parameters) -> Result<(), Error> {
+        if let Row::Setting(setting) = row {
+            return self.answer_setting(setting, parameters);
+        }
+        parameters.none()?;
+        match row {
+            Row::Register(register) => self.answer_register(self.register(register)),
+            Row::Condition => self.answer_register(self.status.condition),
+            Row::StatusByte => {
+                let byte = self.status.status_byte(self.answer.has_bytes());
+                self.answer_register(byte)
+            }
+            Row::Identification => self.answer.add(IDENTIFICATION),
+            Row::SelfTest => self.answer.add(b"0"),
+            Row::OperationComplete => self.answer.add(b"1"),
+            _ => self.answer_and_clear(row),
+        }
+    }
+
+    /// The queries that change something, which they may only once their answer fits.
+    fn answer_and_clear(&mut self, row: Row) -> Result<(), Error> {
+        match row {
+            Row::Event => {
+                self.answer_register(self.status.event)?;
+                self.status.event = 0;
+            }
+            Row::EventStatus => {
+                self.answer_register(self.status.esr)?;
+                self.status.esr = 0;
+            }
+            Row::ErrorQueue => {
+                self.answer.add(self.status.oldest_error().as_bytes())?;
+                self.status.remove_oldest_error();
+            }
+            _ => {}
+        }
+        Ok(())
+    }
+
+    fn register(&self, register: Register) -> u16 {
+        match register {
+            Register::EventStatusEnable => self.status.ese,
+            Register::ServiceRequestEnable => self.status.sre,
+            Register::OperationEnable => self.status.enable,
+            Register::NegativeTransition => self.status.ntr,
+            Register::PositiveTransition => self.status.ptr,
+        }
+    }
+
+    fn answer_register(&mut self, value: u16) -> Result<(), Error> {
+        let written = Written::new(i32::from(value), Step::One);
+        self.answer.add(written.text())
+    }
+
+    fn answer_setting(&mut self, setting: Setting, parameters: &Parameters) -> Result<(), Error> {
+        let present = self.settings.get(setting);
+        match setting.values() {
+            Values::Number(step) => {
+                let value = match parameters.at_most_one()? {
+                    None => present,
+                    Some(parameter) => match Parameter::read(parameter)? {
+                        Parameter::Word(spelling) => self.limit(setting, spelling)?,
+                        Parameter::Number(_) => return Err(Error::DataTypeError),
+                    },
+                };
+                self.answer.add(Written::new(value, *step).text())
+            }
+            Values::Bool => {
+                parameters.none()?;
+                self.answer.add(if present == 0 { b"0" } else { b"1" })
+            }
+            Values::Words(words) => {
+                parameters.none()?;
+                let word = words.get(present as usize);
+                self.answer.add(word.map_or(b"", |word| word.short_form))
+            }
+        }
+    }
+}
+
+/// The parameters of a unit. No row of 01 takes more than one, so the first and the count do.
+struct Parameters<'unit> {
+    first: &'unit [u8],
+    count: usize,
+}
+
+impl<'unit> Parameters<'unit> {
+    /// 01, check 2: commas part the parameters, and none may be empty.
+    fn read(text: &'unit [u8]) -> Result<Parameters<'unit>, Error> {
+        let mut parameters = Parameters {
+            first: &[],
+            count: 0,
+        };
+        if text.is_empty() {
+            return Ok(parameters);
+        }
+        for part in text.split(|&byte| byte == b',') {
+            let parameter = trim(part);
+            if parameter.is_empty() {
+                return Err(Error::SyntaxError);
+            }
+            if parameters.count == 0 {
+                parameters.first = parameter;
+            }
+            parameters.count += 1;
+        }
+        Ok(parameters)
+    }
+
+    // 01, check 4, for the rows that take none, one, or one as an option.
+
+    fn none(&self) -> Result<(), Error> {
+        match self.count {
+            0 => Ok(()),
+            _ => Err(Error::ParameterNotAllowed),
+        }
+    }
+
+    fn one(&self) -> Result<&'unit [u8], Error> {
+        self.at_most_one()?.ok_or(Error::MissingParameter)
+    }
+
+    fn at_most_one(&self) -> Result<Option<&'unit [u8]>, Error> {
+        match self.count {
+            0 => Ok(None),
+            1 => Ok(Some(self.first)),
+            _ => Err(Error::ParameterNotAllowed),
+        }
+    }
+}
+
+/// A parameter by its first byte (01, check 5).
+enum Parameter<'unit> {
+    Word(Spelling),
+    Number(&'unit [u8]),
+}
+
+impl<'unit> Parameter<'unit> {
+    /// A word with other bytes than letters, digits and underscores is no row's word: -141.
+    fn read(text: &'unit [u8]) -> Result<Parameter<'unit>, Error> {
+        match text.first() {
+            Some(b'A'..=b'Z' | b'a'..=b'z') => match read_name(text) {
+                (spelling, length) if length == text.len() => Ok(Parameter::Word(spelling)),
+                _ => Err(Error::InvalidCharacterData),
+            },
+            Some(b'0'..=b'9' | b'+' | b'-' | b'.') => Ok(Parameter::Number(text)),
+            _ => Err(Error::DataTypeError),
+        }
+    }
+}
+
+fn read_bool(parameter: &[u8]) -> Result<i32, Error> {
+    match Parameter::read(parameter)? {
+        Parameter::Word(spelling) if ON.is_spelled(spelling) => Ok(1),
+        Parameter::Word(spelling) if OFF.is_spelled(spelling) => Ok(0),
+        Parameter::Word(_) => Err(Error::InvalidCharacterData),
+        Parameter::Number(text) => Ok(i32::from(!number::read(text)?.is_zero())),
+    }
+}
+
+fn read_word(words: &[Word], parameter: &[u8]) -> Result<i32, Error> {
+    match Parameter::read(parameter)? {
+        Parameter::Word(spelling) => words
+            .iter()
+            .position(|word| word.is_spelled(spelling))
+            .map(|place| place as i32)
+            .ok_or(Error::InvalidCharacterData),
+        Parameter::Number(_) => Err(Error::DataTypeError),
+    }
+}
+
+/// 01, check 7: rounded first, and only then compared.
+fn round_within(value: Decimal, step: Step, lowest: i32, highest: i32) -> Result<i32, Error> {
+    let steps = value.in_steps(step);
+    if i64::from(lowest) <= steps && steps <= i64::from(highest) {
+        Ok(steps as i32)
+    } else {
+        Err(Error::DataOutOfRange)
+    }
+}

@@ -1,0 +1,206 @@
+//! The three programs, run as programs.
+
+use std::io::Write;
+use std::process::{Child, Command, Stdio};
+
+use twin::State;
+
+const BENCH24: &str = env!("CARGO_BIN_EXE_bench24");
+const PLAYER: &str = env!("CARGO_BIN_EXE_player");
+const HISTORIES: &str = env!("CARGO_BIN_EXE_histories");
+
+fn start(program: &str, arguments: &[&str]) -> Child {
+    let mut command = Command::new(program);
+    command.args(arguments);
+    command.stdin(Stdio::piped()).stdout(Stdio::piped());
+    command.spawn().unwrap()
+}
+
+fn run(program: &str, arguments: &[&str], input: &[u8]) -> String {
+    let mut child = start(program, arguments);
+    let mut stdin = child.stdin.take().unwrap();
+    let input = input.to_vec();
+    let writer = std::thread::spawn(move || stdin.write_all(&input).unwrap());
+    let output = child.wait_with_output().unwrap();
+    writer.join().unwrap();
+    assert!(output.status.success());
+    String::from_utf8(output.stdout).unwrap()
+}
+
+#[test]
+fn bench24_on_the_lines_of_01() {
+    let answers = run(BENCH24, &[], b"VOLT 30\nSYST:ERR?\n*ESR?\n");
+    assert_eq!(answers, "-222,\"Data out of range\"\n144\n");
+}
+
+#[test]
+fn bench24_without_last_newline() {
+    assert_eq!(run(BENCH24, &[], b"VOLT 5\nVOLT?\nFREQ?"), "5.0\n");
+    assert_eq!(run(BENCH24, &[], b"VOLT?"), "");
+    assert_eq!(run(BENCH24, &[], b""), "");
+}
+
+#[test]
+fn bench24_answers_each_line_by_itself() {
+    let lines = run(HISTORIES, &["5", "20000", "lines"], b"");
+    assert!(lines.len() > 4 * 65_536);
+    assert_eq!(lines.lines().count(), 20_000);
+    let mut state = State::power_up();
+    let mut expected = Vec::new();
+    let mut buffer = [0; 1024];
+    for line in lines.split_inclusive('\n') {
+        state.piece(line.as_bytes()).unwrap();
+        if state.look().unwrap() & 16 != 0 {
+            let length = state.take(&mut buffer).unwrap();
+            expected.extend_from_slice(&buffer[..length]);
+        }
+    }
+    let answers = run(BENCH24, &[], lines.as_bytes());
+    assert_eq!(answers.into_bytes(), expected);
+}
+
+#[test]
+fn bench24_ends_at_a_failed_write() {
+    let mut child = start(BENCH24, &[]);
+    drop(child.stdout.take());
+    let mut stdin = child.stdin.take().unwrap();
+    while stdin.write_all(b"*IDN?\n").is_ok() {}
+    assert!(!child.wait().unwrap().success());
+}
+
+fn play(script: &str) -> Vec<String> {
+    let reports = run(PLAYER, &[], script.as_bytes());
+    reports.lines().map(str::to_string).collect()
+}
+
+#[test]
+fn player_events() {
+    let reset = "0,0,1,2,0,0,500,10,1,1,1,1,40,-40,50,0";
+    let script = "l\np 564F4C543F0A\nt 2\nl\nt 6\nt 0\nc 5\nc 32768\ns\nu\np 2a4944\ns\n";
+    let expected = [
+        "l 0 0".to_string(),
+        "p 0 1".to_string(),
+        "t 1 4 AAAA".to_string(),
+        "l 0 16".to_string(),
+        "t 0 4 302E300AAAAA".to_string(),
+        "t 2 0 -".to_string(),
+        "c 0".to_string(),
+        "c 3".to_string(),
+        format!("s {reset} 132 0 0 5 5 0 32767 0 420 0 - -"),
+        "u".to_string(),
+        "p 0 0".to_string(),
+        format!("s {reset} 128 0 0 0 0 0 32767 0 - 0 2A4944 -"),
+    ];
+    assert_eq!(play(script), expected);
+}
+
+#[test]
+fn player_hand_made_records() {
+    let script = "x setting.13 -81\nl\nt 3\np 0A0A\nc 40000\nx setting.13 -80\nl\n\
+                  x queued 17\nx error.0 101\ns\nx queued 2\nx error.1 350\nl\n\
+                  x line 600\ns\nx line 2\nx answer 3\ns";
+    let reports = play(script);
+    let settings = "0,0,1,2,0,0,500,10,1,1,1,1,40,-80,50,0";
+    let rest = "128 0 0 0 0 0 32767 0";
+    assert_eq!(reports[1], "l 4 0");
+    assert_eq!(reports[2], "t 4 0 AAAAAA");
+    assert_eq!(reports[3], "p 4 0");
+    assert_eq!(reports[4], "c 4");
+    assert_eq!(reports[6], "l 0 0");
+    let queue = "101,0,0,0,0,0,0,0,0,0,0,0,0,0,0,0";
+    assert_eq!(reports[9], format!("s {settings} {rest} {queue} 0 - -"));
+    assert_eq!(reports[12], "l 0 4");
+    let zeros = "00".repeat(512);
+    assert_eq!(
+        reports[14],
+        format!("s {settings} {rest} 101,350 0 {zeros} -")
+    );
+    assert_eq!(
+        reports[17],
+        format!("s {settings} {rest} 101,350 0 0000 000000")
+    );
+}
+
+#[test]
+fn player_on_what_it_cannot_read() {
+    let unreadable = [
+        "",
+        " ",
+        "q",
+        "U",
+        "u ",
+        "u 1",
+        "p 4",
+        "p 4G",
+        "p 41 42",
+        "p  ",
+        "t",
+        "t ",
+        "t 4097",
+        "t -1",
+        "t +1",
+        "t 1 2",
+        "c",
+        "c 65536",
+        "c x",
+        "l 1",
+        "s 1",
+        "x",
+        "x esr",
+        "x esr 1 2",
+        "x esr 65536",
+        "x esr -1",
+        "x foo 1",
+        "x setting.16 0",
+        "x setting.01 0",
+        "x setting. 0",
+        "x setting.0 2147483648",
+        "x setting.0 +1",
+        "x setting.0 -",
+        "x error.16 101",
+        "x error.0 65536",
+        "x queued 65536",
+        "x queued -1",
+        "x line ",
+        "x overlong 1",
+        "p 41\r",
+    ];
+    let reports = play(&unreadable.join("\n"));
+    let expected: Vec<String> = (1..=unreadable.len()).map(|n| format!("? {n}")).collect();
+    assert_eq!(reports, expected);
+    let readable = [
+        "p",
+        "p ",
+        "t 0",
+        "t 4096",
+        "x setting.0 -2147483648",
+        "x queued 65535",
+    ];
+    assert!(play(&readable.join("\n"))
+        .iter()
+        .all(|report| !report.starts_with('?')));
+}
+
+#[test]
+fn player_takes_long_lines() {
+    let script = format!("p {}\ns", "41".repeat(20_000));
+    let reports = play(&script);
+    assert_eq!(reports[0], "p 0 0");
+    assert!(reports[1].ends_with(&format!(" - 1 {} -", "41".repeat(512))));
+}
+
+#[test]
+fn histories_are_the_same_for_the_same_seed_and_can_be_read() {
+    for kind in ["mild", "hostile"] {
+        let script = run(HISTORIES, &["3", "3000", kind], b"");
+        assert_eq!(script, run(HISTORIES, &["3", "3000", kind], b""));
+        assert_ne!(script, run(HISTORIES, &["4", "3000", kind], b""));
+        let events = script.lines().count();
+        assert!((3000..3200).contains(&events), "{events}");
+        let reports = play(&script);
+        assert_eq!(reports.len(), events);
+        for (event, report) in script.lines().zip(reports) {
+            assert_eq!(event.as_bytes()[0], report.as_bytes()[0], "{event}");
+        }
+    }
+}

@@ -1,0 +1,474 @@
+//! What holds for all lines, tried on many: that bytes may be cut anywhere, that headers are those
+//! that 01's brackets allow, that rounding is exact, and what demands 2 and 3 promise.
+
+mod bench;
+
+use bench::*;
+use twin::paper::{nodes, Use, HEADERS};
+use twin::State;
+
+static UNITS: [&str; 64] = [
+    "VOLT 5",
+    "VOLT 12.04",
+    "VOLT 12.05",
+    "VOLT?",
+    "VOLT? MAX",
+    "VOLT:RANG R24V",
+    "VOLT:RANG R12V",
+    "LEV 20",
+    "LEV?",
+    "RANG R12V",
+    "IMM 3",
+    "FREQ 60",
+    ":FREQ 60",
+    "FREQ?",
+    "SOUR:FREQ 70",
+    "SOUR:VOLT 1",
+    "CURR:LIM:RMS 1.5",
+    "CURR:LIM:RMS:MODE CONT",
+    "MODE OFF",
+    "PEAK:HIGH 3",
+    "LOW -3",
+    "TIME 4",
+    ":CURR:LIM:PEAK:TIME 7",
+    "OUTP 1",
+    "OUTP:STAT 0.4",
+    "PON ON",
+    "REL 0",
+    "MON:MODE SCUR",
+    "OUTP?",
+    "DISP:BRIG 7",
+    "DISP:BRIG 100",
+    "SYST:KLOC ON",
+    "KLOC?",
+    "SYST:ERR?",
+    "ERR?",
+    "*IDN?",
+    "*IDN?;*IDN?;*IDN?;*IDN?;*IDN?;*IDN?;*IDN?;*IDN?;*IDN?;*IDN?",
+    "*RST",
+    "*CLS",
+    "*OPC",
+    "*OPC?",
+    "*WAI",
+    "*ESE 60",
+    "*SRE 255",
+    "*ESR?",
+    "*STB?",
+    "*ESE?",
+    "*TST?",
+    "STAT:OPER?",
+    "STAT:OPER:ENAB 5",
+    "ENAB?",
+    "PTR 3",
+    "NTR 3",
+    "COND?",
+    "EVEN?",
+    "",
+    " ",
+    "FOO",
+    "VOLT 5V",
+    "VOLT",
+    "VOLT 1,2",
+    "VOLT 1E10",
+    "VOLT \u{7F}",
+    "OUTP:PON 1",
+];
+
+fn random_line(dice: &mut Dice) -> Vec<&'static str> {
+    let count = 1 + dice.below(6);
+    (0..count).map(|_| *dice.pick(&UNITS)).collect()
+}
+
+#[test]
+fn pieces_may_be_cut_anywhere() {
+    let mut dice = Dice(1);
+    for _ in 0..300 {
+        let mut bytes = Vec::new();
+        for _ in 0..12 {
+            bytes.extend_from_slice(random_line(&mut dice).join(";").as_bytes());
+            let padding = if dice.below(10) == 0 {
+                500 + dice.below(30)
+            } else {
+                0
+            };
+            bytes.resize(bytes.len() + padding, b' ');
+            bytes.push(b'\n');
+        }
+        bytes.extend_from_slice(b"VOLT 3");
+        let mut whole = State::power_up();
+        assert_eq!(whole.piece(&bytes), Ok(12));
+        let mut single = State::power_up();
+        for byte in bytes.chunks(1) {
+            single.piece(byte).unwrap();
+        }
+        let mut cut = State::power_up();
+        let mut rest = &bytes[..];
+        while !rest.is_empty() {
+            let length = dice.below(40.min(rest.len()) + 1);
+            cut.piece(&rest[..length]).unwrap();
+            rest = &rest[length..];
+        }
+        assert!(same(&whole, &single));
+        assert!(same(&whole, &cut));
+    }
+}
+
+/// All node sequences that a printed header allows, in printed words.
+fn expansions(printed: &'static str) -> Vec<Vec<&'static str>> {
+    let mut sequences = vec![Vec::new()];
+    for (node, optional) in nodes(printed) {
+        let mut longer = Vec::new();
+        for sequence in &sequences {
+            if optional {
+                longer.push(sequence.clone());
+            }
+            let mut kept: Vec<&'static str> = sequence.clone();
+            kept.push(node);
+            longer.push(kept);
+        }
+        sequences = longer;
+    }
+    sequences
+}
+
+fn short(printed: &str) -> String {
+    printed
+        .chars()
+        .filter(|letter| !letter.is_lowercase())
+        .collect()
+}
+
+/// All spellings of a sequence in short and long forms.
+fn spellings(sequence: &[&str]) -> Vec<String> {
+    let mut headers = vec![String::new()];
+    for node in sequence {
+        let forms = [short(node), node.to_uppercase(), node.to_lowercase()];
+        let longer = headers.iter().flat_map(|header| {
+            forms.iter().map(move |form| match header.is_empty() {
+                true => form.clone(),
+                false => format!("{header}:{form}"),
+            })
+        });
+        headers = longer.collect();
+    }
+    headers
+}
+
+fn parameters(takes: Use) -> [&'static str; 2] {
+    match takes {
+        Use::Bool => ["0", "1"],
+        Use::Words(words) => [words[0], words[words.len() - 1]],
+        _ => ["MIN", "MAX"],
+    }
+}
+
+#[test]
+fn every_spelling_reaches_its_row() {
+    for (place, printed, takes) in HEADERS {
+        for header in expansions(printed)
+            .iter()
+            .flat_map(|nodes| spellings(nodes))
+        {
+            let Some(place) = place else {
+                let form = if takes == Use::CommandOnly { "" } else { "?" };
+                assert_eq!(after(format!("{header}{form}")).errors(), [], "{header}");
+                continue;
+            };
+            let mut bench = Bench::power_up();
+            let mut values = Vec::new();
+            for parameter in parameters(takes) {
+                bench.send(format!("{header} {parameter}"));
+                values.push(bench.setting(place));
+                assert!(bench.ask(format!(":{header}?")).is_some());
+                let mut expected = Bench::power_up().settings();
+                expected[place] = bench.setting(place);
+                assert_eq!(bench.settings(), expected, "{header}");
+            }
+            assert_eq!(bench.errors(), [], "{header}");
+            assert!(values[0] != values[1], "{header}");
+        }
+    }
+}
+
+/// Why one walk finds "kept or left out in any way": no node of a row is spelled like another.
+#[test]
+fn nodes_of_a_row_differ_pairwise() {
+    for (_, printed, _) in HEADERS {
+        let mut forms = Vec::new();
+        for (node, _) in nodes(printed) {
+            let mut both = vec![short(node), node.to_uppercase()];
+            both.dedup();
+            forms.extend(both);
+        }
+        let count = forms.len();
+        forms.sort();
+        forms.dedup();
+        assert_eq!(forms.len(), count, "{printed}");
+    }
+}
+
+#[test]
+fn no_other_header_reaches_a_row() {
+    let mut known = Vec::new();
+    let mut words = Vec::new();
+    for (_, printed, _) in HEADERS.iter().filter(|header| !header.1.starts_with('*')) {
+        for (node, _) in nodes(printed) {
+            words.extend([short(node), node.to_uppercase()]);
+        }
+        for nodes in expansions(printed) {
+            known.extend(spellings(&nodes));
+        }
+    }
+    for word in [
+        "VOLTA", "OUTPU", "FREQUENC", "LIMI", "ERRO", "V", "VOLT1", "STATUSX",
+    ] {
+        words.push(word.to_string());
+    }
+    let known: std::collections::HashSet<String> =
+        known.iter().map(|header| header.to_uppercase()).collect();
+    let mut dice = Dice(2);
+    let mut reached = 0;
+    for _ in 0..60_000 {
+        let count = 1 + dice.below(5);
+        // Half of them begin like a known header.
+        let mut header: Vec<String> = (0..count).map(|_| dice.pick(&words).clone()).collect();
+        if dice.below(2) == 0 {
+            let printed = dice.pick(&HEADERS).1;
+            let start: Vec<&str> = nodes(printed).iter().map(|node| node.0).collect();
+            let kept = dice.below(start.len() + 1);
+            header.splice(
+                ..kept.min(count),
+                start[..kept].iter().map(|node| short(node)),
+            );
+        }
+        let header = header.join(":");
+        if header.contains('*') {
+            continue;
+        }
+        let errors = after(format!("{header}?")).errors().to_vec();
+        let expected = known.contains(&header.to_uppercase());
+        assert_eq!(errors.is_empty(), expected, "{header}");
+        assert!(errors.is_empty() || errors == [113], "{header}");
+        reached += usize::from(expected);
+    }
+    assert!(reached > 1000);
+}
+
+/// A number's text in parts, and what 01 says of it on a row, worked out on lists of digits.
+struct NumberText {
+    sign: &'static str,
+    whole: String,
+    fraction: String,
+    exponent: i32,
+}
+
+impl NumberText {
+    fn random(dice: &mut Dice) -> NumberText {
+        let digits = |dice: &mut Dice, most: usize| -> String {
+            let count = dice.below(most + 1);
+            (0..count)
+                .map(|_| (b'0' + dice.pick(&[0, 1, 2, 4, 5, 9])) as char)
+                .collect()
+        };
+        let zeros = "0".repeat(*dice.pick(&[0, 0, 0, 1, 5, 200]));
+        let whole = zeros + &digits(dice, 6);
+        let zeros = "0".repeat(*dice.pick(&[0, 0, 0, 1, 5, 13, 200]));
+        let fraction = zeros + &digits(dice, 8);
+        NumberText {
+            sign: ["", "", "-", "+"][dice.below(4)],
+            whole: if whole.is_empty() && fraction.is_empty() {
+                "0".into()
+            } else {
+                whole
+            },
+            fraction,
+            exponent: dice.below(25) as i32 - 12,
+        }
+    }
+
+    fn text(&self) -> String {
+        let NumberText {
+            sign,
+            whole,
+            fraction,
+            exponent,
+        } = self;
+        format!("{sign}{whole}.{fraction}E{exponent}")
+    }
+
+    /// In steps, or the error of checks 6 and 7.
+    fn expected(&self, decimals: i32, lowest: i64, highest: i64) -> Result<i64, u16> {
+        let digits = format!("{}{}", self.whole, self.fraction);
+        if digits.trim_start_matches('0').len() > 12 {
+            return Err(124);
+        }
+        if self.exponent.abs() > 9 {
+            return Err(123);
+        }
+        let shift = self.exponent + decimals - self.fraction.len() as i32;
+        let mut digits = "0".repeat(400) + &digits;
+        let mut up = 0;
+        if shift >= 0 {
+            digits += &"0".repeat(shift as usize);
+        } else {
+            let dropped = digits.split_off(digits.len() - shift.unsigned_abs() as usize);
+            up = i128::from(dropped.as_bytes()[0] >= b'5');
+        }
+        let size = digits.trim_start_matches('0').parse::<i128>().unwrap_or(0) + up;
+        let value = if self.sign == "-" { -size } else { size };
+        if value < i128::from(lowest) || value > i128::from(highest) {
+            return Err(222);
+        }
+        Ok(value as i64)
+    }
+}
+
+#[test]
+fn numbers_are_exact() {
+    let rows = [
+        ("VOLT", VOLTAGE, 1, 0, 120),
+        ("FREQ", FREQUENCY, 1, 400, 5500),
+        ("CURR:LIM:PEAK:LOW", LOW, 1, -80, -5),
+        ("CURR:LIM:PEAK:HIGH", HIGH, 1, 5, 80),
+        ("DISP:BRIG", BRIGHTNESS, 0, 0, 99),
+    ];
+    let mut dice = Dice(3);
+    let mut accepted = 0;
+    for _ in 0..60_000 {
+        let number = NumberText::random(&mut dice);
+        let &(header, place, decimals, lowest, highest) = dice.pick(&rows);
+        let line = format!("{header} {}", number.text());
+        match number.expected(decimals, lowest, highest) {
+            Ok(value) => {
+                sets(&line, place, value as i32);
+                accepted += 1;
+            }
+            Err(error) => refused(&line, error),
+        }
+    }
+    assert!(accepted > 5000);
+}
+
+/// Demand 2: the answer to a settings query, sent back, is accepted and changes nothing.
+#[test]
+fn answers_can_be_sent_back() {
+    for (place, printed, takes) in HEADERS {
+        let Some(place) = place else { continue };
+        let header = short(&printed.replace(['[', ']'], ""));
+        let values = match takes {
+            Use::Bool => 0..=1,
+            Use::Words(words) => 0..=words.len() as i32 - 1,
+            Use::Number(lowest, highest, true) => lowest..=highest,
+            Use::Number(lowest, highest, false) => lowest / 10..=highest / 10,
+            _ => continue,
+        };
+        for value in values {
+            let mut bench = Bench::power_up();
+            let settings = &mut bench.state.instrument.settings.values;
+            settings[RANGE] = 1;
+            settings[place] = value;
+            let before = bench.settings();
+            let answer = bench.ask(format!("{header}?")).unwrap();
+            bench.send(format!("{header} {answer}"));
+            assert_eq!(bench.errors(), []);
+            assert_eq!(bench.settings(), before);
+        }
+    }
+}
+
+/// Demand 3: a line refused at unit n+1 leaves what its first n units leave, but for queue and
+/// event status register.
+#[test]
+fn refused_line_is_its_first_units() {
+    let mut dice = Dice(4);
+    let mut refused_lines = 0;
+    for _ in 0..2000 {
+        let mut bench = Bench::power_up();
+        for _ in 0..10 {
+            let line = random_line(&mut dice).join(";");
+            let mut sent = bench.state.clone();
+            let raised = play(&mut sent, &line);
+            if let [error] = raised[..] {
+                if error != 430 {
+                    refused_lines += 1;
+                    assert!(agrees_with_a_cut(&bench.state, &sent, &line), "{line}");
+                }
+            }
+            bench.state = sent;
+            if dice.below(3) > 0 {
+                bench.answer();
+            }
+        }
+    }
+    assert!(refused_lines > 5000);
+}
+
+/// Runs a line from an emptied queue and event status register, so that what it raises shows.
+fn play(state: &mut State, line: &str) -> Vec<u16> {
+    state.instrument.answer.length = 0;
+    state.instrument.status.queued = 0;
+    state.instrument.status.esr = 0;
+    state.piece(format!("{line}\n").as_bytes()).unwrap();
+    let status = &state.instrument.status;
+    status.errors[..status.queued].to_vec()
+}
+
+fn agrees_with_a_cut(before: &State, after: &State, line: &str) -> bool {
+    let units: Vec<&str> = line.split(';').collect();
+    (0..units.len()).rev().any(|count| {
+        let mut cut = before.clone();
+        let raised = play(&mut cut, &units[..count].join(";"));
+        let mut after = after.clone();
+        after.instrument.status.queued = cut.instrument.status.queued;
+        after.instrument.status.errors = cut.instrument.status.errors;
+        after.instrument.status.esr = cut.instrument.status.esr;
+        raised.is_empty() && same(&after, &cut)
+    })
+}
+
+/// Demand 1: any bytes, in any record that the raw fields allow.
+#[test]
+fn nothing_panics() {
+    let mut dice = Dice(5);
+    for _ in 0..20_000 {
+        let mut state = State::power_up();
+        for _ in 0..dice.below(4) {
+            overwrite_something(&mut state, &mut dice);
+        }
+        for _ in 0..4 {
+            let length = *dice.pick(&[0, 1, 5, 30, 520]);
+            let piece: Vec<u8> = (0..length).map(|_| random_byte(&mut dice)).collect();
+            let newlines = piece.iter().filter(|&&byte| byte == b'\n').count();
+            let result = state.piece(&piece);
+            assert!(result.is_err() || result == Ok(newlines));
+            let _ = state.take(&mut vec![0; dice.below(1100)]);
+            let _ = state.condition(dice.below(65_536) as u16);
+            let _ = state.look();
+        }
+    }
+}
+
+fn random_byte(dice: &mut Dice) -> u8 {
+    match dice.below(3) {
+        0 => dice.below(256) as u8,
+        1 => *dice.pick(b"\n\n;:*?, .+-E019#_"),
+        _ => *dice.pick(b"VOLTFREQCURSYAIDN"),
+    }
+}
+
+fn overwrite_something(state: &mut State, dice: &mut Dice) {
+    let odd = *dice.pick(&[
+        0, 1, 16, 17, 64, 255, 256, 512, 513, 1024, 1025, 32_768, 65_535,
+    ]);
+    let status = &mut state.instrument.status;
+    match dice.below(8) {
+        0 => state.instrument.settings.values[dice.below(16)] = odd as i32 - 100,
+        1 => status.queued = odd,
+        2 => status.errors[dice.below(16)] = odd as u16,
+        3 => status.esr = odd as u16,
+        4 => status.sre = odd as u16,
+        5 => status.ptr = odd as u16,
+        6 => state.line.length = odd,
+        _ => state.instrument.answer.length = odd,
+    }
+}

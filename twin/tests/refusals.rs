@@ -1,0 +1,200 @@
+//! 01's table of refusals: each given just when it says, and leaving just what it lists.
+
+mod bench;
+
+use bench::*;
+use twin::{Refusal, State};
+
+#[test]
+fn one_buffer_too_short() {
+    let mut state = after("VOLT?;FREQ?").state;
+    let before = state.clone();
+    for length in 0..9 {
+        let mut buffer = vec![0xAA; length];
+        let refusal = Refusal::BufferTooShort { needed: 9 };
+        assert_eq!(state.take(&mut buffer), Err(refusal));
+        assert_eq!(refusal.number(), 1);
+        assert_eq!(buffer, vec![0xAA; length]);
+        assert_eq!(state, before);
+    }
+    let mut buffer = [0xAA; 12];
+    assert_eq!(state.take(&mut buffer), Ok(9));
+    assert_eq!(&buffer, b"0.0;50.0\n\xAA\xAA\xAA");
+}
+
+#[test]
+fn two_no_answer_waits() {
+    let mut state = after("VOLT 5").state;
+    let mut expected = state.clone();
+    let mut buffer = [0xAA; 8];
+    assert_eq!(state.take(&mut buffer), Err(Refusal::NoAnswerWaits));
+    assert_eq!(Refusal::NoAnswerWaits.number(), 2);
+    assert_eq!(buffer, [0xAA; 8]);
+    expected.instrument.status.esr |= 4;
+    expected.instrument.status.queued = 1;
+    expected.instrument.status.errors[0] = 420;
+    assert!(same(&state, &expected));
+}
+
+#[test]
+fn three_condition_too_large() {
+    let mut state = after("STAT:OPER:NTR 32767").state;
+    assert_eq!(state.condition(32_767), Ok(()));
+    let before = state.clone();
+    for value in [32_768, 40_000, u16::MAX] {
+        assert_eq!(state.condition(value), Err(Refusal::ConditionTooLarge));
+        assert_eq!(state, before);
+    }
+    assert_eq!(Refusal::ConditionTooLarge.number(), 3);
+}
+
+/// Every event but power-up is refused and leaves state and buffer as they are.
+#[track_caller]
+fn refused_by_four(state: &State) {
+    assert_eq!(Refusal::NotTheBoxs.number(), 4);
+    let mut played = state.clone();
+    let mut buffer = [0xAA; 2000];
+    assert_eq!(played.piece(b""), Err(Refusal::NotTheBoxs));
+    assert_eq!(played.piece(b"VOLT?\n\n"), Err(Refusal::NotTheBoxs));
+    assert_eq!(played.take(&mut buffer), Err(Refusal::NotTheBoxs));
+    assert_eq!(played.take(&mut []), Err(Refusal::NotTheBoxs));
+    assert_eq!(played.condition(1), Err(Refusal::NotTheBoxs));
+    assert_eq!(played.condition(u16::MAX), Err(Refusal::NotTheBoxs));
+    assert_eq!(played.look(), Err(Refusal::NotTheBoxs));
+    assert_eq!(buffer, [0xAA; 2000]);
+    assert_eq!(&played, state);
+}
+
+/// No event is refused by number 4, and none panics.
+#[track_caller]
+fn not_refused_by_four(state: &State) {
+    let mut played = state.clone();
+    assert!(played.look().is_ok());
+    assert_eq!(played.piece(b"VOLT?;*STB?;SYST:ERR?\n"), Ok(1));
+    assert!(played.look().is_ok());
+    let mut played = state.clone();
+    assert_ne!(played.take(&mut [0; 2000]), Err(Refusal::NotTheBoxs));
+    assert_eq!(played.condition(1), Ok(()));
+}
+
+fn overwritten(change: impl Fn(&mut State)) -> State {
+    let mut state = State::power_up();
+    change(&mut state);
+    state
+}
+
+#[test]
+fn four_settings() {
+    let limits = [
+        (0, 1),
+        (0, 1),
+        (0, 1),
+        (0, 2),
+        (0, 120),
+        (0, 1),
+        (400, 5500),
+        (1, 20),
+        (0, 1),
+        (0, 1),
+        (1, 10),
+        (1, 10),
+        (5, 80),
+        (-80, -5),
+        (0, 99),
+        (0, 1),
+    ];
+    for (place, (lowest, highest)) in limits.into_iter().enumerate() {
+        let with = |value| overwritten(|state| state.instrument.settings.values[place] = value);
+        not_refused_by_four(&with(lowest));
+        not_refused_by_four(&with(highest));
+        for value in [lowest - 1, highest + 1, i32::MIN, i32::MAX] {
+            refused_by_four(&with(value));
+        }
+    }
+}
+
+#[test]
+fn four_voltage_and_range() {
+    let with = |voltage, range| {
+        overwritten(|state| {
+            state.instrument.settings.values[VOLTAGE] = voltage;
+            state.instrument.settings.values[RANGE] = range;
+        })
+    };
+    not_refused_by_four(&with(120, 0));
+    refused_by_four(&with(121, 0));
+    not_refused_by_four(&with(121, 1));
+    not_refused_by_four(&with(240, 1));
+    refused_by_four(&with(241, 1));
+    refused_by_four(&with(-1, 1));
+}
+
+#[test]
+fn four_registers() {
+    type Register = fn(&mut State) -> &mut u16;
+    let registers: [(Register, u16); 8] = [
+        (|state| &mut state.instrument.status.esr, 255),
+        (|state| &mut state.instrument.status.ese, 255),
+        (|state| &mut state.instrument.status.sre, 191),
+        (|state| &mut state.instrument.status.condition, 32_767),
+        (|state| &mut state.instrument.status.event, 32_767),
+        (|state| &mut state.instrument.status.enable, 32_767),
+        (|state| &mut state.instrument.status.ptr, 32_767),
+        (|state| &mut state.instrument.status.ntr, 32_767),
+    ];
+    for (register, highest) in registers {
+        let with = |value| overwritten(|state| *register(state) = value);
+        not_refused_by_four(&with(0));
+        not_refused_by_four(&with(highest));
+        refused_by_four(&with(u16::MAX));
+        refused_by_four(&with(if highest == 191 { 256 } else { highest + 1 }));
+    }
+    for value in 0..=255 {
+        let state = overwritten(|state| state.instrument.status.sre = value);
+        match value & 64 {
+            0 => not_refused_by_four(&state),
+            _ => refused_by_four(&state),
+        }
+    }
+}
+
+#[test]
+fn four_lengths() {
+    let queue = |length| {
+        overwritten(|state| {
+            state.instrument.status.errors = [350; 16];
+            state.instrument.status.queued = length;
+        })
+    };
+    not_refused_by_four(&queue(16));
+    let line = |length| overwritten(|state| state.line.length = length);
+    not_refused_by_four(&line(512));
+    let answer = |length| overwritten(|state| state.instrument.answer.length = length);
+    not_refused_by_four(&answer(1024));
+    for length in [17, 18, 65_535, usize::MAX] {
+        refused_by_four(&queue(length));
+    }
+    for length in [513, 600, 65_535, usize::MAX] {
+        refused_by_four(&line(length));
+    }
+    for length in [1025, 65_535, usize::MAX] {
+        refused_by_four(&answer(length));
+    }
+}
+
+#[test]
+fn four_not_otherwise() {
+    // Odd, but nothing that the table lists.
+    not_refused_by_four(&overwritten(|state| state.line.overlong = true));
+    not_refused_by_four(&overwritten(|state| {
+        state.instrument.status.errors = [7; 16]
+    }));
+    not_refused_by_four(&overwritten(|state| {
+        state.line.length = 512;
+        state.line.bytes = [10; 512];
+    }));
+    not_refused_by_four(&overwritten(|state| {
+        state.instrument.answer.length = 1024;
+        state.instrument.answer.bytes = [255; 1024];
+    }));
+}
