@@ -1,0 +1,301 @@
+-- Refusal 4 never comes by what the box does: every event leaves a state that could be the box's.
+use mathlib.Core.Path.{_≡_, refl, _∙_}
+use mathlib.Core.Bool.{Bool, true, false, false≢true}
+use mathlib.Core.List.{List, [], _∷_}
+use Prim.Native.Nat.{ℕ, _≤_, zero-le}
+use native.Mathlib.Omega.{arith}
+use lib.Dec.{leb, ltb, eqb}
+use lib.ListN.{length, length-append, length-set}
+use borrow.Author.Tests.{leb-true, le-leb, ltb-true}
+use Rattle.registers.specs.Text.{Text, empty}
+use Rattle.registers.specs.Check.{Checked, refused, passed}
+use Rattle.registers.specs.Errors.{known, queueable}
+use Rattle.registers.specs.Group.{widestGroup, possibleGroup}
+use Rattle.registers.specs.Settings.{count, table, atReset, possibleSettings}
+use Rattle.registers.specs.Status.{Trouble, Registers, possibleRegisters, possibleTrouble, atStart}
+use Rattle.registers.specs.declared.settings.Settings.{Settings}
+use Rattle.registers.proofs.Tests.{and-both, and-true}
+use Rattle.registers.proofs.settings.Possible as limits
+use Rattle.registers.proofs.settings.Possible.{value-good, reset-possible}
+use Rattle.registers.proofs.status.Possible as status
+use Rattle.registers.proofs.status.Possible.{raised-good, completed-good, events-good, oldest-good, none-good, stored-fit, condition-fit, read-fit}
+use Rattle.interpreter.specs.Box.{Core, Box, box, withSettings, withRegisters, withLine, withAnswer, answerIs, raise, powerUp, mostLine, mostAnswer}
+use Rattle.interpreter.specs.Unit.{Read, readUnit}
+use Rattle.interpreter.specs.UnitParts.{Allowed, AllowedChange}
+use Rattle.interpreter.specs.Deeds.{changed, operationCleared, afterQuery, afterInquiry, joined, fitsAnswer, reply, perform}
+use Rattle.interpreter.specs.Line.{Obeyed, attempt, refuse, next, runUnits, unitsOf, interrupted, finished, runLine, endLine, held, byte, piece}
+use Rattle.interpreter.specs.Events.{Event, started, received, take, condition, look, Happened, taken, reported, happens, possibleCore, possible, after}
+use Rattle.interpreter.specs.declared.deed.Deed.{Deed}
+use Rattle.interpreter.specs.declared.deed.Deed.the-variants.{Change, Complete, Clear, Query, Inquire}
+use Rattle.interpreter.specs.declared.deed.Change as changes
+use Rattle.interpreter.specs.declared.deed.Change.the-variants.{Nothing, Put, Reset, Store}
+use Rattle.interpreter.specs.declared.deed.Query as queries
+use Rattle.interpreter.specs.declared.deed.Query.the-variants.{Identity, SelfTest, Completed, Limit, Value, Stored, Condition, OperationEvents}
+use Rattle.interpreter.specs.declared.deed.Inquiry as inquiries
+use Rattle.interpreter.specs.declared.deed.Inquiry.the-variants.{StandardEvents, StatusByte, NextError}
+use Rattle.interpreter.proofs.Choices.{if-elim}
+use Rattle.interpreter.proofs.unit.Checks.{Holds, passes, hold-bind, hold-check, holds-from}
+use Rattle.interpreter.proofs.unit.Allowed.{read-allowed, read-known}
+
+-- ---- the bounds of a state as facts; its answer has at most k bytes, and there are sixteen settings
+
+pub record FitCore (k : ℕ) (c : Core) : Type 0 where
+  pub settings : limits.Good (c .settings)
+  pub long : length (c .settings .values) ≡ count
+  pub registers : status.Fit (c .registers)
+  pub line : length (c .line) ≤ mostLine
+  pub answer : length (c .answer) ≤ k
+
+pub record Fit (k : ℕ) (b : Box) : Type 0 where
+  pub core : FitCore k (b .core)
+  pub trouble : status.Good (b .trouble)
+
+-- while a line runs its answer leaves room for the newline
+abbrev pub running : ℕ
+running = 1023
+
+fit : (k : ℕ) (c : Core) (t : Trouble) → FitCore k c → status.Good t → Fit k (box c t)
+fit k c t f g = record { core = f; trouble = g }
+
+-- ---- a part of the core changed
+
+module _ (k : ℕ) (c : Core) (f : FitCore k c) where
+  fit-settings : (s : Settings) → limits.Good s → length (s .values) ≡ count → FitCore k (withSettings s c)
+  fit-settings s g l = record { settings = g; long = l; registers = f .registers; line = f .line; answer = f .answer }
+
+  fit-registers : (r : Registers) → status.Fit r → FitCore k (withRegisters r c)
+  fit-registers r g = record { settings = f .settings; long = f .long; registers = g; line = f .line; answer = f .answer }
+
+  fit-line : (l : Text) (o : Bool) → length l ≤ mostLine → FitCore k (withLine l o c)
+  fit-line l o g = record { settings = f .settings; long = f .long; registers = f .registers; line = g; answer = f .answer }
+
+  -- the answer may be given another bound
+  fit-answer : (m : ℕ) (a : Text) → length a ≤ m → FitCore m (withAnswer a c)
+  fit-answer m a g = record { settings = f .settings; long = f .long; registers = f .registers; line = f .line; answer = g }
+
+-- ---- deeds
+
+reset-long : length (atReset .values) ≡ count
+unfolding atReset table
+reset-long = refl
+
+pub change-fit : (k : ℕ) (x : changes.Change) (c : Core) → AllowedChange (c .settings) x → FitCore k c → FitCore k (changed x c)
+unfolding changed
+change-fit k Nothing c a f = f
+change-fit k (Put i v) c a f =
+    fit-settings k c f _ (value-good (c .settings) i v (f .long) (f .settings) (a .1) (a .2) (a .0))
+    (length-set (c .settings .values) i v ∙ f .long)
+change-fit k Reset c a f = fit-settings k c f atReset (limits.good-from atReset reset-possible) reset-long
+change-fit k (Store x n) c a f = fit-registers k c f _ (stored-fit x n (c .registers) a (f .registers))
+
+cleared-fit : (k : ℕ) (c : Core) → FitCore k c → FitCore k (operationCleared c)
+cleared-fit k c f = fit-registers k c f _ (read-fit (c .registers) (f .registers))
+
+query-fit : (k : ℕ) (q : queries.Query) (c : Core) → FitCore k c → FitCore k (afterQuery q c)
+query-fit k Identity c f = f
+query-fit k SelfTest c f = f
+query-fit k Completed c f = f
+query-fit k (Limit i v) c f = f
+query-fit k (Value i) c f = f
+query-fit k (Stored x) c f = f
+query-fit k Condition c f = f
+query-fit k OperationEvents c f = cleared-fit k c f
+
+inquiry-good : (q : inquiries.Inquiry) (t : Trouble) → status.Good t → status.Good (afterInquiry q t)
+inquiry-good StandardEvents t g = events-good t g
+inquiry-good StatusByte t g = g
+inquiry-good NextError t g = oldest-good t g
+
+-- check 9 keeps the room
+pub reply-fit : (t : Text) (c : Core) → FitCore running c → Holds (FitCore running) (reply t c)
+unfolding reply fitsAnswer known queueable
+reply-fit t c f =
+    hold-check (FitCore running) 430 _ _ refl (λ e.
+    let l = ltb-true (length (joined (c .answer) t)) mostAnswer e in
+    passes (fit-answer running c f running (joined (c .answer) t) (omega arith)))
+
+pub perform-fit : (d : Deed) (b : Box) → Allowed (b .core .settings) d → Fit running b → Holds (Fit running) (perform d b)
+unfolding perform
+perform-fit (Change x) b a f = passes (fit running _ _ (change-fit running x (b .core) a (f .core)) (f .trouble))
+perform-fit Complete b a f = passes (fit running _ _ (f .core) (completed-good (b .trouble) (f .trouble)))
+perform-fit Clear b a f = passes (fit running _ _ (cleared-fit running (b .core) (f .core)) none-good)
+perform-fit (Query q) b a f =
+    hold-bind (FitCore running) (Fit running) _ _ (reply-fit _ _ (query-fit running q (b .core) (f .core)))
+    (λ c g. passes (fit running c _ g (f .trouble)))
+perform-fit (Inquire q) b a f =
+    hold-bind (FitCore running) (Fit running) _ _ (reply-fit _ _ (f .core))
+    (λ c g. passes (fit running c _ g (inquiry-good q (b .trouble) (f .trouble))))
+
+-- ---- units
+
+abbrev pub FitObeyed : Obeyed → Type 0
+FitObeyed o = Fit running (o .box)
+
+pub attempt-fit : (path : List Text) (b : Box) (u : Text) → Fit running b → Holds FitObeyed (attempt path b u)
+unfolding attempt
+attempt-fit path b u f =
+    let s = b .core .settings in
+    hold-bind (λ (r : Read). Allowed s (r .deed)) FitObeyed _ _
+    (holds-from (readUnit s path u) (λ r e. read-allowed s path u e) (λ n e. read-known s path u e)) (λ r a.
+    hold-bind (Fit running) FitObeyed _ _ (perform-fit (r .deed) b a f) (λ c g. passes g))
+
+pub raise-fit : (n k : ℕ) (b : Box) → known n ≡ true → Fit k b → Fit k (raise n b)
+raise-fit n k b e f = fit k _ _ (f .core) (raised-good (b .trouble) (f .trouble) n e)
+
+-- the answer dropped
+dropped-fit : (k m : ℕ) (b : Box) → Fit k b → Fit m (answerIs [] b)
+dropped-fit k m b f = fit m _ _ (fit-answer k (b .core) (f .core) m [] zero-le) (f .trouble)
+
+pub refuse-fit : (n : ℕ) (b : Box) → known n ≡ true → Fit running b → Fit running (refuse n b)
+unfolding refuse
+refuse-fit n b e f = raise-fit n running _ e (if-elim (Fit running) (eqb n 430) (λ _. dropped-fit running running b f) (λ _. f))
+
+next-fit : (go : List Text → Box → Box) → ((p : List Text) (c : Box) → Fit running c → Fit running (go p c))
+    → (b : Box) → Fit running b → (r : Checked Obeyed) → Holds FitObeyed r → Fit running (next go b r)
+next-fit go ih b f (refused n) h = refuse-fit n b (h .of) f
+next-fit go ih b f (passed o) h = ih (o .path) (o .box) (h .of)
+
+pub units-fit : (us path : List Text) (b : Box) → Fit running b → Fit running (runUnits us path b)
+unfolding runUnits
+units-fit [] path b f = f
+units-fit (u ∷ us) path b f =
+    next-fit (λ p c. runUnits us p c) (λ p c g. units-fit us p c g) b f (attempt path b u) (attempt-fit path b u f)
+
+-- ---- lines
+
+no-bytes : (t : Text) → empty t ≡ true → length t ≤ 0
+no-bytes [] e = zero-le
+no-bytes (x ∷ t) e = absurd (false≢true e)
+
+bounded : (k m : ℕ) (b : Box) → length (b .core .answer) ≤ m → Fit k b → Fit m b
+bounded k m b l f = fit m _ _ (fit-answer k (b .core) (f .core) m (b .core .answer) l) (f .trouble)
+
+pub interrupted-fit : (b : Box) → Fit mostAnswer b → Fit running (interrupted b)
+unfolding interrupted known queueable
+interrupted-fit b f =
+    if-elim (Fit running) (empty (b .core .answer))
+    (λ e. let z = no-bytes (b .core .answer) e in bounded mostAnswer running b (omega arith) f)
+    (λ _. raise-fit 410 running _ refl (dropped-fit mostAnswer running b f))
+
+pub finished-fit : (b : Box) → Fit running b → Fit mostAnswer (finished b)
+unfolding finished
+finished-fit b f =
+    let l = f .core .answer in
+    if-elim (Fit mostAnswer) (empty (b .core .answer)) (λ _. bounded running mostAnswer b (omega arith) f)
+    (λ _. fit mostAnswer _ _ (fit-answer running (b .core) (f .core) mostAnswer _ (simp length-append (omega arith))) (f .trouble))
+
+pub line-fit : (line : Text) (overlong : Bool) (b : Box) → Fit running b → Fit mostAnswer (runLine line overlong b)
+unfolding runLine known queueable
+line-fit line overlong b f =
+    let l = f .core .answer in
+    if-elim (Fit mostAnswer) overlong (λ _. raise-fit 363 mostAnswer b refl (bounded running mostAnswer b (omega arith) f))
+    (λ _. finished-fit _ (units-fit (unitsOf line) [] b f))
+
+-- ---- bytes
+
+pub held-fit : (x : ℕ) (c : Core) → FitCore mostAnswer c → FitCore mostAnswer (held x c)
+unfolding held
+held-fit x c f =
+    if-elim (FitCore mostAnswer) (ltb (length (c .line)) mostLine)
+    (λ e. let l = ltb-true (length (c .line)) mostLine e in fit-line mostAnswer c f _ _ (simp length-append (omega arith)))
+    (λ _. fit-line mostAnswer c f _ _ (f .line))
+
+pub byte-fit : (b : Box) (x : ℕ) → Fit mostAnswer b → Fit mostAnswer (byte b x)
+unfolding byte endLine
+byte-fit b x f =
+    if-elim (Fit mostAnswer) (eqb x 10)
+    (λ _. line-fit (b .core .line) (b .core .overlong) _
+    (interrupted-fit _ (fit mostAnswer _ _ (fit-line mostAnswer (b .core) (f .core) [] false zero-le) (f .trouble))))
+    (λ _. fit mostAnswer _ _ (held-fit x (b .core) (f .core)) (f .trouble))
+
+pub piece-fit : (b : Box) (xs : Text) → Fit mostAnswer b → Fit mostAnswer (piece b xs)
+unfolding piece
+piece-fit b [] f = f
+piece-fit b (x ∷ xs) f = piece-fit (byte b x) xs (byte-fit b x f)
+
+-- ---- events
+
+start-fits : (possibleRegisters (powerUp .core .registers) ≡ true) × (possibleTrouble (powerUp .trouble) ≡ true)
+unfolding powerUp atStart possibleRegisters possibleTrouble possibleGroup
+start-fits = (refl, refl)
+
+pub power-up-fit : Fit mostAnswer powerUp
+unfolding powerUp
+power-up-fit =
+    record {
+      core = record {
+        settings = limits.good-from atReset reset-possible;
+        long = reset-long;
+        registers = status.fit-from _ (start-fits .0);
+        line = zero-le;
+        answer = zero-le;
+      };
+      trouble = status.good-from _ (start-fits .1);
+    }
+
+abbrev FitHappened : Happened → Type 0
+FitHappened h = Fit mostAnswer (h .box)
+
+pub event-fit : (b : Box) (e : Event) → Fit mostAnswer b → Fit mostAnswer (happens b e .box)
+unfolding happens taken reported known queueable
+event-fit b started f = power-up-fit
+event-fit b (received xs) f = piece-fit b xs f
+event-fit b (take buffer) f =
+    if-elim FitHappened (empty (b .core .answer)) (λ _. raise-fit 420 mostAnswer b refl f)
+    (λ _. if-elim FitHappened (leb (length (b .core .answer)) (length buffer)) (λ _. dropped-fit mostAnswer mostAnswer b f) (λ _. f))
+event-fit b (condition n) f =
+    if-elim FitHappened (leb n widestGroup)
+    (λ e. fit mostAnswer _ _
+    (fit-registers mostAnswer (b .core) (f .core) _ (condition-fit n (b .core .registers) (leb-true n widestGroup e) (f .core .registers)))
+    (f .trouble))
+    (λ _. f)
+event-fit b look f = f
+
+pub history-fit : (b : Box) (es : List Event) → Fit mostAnswer b → Fit mostAnswer (after b es)
+unfolding after
+history-fit b [] f = f
+history-fit b (e ∷ es) f = history-fit (happens b e .box) es (event-fit b e f)
+
+-- ---- the same as the test of number 4
+
+pub fit-from : (b : Box) → length (b .core .settings .values) ≡ count → possible b ≡ true → Fit mostAnswer b
+unfolding possible possibleCore
+fit-from b long e =
+    let c = b .core in
+    let p = and-both _ (possibleTrouble (b .trouble)) e in
+    let q = and-both (possibleSettings (c .settings)) _ (p .0) in
+    let r = and-both (possibleRegisters (c .registers)) _ (q .1) in
+    let s = and-both (leb (length (c .line)) mostLine) (leb (length (c .answer)) mostAnswer) (r .1) in
+    record {
+      core = record {
+        settings = limits.good-from (c .settings) (q .0);
+        long = long;
+        registers = status.fit-from (c .registers) (r .0);
+        line = leb-true (length (c .line)) mostLine (s .0);
+        answer = leb-true (length (c .answer)) mostAnswer (s .1);
+      };
+      trouble = status.good-from (b .trouble) (p .1);
+    }
+
+pub fit-to : (b : Box) → Fit mostAnswer b → possible b ≡ true
+unfolding possible possibleCore
+fit-to b f =
+    let c = f .core in
+    let sizes = and-true (le-leb _ _ (c .line)) (le-leb _ _ (c .answer)) in
+    and-true (and-true (limits.good-to _ (c .settings)) (and-true (status.fit-to _ (c .registers)) sizes)) (status.good-to _ (f .trouble))
+
+-- what an event leaves could again be the box's, and still has sixteen settings
+pub still-possible : (b : Box) (e : Event) → length (b .core .settings .values) ≡ count → possible b ≡ true
+    → possible (happens b e .box) ≡ true
+still-possible b e long p = fit-to _ (event-fit b e (fit-from b long p))
+
+pub still-sixteen : (b : Box) (e : Event) → length (b .core .settings .values) ≡ count → possible b ≡ true
+    → length (happens b e .box .core .settings .values) ≡ count
+still-sixteen b e long p = event-fit b e (fit-from b long p) .core .long
+
+pub power-up-possible : possible powerUp ≡ true
+power-up-possible = fit-to powerUp power-up-fit
+
+-- so refusal 4 never comes in a history from power-up
+pub history-possible : (es : List Event) → possible (after powerUp es) ≡ true
+history-possible es = fit-to _ (history-fit powerUp es power-up-fit)

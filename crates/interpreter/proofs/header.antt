@@ -1,0 +1,9 @@
+pub mod Greedy
+pub mod Grammar
+pub mod Words
+pub mod Rows
+pub mod Walks
+pub mod Search
+pub mod Paths
+pub mod Laws
+pub mod Whole

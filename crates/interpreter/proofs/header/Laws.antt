@@ -1,0 +1,98 @@
+-- For the callers of the header reader: check 3 by the number of the row that was found, and the empty path.
+use mathlib.Core.Path.{_≡_, refl, sym, subst}
+use mathlib.Core.Bool.{Bool, true, false, _&&_}
+use mathlib.Core.List.{List, [], _∷_, map}
+use Prim.Native.Nat.{ℕ, suc, _≤_, _<_}
+use native.Mathlib.Omega.{arith}
+use lib.ListN.{length, getD}
+use Rattle.registers.specs.Text.{Text, if_then_else_}
+use Rattle.registers.specs.Check.{Checked, refused, passed}
+use Rattle.registers.proofs.Tests.{and-both}
+use Rattle.interpreter.specs.Header.{spells}
+use Rattle.interpreter.specs.Rows.{Row, rows, fitsRow, findRow, hasForm, sameBool}
+use Rattle.interpreter.specs.RowsParts.{roleAt, firstFit, rowOf}
+use Rattle.interpreter.specs.HeaderParts.{named, closed}
+use Rattle.interpreter.specs.declared.deed.Role.{Role}
+use Rattle.interpreter.specs.declared.deed.Role.the-variants.{Setting as setting}
+use Rattle.interpreter.proofs.header.Rows.{rows-many}
+
+-- the empty path
+pub closed-nil : closed [] ≡ true
+unfolding closed
+closed-nil = refl
+
+pub named-nil : named [] ≡ []
+unfolding named
+named-nil = refl
+
+module _ (star : Bool) (names : List Text) (asked : Bool) where
+  abbrev fits : Row → Bool
+  fits = fitsRow star names asked
+
+  most-in : (l : List Row) → firstFit fits l ≤ length l
+  unfolding firstFit if_then_else_
+  most-in [] = omega arith
+  most-in (r ∷ l) = go (fits r) (most-in l)
+    where
+      go : (b : Bool) → firstFit fits l ≤ length l → (if b then 0 else suc (firstFit fits l)) ≤ suc (length l)
+      go true h = omega arith
+      go false h = omega arith
+
+  none-in : (l : List Row) → length l ≤ firstFit fits l → findRow star names asked l ≡ refused 113
+  unfolding findRow firstFit if_then_else_
+  none-in [] h = refl
+  none-in (r ∷ l) h = go (fits r) (none-in l) h
+    where
+      go : (b : Bool) → (length l ≤ firstFit fits l → findRow star names asked l ≡ refused 113)
+          → suc (length l) ≤ (if b then 0 else suc (firstFit fits l))
+          → (if b then passed (r .role) else findRow star names asked l) ≡ refused 113
+      go true ih k = absurd (omega arith)
+      go false ih k = ih (omega arith)
+
+  fits-form : (r : Row) → fits r ≡ true → hasForm asked (r .role) ≡ true
+  unfolding fitsRow
+  fits-form r e =
+      let p = and-both (sameBool star (r .star)) (hasForm asked (r .role) && spells (r .nodes) names) e in
+      and-both (hasForm asked (r .role)) (spells (r .nodes) names) (p .1) .0
+
+  -- a search's result is the role of row i, which has the form asked for
+  abbrev Is : Checked Role → List Row → ℕ → Role → Type 0
+  Is f l i d = (f ≡ passed (getD (map (λ (r : Row). r .role) l) i d)) × (hasForm asked (getD (map (λ (r : Row). r .role) l) i d) ≡ true)
+
+  found-in : (l : List Row) (d : Role) → firstFit fits l < length l → Is (findRow star names asked l) l (firstFit fits l) d
+  unfolding findRow firstFit if_then_else_
+  found-in [] d h = absurd (omega arith)
+  found-in (r ∷ l) d h = go (fits r) refl (found-in l d) h
+    where
+      go : (b : Bool) → fits r ≡ b → (firstFit fits l < length l → Is (findRow star names asked l) l (firstFit fits l) d)
+          → (if b then 0 else suc (firstFit fits l)) < suc (length l)
+          → Is (if b then passed (r .role) else findRow star names asked l) (r ∷ l) (if b then 0 else suc (firstFit fits l)) d
+      go true e ih k = (refl, fits-form r e)
+      go false e ih k = ih (omega arith)
+
+  -- ---- over the whole table
+
+  pub found-most : rowOf star names asked ≤ 33
+  unfolding rowOf
+  found-most = let n = rows-many in let m = most-in rows in omega arith
+
+  module _ (row : ℕ) (is : row ≡ rowOf star names asked) where
+    -- "-113 is raised exactly when no row .. spells the header"
+    pub found-none : 33 ≤ row → findRow star names asked rows ≡ refused 113
+    unfolding rowOf
+    found-none h = let n = rows-many in none-in rows (omega arith)
+
+    found : row < 33 → Is (findRow star names asked rows) rows row (setting row)
+    unfolding rowOf
+    found h =
+        let n = rows-many in
+        let f = found-in rows (setting row) (omega arith) in
+        subst (λ (i : ℕ). Is (findRow star names asked rows) rows i (setting row)) (sym is) f
+
+    pub found-role : row < 33 → findRow star names asked rows ≡ passed (roleAt row)
+    unfolding roleAt
+    found-role h = found h .0
+
+    pub found-form : row < 33 → hasForm asked (roleAt row) ≡ true
+    unfolding roleAt
+    found-form h = found h .1

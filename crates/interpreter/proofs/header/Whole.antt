@@ -1,0 +1,124 @@
+-- A whole header: what is read of its body, and what each of the three kinds finds and leaves.
+use mathlib.Core.Path.{_≡_, refl, sym, _∙_, ap}
+use mathlib.Core.Bool.{Bool, true, false, not}
+use mathlib.Core.List.{List, []}
+use Prim.Native.Nat.{ℕ, _-_, _≤_}
+use native.Mathlib.Omega.{arith}
+use lib.Dec.{ltb, eqb}
+use lib.ListN.{length, take, drop, length-take, length-drop}
+use borrow.Author.Tests.{eqb-true, eqb-false, lt-ltb, le-ltb}
+use Rattle.registers.specs.Text.{Text, if_then_else_}
+use Rattle.registers.specs.Check.{refused, passed}
+use Rattle.interpreter.specs.Cuts.{cutAt}
+use Rattle.interpreter.specs.Header.{Header, header, asks}
+use Rattle.interpreter.specs.RowsParts.{rowOf}
+use Rattle.interpreter.specs.HeaderParts.{named, closed, bodyOf, well, headerOf, headed, placeOf, namesAt, HeadingRead, EnteredAt, LookedUp}
+use Rattle.interpreter.specs.declared.header.Heading.{Heading}
+use Rattle.interpreter.specs.declared.header.Entered.{Entered}
+use Rattle.interpreter.specs.declared.header.Looked.the-variants.{At}
+use Rattle.interpreter.proofs.Lists.{rest-is}
+use Rattle.interpreter.proofs.header.Grammar.{BodyEnd, header-body, one-name, name-uncut, joined-names}
+use Rattle.interpreter.proofs.header.Paths.{own-names}
+use Rattle.interpreter.proofs.header.Laws.{named-nil}
+
+-- a header's body, whether it asks, and what was read of the body
+pub record Read (t b : Text) (asked : Bool) (h : Heading) : Type 0 where
+  pub body : b ≡ bodyOf t
+  pub fits : length b ≤ length t
+  pub query : asked ≡ asks t
+  pub heading : HeadingRead b h
+
+pub read-body : (t : Text) (e : ℕ) (h : Heading) → BodyEnd t e → HeadingRead (take (e - 0) t) h
+    → Read t (take (e - 0) t) (ltb e (length t)) h
+read-body t e h p f =
+    let z : e - 0 ≡ e = omega arith in
+    let l = length-take (e - 0) t in
+    record { body = rw z (p .0); fits = omega arith; query = go (eqb e (length t)) refl ∙ sym (p .2); heading = f }
+  where
+    go : (x : Bool) → eqb e (length t) ≡ x → ltb e (length t) ≡ not x
+    go true q = let w = eqb-true e (length t) q in le-ltb e (length t) (omega arith)
+    go false q = let w = eqb-false e (length t) q in let m = p .1 in lt-ltb e (length t) (omega arith)
+
+module _ {t b : Text} {asked : Bool} {h : Heading} (r : Read t b asked h) where
+  whole : header t ≡ headed h b asked
+  whole = header-body t ∙ ap (λ (u : Text). headerOf u (asks t)) (sym (r .body)) ∙ ap (headerOf b) (sym (r .query)) ∙ r .heading .is asked
+
+  pub look-bad : h .good ≡ false → header t ≡ refused 102
+  unfolding headed if_then_else_
+  look-bad e = whole ∙ rw e
+
+  pub star-some : h .star ≡ true → 1 ≤ length b
+  star-some e = rw e at (r .heading .within)
+
+  pub root-some : h .star ≡ false → h .root ≡ true → 1 ≤ length b
+  root-some e f = rw (e, f) at (r .heading .within)
+
+  -- the names of a header that leads with a byte
+  abbrev names : Text
+  names = take (length b - 1) (drop 1 b)
+
+  pub names-fit : length names ≤ length t
+  names-fit = let a = length-take (length b - 1) (drop 1 b) in let d = length-drop 1 b in let l = r .fits in omega arith
+
+  module _ (good : h .good ≡ true) where
+    abbrev read : Header
+    read = record { place = placeOf (h .star) (h .root); names = cutAt 58 (drop (namesAt (h .star) (h .root)) b); query = asked }
+
+    read-is : header t ≡ passed read
+    unfolding headed if_then_else_
+    read-is = whole ∙ rw good
+
+    names-well : well (not (h .star)) 2 (drop (namesAt (h .star) (h .root)) b) ≡ true
+    names-well = sym (r .heading .names) ∙ good
+
+    pub root-well : h .star ≡ false → h .root ≡ true → well true 2 names ≡ true
+    root-well e f = rw (rest-is b 1 (root-some e f)) (rw (e, f) at names-well)
+
+    pub here-well : h .star ≡ false → h .root ≡ false → well true 2 b ≡ true
+    here-well e f = rw (e, f) at names-well
+
+    star-names : h .star ≡ true → named (drop 1 b) ≡ cutAt 58 (drop 1 b)
+    star-names e =
+        let w : well false 2 (drop 1 b) ≡ true = rw e at names-well in
+        let n = sym (one-name (drop 1 b)) ∙ w in
+        own-names (drop 1 b) (joined-names (drop 1 b) ∙ rw (name-uncut (drop 1 b) n, n))
+
+    module _ (p buffer : Text) where
+      pub look-star : h .star ≡ true → (row used : ℕ) → row ≡ rowOf true (named names) asked
+          → take used buffer ≡ p → closed p ≡ true → used ≤ length p → LookedUp p t (At row used asked) buffer
+      look-star e row used f left shut l =
+          let ns = ap named (rest-is b 1 (star-some e)) ∙ star-names e in
+          let found = f ∙ ap (λ (n : List Text). rowOf true n asked) ns in (
+            read,
+            read-is,
+            record { query = refl; at = rw e found; left = rw e (ap named left); shut = ap closed left ∙ shut; short = omega arith },
+          )
+
+      pub look-root : h .star ≡ false → h .root ≡ true → (x : Entered) → EnteredAt [] names asked x buffer
+          → LookedUp p t (At (x .row) (x .used) asked) buffer
+      look-root e f x m =
+          let y = rw (rest-is b 1 (root-some e f)) at m in (
+            read,
+            read-is,
+            record {
+              query = refl;
+              at = rw (e, f) (rw named-nil at (y .row));
+              left = rw (e, f) (rw named-nil at (y .left));
+              shut = m .shut;
+              short = let k = m .room in let l = names-fit in omega arith;
+            },
+          )
+
+      pub look-here : h .star ≡ false → h .root ≡ false → (x : Entered) → EnteredAt p b asked x buffer
+          → LookedUp p t (At (x .row) (x .used) asked) buffer
+      look-here e f x m = (
+        read,
+        read-is,
+        record {
+          query = refl;
+          at = rw (e, f) (m .row);
+          left = rw (e, f) (m .left);
+          shut = m .shut;
+          short = let k = m .room in let l = r .fits in omega arith;
+        },
+      )

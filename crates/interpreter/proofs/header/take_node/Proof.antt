@@ -1,0 +1,83 @@
+use mathlib.Core.Path.{refl}
+use Prim.Native.Nat.{_+_}
+use native.Mathlib.Omega.{arith}
+use borrow.Author.Tests.{not-true, not-false}
+use borrow.Author.Needs.{needs}
+use Rattle.interpreter.proofs.header.Walks.{out-end, out-miss, taken, past-end}
+use Rattle.interpreter.proofs.header.take_node.Statement.{statement}
+use Rattle.interpreter.proofs.header.take_node.Tie as tie
+
+word-in-requires : tie.Need-word-in-requires
+word-in-requires c κs = search needs
+
+left-out-requires : tie.Need-left-out-requires
+left-out-requires c κs = search needs
+
+returns : tie.Need-returns
+returns c =
+    let a = c .before .before .before .before .before .args in
+    out-end (a .text .now) (a .at) (a .node) (omega arith) (c .before .if1 .taken) (c .left-out .result) (c .left-out .ensures)
+
+name-end-requires : tie.Need-name-end-requires
+name-end-requires c κs = search needs
+
+sub-is-word : tie.Need-sub-is-word
+sub-is-word c = search needs
+
+part-is-word-start : tie.Need-part-is-word-start
+part-is-word-start c = search needs
+
+part-is-word-end : tie.Need-part-is-word-end
+part-is-word-end c = search needs
+
+is-word-requires : tie.Need-is-word-requires
+is-word-requires c κs = search needs
+
+left-out-requires-2 : tie.Need-left-out-requires-2
+left-out-requires-2 c κs = search needs
+
+returns-2 : tie.Need-returns-2
+returns-2 c =
+    let e = c .before .before .before .before in
+    let a = e .before .before .before .before .before .args in
+    out-miss (a .text .now) (a .at) (a .node) (omega arith) (e .before .if1 .left) (e .name-end .result) (e .name-end .ensures .0)
+    (e .before .before .word-in .result) (e .before .before .word-in .ensures) (c .before .before .is-word .ensures)
+    (not-true _ (c .before .if2 .taken)) (c .left-out2 .result) (c .left-out2 .ensures)
+
+add-t13 : tie.Need-add-t13
+add-t13 c = search needs
+
+returns-3 : tie.Need-returns-3
+returns-3 c =
+    let e = c .before .before .before .before in
+    let a = e .before .before .before .before .before .args in
+    taken (a .text .now) (a .at) (a .node) (omega arith) (e .before .if1 .left) (e .name-end .result) (e .name-end .ensures .0)
+    (e .before .before .word-in .result) (e .before .before .word-in .ensures) (c .before .before .is-word .ensures)
+    (not-false _ (c .before .if2 .left)) (e .name-end .result + 1) (omega arith) refl
+
+returns-4 : tie.Need-returns-4
+returns-4 c =
+    let e = c .before .before .before .before in
+    let a = e .before .before .before .before .before .args in
+    taken (a .text .now) (a .at) (a .node) (omega arith) (e .before .if1 .left) (e .name-end .result) (e .name-end .ensures .0)
+    (e .before .before .word-in .result) (e .before .before .word-in .ensures) (c .before .before .is-word .ensures)
+    (not-false _ (c .before .if2 .left)) (e .name-end .result) (e .name-end .ensures .1)
+    (past-end (a .text .now) (e .name-end .result) (c .if3 .left))
+
+pub take-node-spec : {M : Type 1} → statement M
+take-node-spec =
+    tie.close
+    (tie.spec
+    word-in-requires
+    left-out-requires
+    returns
+    name-end-requires
+    sub-is-word
+    part-is-word-start
+    part-is-word-end
+    is-word-requires
+    left-out-requires-2
+    returns-2
+    add-t13
+    returns-3
+    returns-4)

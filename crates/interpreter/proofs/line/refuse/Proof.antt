@@ -1,0 +1,43 @@
+use mathlib.Core.Path.{_≡_, refl, sym, _∙_}
+use native.Mathlib.Omega.{arith}
+use lib.ListN.{length, take}
+use Rattle.registers.specs.Errors as errors
+use Rattle.interpreter.proofs.line.Laws.{raised-short, refused-dropped, refused-kept}
+use borrow.Author.Needs.{needs}
+use Rattle.interpreter.proofs.line.refuse.Statement.{statement}
+use Rattle.interpreter.proofs.line.refuse.Tie as tie
+
+raise-requires : tie.Need-raise-requires
+raise-requires c κs = search needs
+
+number-requires : tie.Need-number-requires
+number-requires c κs = search needs
+
+returns : tie.Need-returns
+returns c =
+    let a = c .before .before .before .args in
+    let s = c .before .before .before .good .0 .1 .1 .1 .0 .1 .1 in
+    let long : length (a .present .status .errors) ≡ 16 = search needs in
+    let raised = c .before .before .raise .ensures in
+    record {
+      stops = refl;
+      box = λ out. rw raised (refused-dropped (a .error) (a .present) long (sym (c .before .number .ensures) ∙ c .if1 .taken) (take (a .answered) out) out);
+      queued = λ h. rw raised (raised-short (a .error) (a .present) long h);
+      room = omega arith;
+    }
+
+returns-2 : tie.Need-returns-2
+returns-2 c =
+    let a = c .before .before .before .args in
+    let s = c .before .before .before .good .0 .1 .1 .1 .0 .1 .1 in
+    let long : length (a .present .status .errors) ≡ 16 = search needs in
+    let raised = c .before .before .raise .ensures in
+    record {
+      stops = refl;
+      box = λ out. rw raised (refused-kept (a .error) (a .present) long (λ e. c .if1 .left (c .before .number .ensures ∙ e)) (take (a .answered) out));
+      queued = λ h. rw raised (raised-short (a .error) (a .present) long h);
+      room = omega arith;
+    }
+
+pub refuse-spec : {M : Type 1} → statement M
+refuse-spec = tie.close (tie.spec raise-requires number-requires returns returns-2)

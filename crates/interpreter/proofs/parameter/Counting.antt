@@ -1,0 +1,117 @@
+-- The loop that counts the parameters: how far it has come, by what is left of the text.
+use mathlib.Core.Path.{_≡_, refl, ap, sym, _∙_}
+use mathlib.Core.Bool.{Bool, true, false, not, _&&_, _||_}
+use mathlib.Core.List.{List, [], _∷_, map}
+use Prim.Native.Nat.{ℕ, suc, _+_, _≤_, _<_}
+use native.Mathlib.Omega.{arith}
+use native.Mathlib.Numerals.{add-one}
+use lib.ListN.{length, getD, drop, length-map, drop-of-length-le}
+use lib.Seq.{drop-cons}
+use Rattle.registers.specs.Text.{Text, if_then_else_, white, every, empty}
+use Rattle.interpreter.specs.Cuts.{joinFirst, cutAt, trim}
+use Rattle.interpreter.specs.Parameter.{parameters}
+use Rattle.interpreter.specs.ParameterParts.{CountedIn}
+use Rattle.interpreter.proofs.parameter.Cuts.{cut-here, cut-later, cut-some, join-length, parameters-some, trim-empty}
+
+-- a part that is more than white space
+abbrev filled : Text → Bool
+filled p = not (every white p)
+
+-- all parts are, where a dark byte of the first may have been passed already
+abbrev filledFrom : Bool → List Text → Bool
+filledFrom dark [] = dark
+filledFrom dark (p ∷ ps) = (dark || filled p) && every filled ps
+
+-- up to place i so many parts have begun; `full`: those that have ended are filled; `dark`: the last has a dark byte
+pub record Counting (t : Text) (parts : ℕ) (full dark : Bool) (i : ℕ) : Type 0 where
+  pub place : i ≤ length t
+  pub few : parts ≤ i + 1
+  pub long : parts + length (cutAt 44 (drop i t)) ≡ 1 + length (cutAt 44 t)
+  pub all : (full && filledFrom dark (cutAt 44 (drop i t))) ≡ every filled (cutAt 44 t)
+
+-- ---- the start
+
+fresh : (ps : List Text) → 1 ≤ length ps → filledFrom false ps ≡ every filled ps
+fresh [] h = absurd (omega arith)
+fresh (p ∷ ps) h = refl
+
+pub counting-start : (t : Text) → Counting t 1 true false 0
+counting-start t =
+    record {
+      place = omega arith;
+      few = omega arith;
+      long = omega arith;
+      all = fresh (cutAt 44 t) (cut-some 44 t);
+    }
+
+-- ---- a turn: at a comma a part ends, any other byte is one of the part
+
+ended : (full dark : Bool) (ps : List Text) → 1 ≤ length ps
+    → ((full && dark) && filledFrom false ps) ≡ (full && filledFrom dark ([] ∷ ps))
+ended true true ps h = fresh ps h
+ended true false ps h = refl
+ended false dark ps h = refl
+
+joined : (b : ℕ) (full dark : Bool) (ps : List Text) → 1 ≤ length ps
+    → (full && filledFrom (dark || not (white b)) ps) ≡ (full && filledFrom dark (joinFirst b ps))
+joined b full dark [] h = absurd (omega arith)
+joined b full dark (p ∷ ps) h = ap (λ (w : Bool). full && (w && every filled ps)) (or (white b) dark)
+  where
+    or : (w d : Bool) → (d || not w || filled p) ≡ (d || not (w && every white p))
+    or w true = refl
+    or true false = refl
+    or false false = refl
+
+module _ {t : Text} {parts : ℕ} {full dark : Bool} {i : ℕ} (w : Counting t parts full dark i) (h : i < length t) where
+  pub counting-comma : getD t i 0 ≡ 44 → Counting t (parts + 1) (full && dark) false (i + 1)
+  counting-comma e =
+      let more = cutAt 44 (drop (i + 1) t) in
+      let cut : cutAt 44 (drop i t) ≡ [] ∷ more = rw (drop-cons t i 0 h, add-one i) (cut-here 44 (getD t i 0) (drop (suc i) t) e) in
+      let long = rw cut at (w .long) in
+      record {
+        place = omega arith;
+        few = omega arith;
+        long = omega arith;
+        all = ended full dark more (cut-some 44 (drop (i + 1) t)) ∙ rw cut at (w .all);
+      }
+
+  pub counting-byte : (getD t i 0 ≡ 44 → ⊥) → Counting t parts full (dark || not (white (getD t i 0))) (i + 1)
+  counting-byte e =
+      let b = getD t i 0 in
+      let more = cutAt 44 (drop (i + 1) t) in
+      let some = cut-some 44 (drop (i + 1) t) in
+      let cut : cutAt 44 (drop i t) ≡ joinFirst b more = rw (drop-cons t i 0 h, add-one i) (cut-later 44 b (drop (suc i) t) e) in
+      let long = rw cut at (w .long) in
+      record {
+        place = omega arith;
+        few = omega arith;
+        long = omega (arith, join-length b more some);
+        all = joined b full dark more some ∙ rw cut at (w .all);
+      }
+
+-- ---- the end
+
+all-filled : (ps : List Text) → every (λ (p : Text). not (empty p)) (map trim ps) ≡ every filled ps
+all-filled [] = refl
+all-filled (p ∷ ps) = rw (trim-empty p, all-filled ps)
+
+last : (full dark : Bool) → (full && dark) ≡ (full && filledFrom dark ([] ∷ []))
+last true true = refl
+last true false = refl
+last false dark = refl
+
+pub counting-end : {t : Text} {parts : ℕ} {full dark : Bool} {i : ℕ} → Counting t parts full dark i → (length t ≡ 0 → ⊥) → length t ≤ i
+    → CountedIn t (record { parts = parts; full = full && dark })
+unfolding cutAt
+counting-end {t} {parts} {full} {dark} {i} w some h =
+    let none : drop i t ≡ [] = drop-of-length-le t h in
+    let long = rw none at (w .long) in
+    record {
+      parts = rw (parameters-some t some) (omega (arith, length-map (cutAt 44 t) trim));
+      full = rw (parameters-some t some) (last full dark ∙ rw none at (w .all) ∙ sym (all-filled (cutAt 44 t)));
+    }
+
+pub counting-none : (t : Text) → length t ≡ 0 → CountedIn t (record { parts = 0; full = true })
+unfolding parameters if_then_else_
+counting-none [] h = record { parts = refl; full = refl }
+counting-none (b ∷ bs) h = absurd (omega arith)

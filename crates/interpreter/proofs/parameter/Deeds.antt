@@ -1,0 +1,94 @@
+-- Checks 7 and 8 on a value, and how what checks 5 and 6 say of a parameter is carried on.
+use mathlib.Core.Path.{_≡_, refl, sym, _∙_}
+use mathlib.Core.Bool.{Bool, true, false, not, false≢true}
+use Prim.Native.Nat.{ℕ, _≤_, _<_}
+use native.Mathlib.Omega.{arith}
+use lib.Dec.{T}
+use lib.IntN.{ℤ, pos, negsuc, natAbs}
+use lib.Signed.{leZ, mag, nonNeg}
+use mir.Syntax.{w16, w32}
+use mir.Val.{Fits, ofZ, toZ}
+use mir.Facts.{toZ-ofZ, toZ-pos}
+use borrow.Author.Tests.{leb-true}
+use Rattle.registers.specs.Text.{if_then_else_}
+use Rattle.registers.specs.Check.{Checked, refused, passed, _>>_, check}
+use Rattle.registers.specs.Errors.{numberOf}
+use Rattle.registers.specs.Rounding.{rounded, fitted}
+use Rattle.registers.specs.Settings.{lowest, highest, within, conflict}
+use Rattle.registers.specs.Status.{widest}
+use Rattle.registers.specs.declared.error.Error.{Error}
+use Rattle.registers.specs.declared.number.Decimal.{Decimal}
+use Rattle.registers.specs.declared.rounding.Fit.{Fit}
+use Rattle.registers.specs.declared.rounding.Fit.the-variants.{Within, Outside}
+use Rattle.registers.specs.declared.settings.Settings.{Settings}
+use Rattle.registers.specs.declared.status.Register.{Register}
+use Rattle.registers.specs.declared.status.Register.the-variants.{Ese, Sre, Enable, Ntr, Ptr}
+use Rattle.registers.proofs.rounding.Laws.{rounded-once}
+use Rattle.interpreter.specs.ParameterParts.{meantGiven, fitIn, putFit, storeTo}
+use Rattle.interpreter.specs.declared.deed.Deed.the-variants.{Change}
+use Rattle.interpreter.specs.declared.deed.Change.the-variants.{Put, Store}
+use Rattle.interpreter.specs.declared.parameter.Given.{Given}
+use Rattle.interpreter.specs.declared.parameter.Parameter.{Parameter}
+use Rattle.interpreter.specs.declared.parameter.Parameter.the-variants.{Refused as noParameter, Given as aParameter}
+
+-- a signed number of 32 bits comes back from its bits
+pub back : (z : ℤ) → mag z < 2147483648 → toZ w32 (ofZ w32 z) ≡ z
+back z h = toZ-ofZ (record { sfits = h })
+
+-- ---- what checks 5 and 6 say, where the code has been told their answer
+
+module _ {m : Checked Given} {p : Parameter} (is : meantGiven p ≡ m) where
+  pub refused-by : {e : Error} → p ≡ noParameter e → m ≡ refused (numberOf e)
+  refused-by told = rw (← is, told)
+
+  pub given-by : {g : Given} → p ≡ aParameter g → m ≡ passed g
+  given-by told = rw (← is, told)
+
+-- ---- checks 7 and 8 on a value of a setting
+
+pub fitted-in : (k : ℕ) (s : Settings) (i : ℕ) (d : Decimal) → fitted k (lowest i) (highest s i) d ≡ fitIn s i (rounded k d)
+unfolding fitted fitIn within
+fitted-in k s i d = refl
+
+pub fit-put : (s : Settings) (i : ℕ) (v : ℤ)
+    → putFit s i (fitIn s i v) ≡ (check 222 (within s i v) >> check 221 (not (conflict s i v)) >> passed (Change (Put i v)))
+unfolding fitIn if_then_else_ check _>>_
+fit-put s i v = go (within s i v)
+  where
+    go : (w : Bool)
+        → putFit s i (if w then Within v else Outside) ≡ (check 222 w >> check 221 (not (conflict s i v)) >> passed (Change (Put i v)))
+    go true = refl
+    go false = refl
+
+-- ---- check 7 on a number for a register
+
+widest-small : (x : Register) → widest x ≤ 32767
+widest-small Ese = omega arith
+widest-small Sre = omega arith
+widest-small Enable = omega arith
+widest-small Ntr = omega arith
+widest-small Ptr = omega arith
+
+pub widest-back : (x : Register) → toZ w32 (widest x) ≡ pos (widest x)
+widest-back x = toZ-pos w32 {n = widest x} (omega (arith, widest-small x))
+
+-- a value within the limits is a number of 16 bits
+small-natural : (x : Register) (z : ℤ) → leZ (pos 0) z ≡ true → leZ z (pos (widest x)) ≡ true → T (nonNeg z) × Fits w16 (natAbs z)
+small-natural x (pos n) low high = (tt, omega (arith, leb-true n (widest x) high, widest-small x))
+small-natural x (negsuc n) low high = absurd (false≢true low)
+
+module _ (x : Register) (d : Decimal) {f : Fit} (is : f ≡ fitted 1 (pos 0) (pos (widest x)) d) where
+  pub store-natural : (z : ℤ) → f ≡ Within z → T (nonNeg z) × Fits w16 (natAbs z)
+  store-natural z told =
+      let h = rounded-once 1 (pos 0) (pos (widest x)) d .within z (sym is ∙ told) in
+      small-natural x z (h .1) (h .2)
+
+  pub store-within : (z : ℤ) → f ≡ Within z → passed (Change (Store x (natAbs z))) ≡ storeTo x (rounded 1 d)
+  unfolding storeTo check _>>_
+  store-within z told =
+      let h = rounded-once 1 (pos 0) (pos (widest x)) d .within z (sym is ∙ told) in
+      rw (← h .0, h .1, h .2)
+
+  pub store-outside : f ≡ Outside → refused 222 ≡ storeTo x (rounded 1 d)
+  unfolding storeTo check _>>_
+  store-outside told = rw (rounded-once 1 (pos 0) (pos (widest x)) d .outside (sym is ∙ told))

@@ -1,0 +1,83 @@
+use mathlib.Core.Path.{_∙_}
+use borrow.Author.Needs.{needs}
+use Rattle.interpreter.proofs.parameter.Deeds.{back}
+use Rattle.interpreter.proofs.parameter.Sorts.{figure-in}
+use Rattle.interpreter.proofs.parameter.figure_value.Statement.{statement}
+use Rattle.interpreter.proofs.parameter.figure_value.Tie as tie
+
+values-of-requires : tie.Need-values-of-requires
+values-of-requires c κs = search needs
+
+enum-told : tie.Need-enum-told
+enum-told c = search needs
+
+round-to-requires : tie.Need-round-to-requires
+round-to-requires c κs = search needs
+
+enum-told-2 : tie.Need-enum-told-2
+enum-told-2 c = search needs
+
+round-to-requires-2 : tie.Need-round-to-requires-2
+round-to-requires-2 c κs = search needs
+
+enum-told-3 : tie.Need-enum-told-3
+enum-told-3 c = search needs
+
+switched-requires : tie.Need-switched-requires
+switched-requires c κs = search needs
+
+fit-in-requires : tie.Need-fit-in-requires
+fit-in-requires c κs = search needs
+
+enum-told-4 : tie.Need-enum-told-4
+enum-told-4 c = search needs
+
+fit-in-requires-2 : tie.Need-fit-in-requires-2
+fit-in-requires-2 c κs = search needs
+
+returns : tie.Need-returns
+returns c =
+    let a = c .before .before .before .before .args in
+    let values = c .before .before .before .values-of .ensures in
+    let e = figure-in (a .row) (c .before .enum-told .given .1) values (a .settings) (a .d) in
+    rw (← e) (c .round-to .ensures)
+
+returns-2 : tie.Need-returns-2
+returns-2 c =
+    let a = c .before .before .before .before .args in
+    let values = c .before .before .before .values-of .ensures in
+    let e = figure-in (a .row) (c .before .enum-told2 .given .1) values (a .settings) (a .d) in
+    rw (← e) (c .round-to2 .ensures)
+
+returns-3 : tie.Need-returns-3
+returns-3 c =
+    let a = c .before .before .before .before .before .args in
+    let values = c .before .before .before .before .values-of .ensures in
+    let e = figure-in (a .row) (c .before .before .enum-told3 .given .1) values (a .settings) (a .d) in
+    c .fit-in .ensures ∙ rw (back (c .before .switched .result) (c .before .switched .ok), c .before .switched .ensures, ← e)
+
+returns-4 : tie.Need-returns-4
+returns-4 c =
+    let a = c .before .before .before .before .args in
+    let values = c .before .before .before .values-of .ensures in
+    let e = figure-in (a .row) (c .before .enum-told4 .given .1) values (a .settings) (a .d) in
+    rw (← e) (c .fit-in2 .ensures)
+
+pub figure-value-spec : {M : Type 1} → statement M
+figure-value-spec =
+    tie.close
+    (tie.spec
+    values-of-requires
+    enum-told
+    round-to-requires
+    enum-told-2
+    round-to-requires-2
+    enum-told-3
+    switched-requires
+    fit-in-requires
+    enum-told-4
+    fit-in-requires-2
+    returns
+    returns-2
+    returns-3
+    returns-4)

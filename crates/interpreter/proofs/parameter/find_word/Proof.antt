@@ -1,0 +1,52 @@
+use mathlib.Core.Path.{refl, sym, _∙_}
+use Prim.Native.Nat.{_-_}
+use native.Mathlib.Omega.{arith}
+use borrow.Author.Needs.{needs}
+use Rattle.interpreter.proofs.parameter.Words.{Searching, search-hit, search-miss, search-end}
+use Rattle.interpreter.proofs.parameter.find_word.Statement.{statement}
+use Rattle.interpreter.proofs.parameter.find_word.Tie as tie
+
+abbrev Inv-loop : tie.InvT-loop
+Inv-loop words text first count n₀ n = Searching first count text n
+
+abbrev μ-loop : tie.MeasureT-loop
+μ-loop words text first count n₀ n = count - n
+
+loop-holds : tie.Need-loop-holds Inv-loop μ-loop
+loop-holds c = record { room = c .before .before .pre .1; left = refl }
+
+add-is-word : tie.Need-add-is-word Inv-loop μ-loop
+add-is-word c = search needs
+
+is-word-requires : tie.Need-is-word-requires Inv-loop μ-loop
+is-word-requires c κs = search needs
+
+returns : tie.Need-returns Inv-loop μ-loop
+returns c = search-hit (c .before .before .before .loop .inv) (omega arith) (sym (c .before .is-word .ensures) ∙ c .if1 .taken)
+
+add-n : tie.Need-add-n Inv-loop μ-loop
+add-n c = search needs
+
+loop-less : tie.Need-loop-less Inv-loop μ-loop
+loop-less c = search needs
+
+loop-again : tie.Need-loop-again Inv-loop μ-loop
+loop-again c = search-miss (c .before .before .before .loop .inv) (omega arith) (sym (c .before .is-word .ensures) ∙ c .if1 .left)
+
+returns-2 : tie.Need-returns-2 Inv-loop μ-loop
+returns-2 c = search-end (c .before .loop .inv) (c .loop-test .left)
+
+pub find-word-spec : {M : Type 1} → statement M
+find-word-spec =
+    tie.close
+    (tie.spec
+    Inv-loop
+    μ-loop
+    loop-holds
+    add-is-word
+    is-word-requires
+    returns
+    add-n
+    loop-less
+    loop-again
+    returns-2)

@@ -1,0 +1,59 @@
+use mathlib.Core.Path.{_≡_}
+use lib.IntN.{pos}
+use borrow.Author.Needs.{needs}
+use Rattle.registers.specs.Rounding.{fitted}
+use Rattle.registers.specs.Status.{widest}
+use Rattle.interpreter.proofs.parameter.Deeds.{back, widest-back, store-natural, store-within, store-outside}
+use Rattle.interpreter.proofs.parameter.store.Statement.{statement}
+use Rattle.interpreter.proofs.parameter.store.Tie as tie
+
+widest-requires : tie.Need-widest-requires
+widest-requires c κs = search needs
+
+cast-widest : tie.Need-cast-widest
+cast-widest c = search needs
+
+round-in-requires : tie.Need-round-in-requires
+round-in-requires c κs = search needs
+
+enum-told : tie.Need-enum-told
+enum-told c = search needs
+
+enum-known-fit : tie.Need-enum-known-fit
+enum-known-fit c = search needs
+
+fitted-is : (c : tie.After-round-in)
+    → c .round-in .result ≡ fitted 1 (pos 0) (pos (widest (c .before .before .args .register))) (c .before .before .args .d)
+fitted-is c = rw (c .before .widest .ensures, widest-back (c .before .before .args .register)) at (c .round-in .ensures)
+
+cast-t9 : tie.Need-cast-t9
+cast-t9 c =
+    let a = c .before .before .before .before .before .args in
+    let fit = c .before .fit .given in
+    rw (back (fit .0 .0) (c .known-told .given .0 .1))
+    (store-natural (a .register) (a .d) (fitted-is (c .before .before .before)) (fit .0 .0) (fit .1))
+
+returns : tie.Need-returns
+returns c =
+    let a = c .before .before .before .before .args in
+    store-outside (a .register) (a .d) (fitted-is (c .before .before)) (c .enum-told .given .1)
+
+returns-2 : tie.Need-returns-2
+returns-2 c =
+    let a = c .before .before .before .before .before .args in
+    let fit = c .before .fit .given in
+    rw (back (fit .0 .0) (c .known-told .given .0 .1))
+    (store-within (a .register) (a .d) (fitted-is (c .before .before .before)) (fit .0 .0) (fit .1))
+
+pub store-spec : {M : Type 1} → statement M
+store-spec =
+    tie.close
+    (tie.spec
+    widest-requires
+    cast-widest
+    round-in-requires
+    enum-told
+    enum-known-fit
+    cast-t9
+    returns
+    returns-2)

@@ -1,0 +1,116 @@
+-- What each event leaves of the record, as the box that it means.
+use mathlib.Core.Path.{_≡_, refl, sym, _∙_}
+use mathlib.Core.Bool.{true, false, not, false≢true}
+use mathlib.Core.List.{[], _++_}
+use Prim.Native.Nat.{ℕ, _-_, _≤_, _<_}
+use native.Mathlib.Omega.{arith}
+use lib.Dec.{eqb}
+use lib.ListN.{length, take, drop, length-take}
+use lib.Seq.{take-length}
+use native.Mathlib.Nat.{sub-zero}
+use borrow.Author.Tests.{le-leb, lt-leb, ne-eqb}
+use Rattle.registers.specs.Text.{Text, if_then_else_}
+use Rattle.registers.specs.Group.{widestGroup, possibleGroup}
+use Rattle.registers.specs.Settings.{atReset, count}
+use Rattle.registers.specs.Status.{registersOf, troubleOf, raisedIn, reportedIn, statusByte, atStart, possibleStatus, possibleRegisters, possibleTrouble}
+use Rattle.registers.specs.declared.status.Status.{Status}
+use Rattle.registers.proofs.settings.Possible.{reset-possible}
+use Rattle.registers.proofs.status.Laws.{reported-yes}
+use Rattle.registers.proofs.status.Means.{raised-trouble, raised-registers}
+use Rattle.interpreter.specs.Box.{box}
+use Rattle.interpreter.specs.Events.{Event, received, take as takes, condition, look, Result, result, happened, happens, taken, reported, lent}
+use Rattle.interpreter.specs.State.{boxOf, possibleParts, possibleState, Happens, flowBox, FlowFed}
+use Rattle.interpreter.specs.declared.state.State.{State}
+use Rattle.interpreter.specs.declared.state.Flow.{Flow}
+use Rattle.interpreter.proofs.line.Laws.{waits}
+use Rattle.interpreter.proofs.state.Records.{Short, short-from, happens-so}
+
+-- ---- a state that couldn't be the box's is handed back
+
+pub refused-4 : (s : State) (e : Event) → possibleState s ≡ false → Happens s e (result 4 0 (lent e)) s
+refused-4 s e h = record { possible = λ p. absurd (false≢true (sym h ∙ p)); impossible = λ _. (refl, refl) }
+
+-- a state that could be
+pub happens-on : (s : State) (e : Event) (r : Result) (t : State) → length (s .settings .values) ≡ count → possibleState s ≡ true
+    → (Short s → Short t) → happened r (boxOf t) ≡ happens (boxOf s) e → Happens s e r t
+happens-on s e r t long p w h =
+    record {
+      possible = happens-so s e r t long (λ _. (w (short-from s p), h));
+      impossible = λ n. absurd (false≢true (sym n ∙ p));
+    }
+
+-- ---- other status in the same record
+
+abbrev pub withStatus : Status → State → State
+withStatus t s =
+    record { settings = s .settings; status = t; line = s .line; filled = s .filled; overlong = s .overlong; answer = s .answer; waiting = s .waiting }
+
+abbrev pub withoutAnswer : State → State
+withoutAnswer s =
+    record { settings = s .settings; status = s .status; line = s .line; filled = s .filled; overlong = s .overlong; answer = s .answer; waiting = 0 }
+
+module _ (s : State) (room : 0 < length (s .answer)) where
+  -- ---- take
+
+  pub take-none : (buffer : Text) (t : Status) → length (s .status .errors) ≡ 16 → t ≡ raisedIn 420 (s .status) → s .waiting ≡ 0
+      → happened (result 2 0 buffer) (boxOf (withStatus t s)) ≡ happens (boxOf s) (takes buffer)
+  unfolding happens taken if_then_else_
+  take-none buffer t long is e =
+      rw (waits (s .answer) (s .waiting) room, e, is, raised-trouble 420 (s .status) long, raised-registers 420 (s .status) long)
+
+  pub take-short : (buffer : Text) → (s .waiting ≡ 0 → ⊥) → s .waiting ≤ length (s .answer) → length buffer < s .waiting
+      → happened (result 1 (s .waiting) buffer) (boxOf s) ≡ happens (boxOf s) (takes buffer)
+  unfolding happens taken if_then_else_
+  take-short buffer ne w h =
+      let n : length (take (s .waiting) (s .answer)) ≡ s .waiting = rw length-take (omega arith) in
+      rw (waits (s .answer) (s .waiting) room, ne-eqb (s .waiting) 0 ne, n, lt-leb (s .waiting) (length buffer) h)
+
+  pub take-all : (buffer : Text) → (s .waiting ≡ 0 → ⊥) → s .waiting ≤ length (s .answer) → s .waiting ≤ length buffer
+      → happened (result 0 (s .waiting) (take (s .waiting) (s .answer) ++ drop (s .waiting) buffer)) (boxOf (withoutAnswer s)) ≡ happens (boxOf s) (takes buffer)
+  unfolding happens taken if_then_else_
+  take-all buffer ne w h =
+      let n : length (take (s .waiting) (s .answer)) ≡ s .waiting = rw length-take (omega arith) in
+      rw (waits (s .answer) (s .waiting) room, ne-eqb (s .waiting) 0 ne, n, le-leb (s .waiting) (length buffer) h)
+
+  -- ---- look
+
+  pub look-byte : (n : ℕ) → n ≡ statusByte (registersOf (s .status)) (troubleOf (s .status)) (not (eqb (s .waiting) 0))
+      → happened (result 0 n []) (boxOf s) ≡ happens (boxOf s) look
+  unfolding happens
+  look-byte n is = rw (is, waits (s .answer) (s .waiting) room)
+
+-- ---- condition
+
+module _ (s : State) (v : ℕ) where
+  pub condition-wide : widestGroup < v → happened (result 3 0 []) (boxOf s) ≡ happens (boxOf s) (condition v)
+  unfolding happens reported if_then_else_
+  condition-wide h = rw (lt-leb v widestGroup h)
+
+  pub condition-on : (t : Status) → t ≡ reportedIn v (s .status) → v ≤ widestGroup
+      → happened (result 0 0 []) (boxOf (withStatus t s)) ≡ happens (boxOf s) (condition v)
+  unfolding happens reported if_then_else_
+  condition-on t is h = rw (le-leb v widestGroup h, is, reported-yes (s .status) v h)
+
+  pub condition-short : (t : Status) → t ≡ reportedIn v (s .status) → v ≤ widestGroup → Short s → Short (withStatus t s)
+  condition-short t is h w = record { queued = rw (is, reported-yes (s .status) v h) (w .queued); filled = w .filled; waiting = w .waiting }
+
+-- ---- power-up
+
+pub start-possible : possibleParts atReset atStart 0 0 ≡ true
+unfolding possibleParts possibleStatus possibleRegisters possibleTrouble possibleGroup atStart
+start-possible = rw reset-possible
+
+-- ---- a piece
+
+pub piece-on : (s : State) (bytes : Text) (f r : Flow) (lines left : Text) → flowBox f (s .line) (s .answer) ≡ boxOf s
+    → FlowFed f (s .line) (s .answer) bytes r lines left
+    → happened (result 0 (r .count) []) (flowBox r lines left) ≡ happens (boxOf s) (received bytes)
+unfolding happens
+piece-on s bytes f r lines left e w = rw (w .count, w .box, e)
+
+-- the answer's front, copied over the start of a buffer
+pub copied : (answer buffer : Text) (w : ℕ) → w ≤ length answer
+    → take (length (take (w - 0) answer)) (take (w - 0) answer) ++ drop (length (take (w - 0) answer)) buffer ≡ take w answer ++ drop w buffer
+copied answer buffer w h =
+    let n : length (take w answer) ≡ w = rw length-take (omega arith) in
+    rw (sub-zero, take-length (take w answer), n)

@@ -1,0 +1,68 @@
+-- Refusal 4 on the record against refusal 4 on the box that it means: the same, beside the record's own three lengths.
+use mathlib.Core.Path.{_≡_}
+use mathlib.Core.Bool.{true}
+use mathlib.Core.List.{List}
+use Prim.Native.Nat.{ℕ, _≤_}
+use native.Mathlib.Omega.{arith}
+use lib.Dec.{leb}
+use lib.ListN.{length, take, length-take}
+use borrow.Author.Tests.{leb-true, le-leb}
+use Rattle.registers.specs.Settings.{possibleSettings, count}
+use Rattle.registers.specs.Status.{registersOf, troubleOf, possibleStatus, possibleRegisters, possibleTrouble, most}
+use Rattle.registers.proofs.Tests.{and-both}
+use Rattle.interpreter.specs.Box.{mostLine, mostAnswer}
+use Rattle.interpreter.specs.Events.{Event, possible, possibleCore, happened, Result, happens}
+use Rattle.interpreter.specs.State.{boxOf, possibleParts, possibleState}
+use Rattle.interpreter.specs.declared.state.State.{State}
+use Rattle.interpreter.proofs.Possible.{still-possible}
+
+-- the record's own lengths
+pub record Short (s : State) : Type 0 where
+  pub queued : s .status .queued ≤ most
+  pub filled : s .filled ≤ mostLine
+  pub waiting : s .waiting ≤ mostAnswer
+
+front-within : (l : List ℕ) (n k : ℕ) → n ≤ k → leb (length (take n l)) k ≡ true
+front-within l n k h = le-leb (length (take n l)) k (rw length-take (omega arith))
+
+module _ (s : State) where
+  pub short-from : possibleState s ≡ true → Short s
+  unfolding possibleParts possibleStatus
+  short-from e =
+      let a = and-both _ (leb (s .waiting) mostAnswer) e in
+      let b = and-both _ (leb (s .filled) mostLine) (a .0) in
+      let c = and-both (possibleSettings (s .settings)) _ (b .0) in
+      let d = and-both (leb (s .status .queued) most) _ (c .1) in
+      record {
+        queued = leb-true (s .status .queued) most (d .0);
+        filled = leb-true (s .filled) mostLine (b .1);
+        waiting = leb-true (s .waiting) mostAnswer (a .1);
+      }
+
+  pub box-from : possibleState s ≡ true → possible (boxOf s) ≡ true
+  unfolding possibleParts possibleStatus possible possibleCore
+  box-from e =
+      let w = short-from e in
+      let a = and-both _ (leb (s .waiting) mostAnswer) e in
+      let b = and-both _ (leb (s .filled) mostLine) (a .0) in
+      let c = and-both (possibleSettings (s .settings)) _ (b .0) in
+      let d = and-both (leb (s .status .queued) most) _ (c .1) in
+      let f = and-both (possibleRegisters (registersOf (s .status))) _ (d .1) in
+      rw (c .0, f .0, f .1, front-within (s .line) (s .filled) mostLine (w .filled), front-within (s .answer) (s .waiting) mostAnswer (w .waiting))
+
+  pub state-from : Short s → possible (boxOf s) ≡ true → possibleState s ≡ true
+  unfolding possibleParts possibleStatus possible possibleCore
+  state-from w e =
+      let a = and-both _ (possibleTrouble (troubleOf (s .status))) e in
+      let b = and-both (possibleSettings (s .settings)) _ (a .0) in
+      let c = and-both (possibleRegisters (registersOf (s .status))) _ (b .1) in
+      rw (b .0, c .0, a .1, le-leb (s .status .queued) most (w .queued), le-leb (s .filled) mostLine (w .filled), le-leb (s .waiting) mostAnswer (w .waiting))
+
+-- what an event says of its result, from what happened to the box and from the new record's lengths
+pub happens-so : (s : State) (e : Event) (r : Result) (t : State) → length (s .settings .values) ≡ count
+    → (possibleState s ≡ true → Short t × (happened r (boxOf t) ≡ happens (boxOf s) e))
+    → possibleState s ≡ true → (possibleState t ≡ true) × (happened r (boxOf t) ≡ happens (boxOf s) e)
+happens-so s e r t long f p =
+    let g = f p in
+    let still = still-possible (boxOf s) e long (box-from s p) in
+    (state-from t (g .0) (rw (← g .1) at still), g .1)

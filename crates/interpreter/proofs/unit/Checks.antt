@@ -1,0 +1,66 @@
+-- A chain of checks refuses by known numbers, and what it passes has a property, if each of its checks does.
+use mathlib.Core.Path.{_≡_, refl, subst}
+use mathlib.Core.Bool.{Bool, true, false}
+use Prim.Native.Nat.{ℕ}
+use Rattle.registers.specs.Text.{if_then_else_}
+use Rattle.registers.specs.Check.{Checked, refused, passed, check, _>>=_, _>>_}
+use Rattle.registers.specs.Errors.{known}
+
+abbrev pub HoldsOf : {A : Type 0} → (A → Type 0) → Checked A → Type 0
+HoldsOf P (refused n) = known n ≡ true
+HoldsOf P (passed a) = P a
+
+-- a record, so that the property and the chain can be read off a goal
+pub record Holds {A : Type 0} (P : A → Type 0) (m : Checked A) : Type 0 where
+  pub of : HoldsOf P m
+
+abbrev pub Any : {A : Type 0} → A → Type 0
+Any a = Unit {0}
+
+pub refuses-by : {A : Type 0} {P : A → Type 0} {n : ℕ} → known n ≡ true → Holds P (refused n)
+refuses-by k = record { of = k }
+
+pub passes : {A : Type 0} {P : A → Type 0} {a : A} → P a → Holds P (passed a)
+passes p = record { of = p }
+
+module _ {A B : Type 0} (P : A → Type 0) (Q : B → Type 0) where
+  pub hold-bind : (m : Checked A) (f : A → Checked B) → Holds P m → ((a : A) → P a → Holds Q (f a)) → Holds Q (m >>= f)
+  unfolding _>>=_
+  hold-bind (refused n) f h k = refuses-by (h .of)
+  hold-bind (passed a) f h k = k a (h .of)
+
+  pub hold-then : (m : Checked A) (r : Checked B) → Holds P m → Holds Q r → Holds Q (m >> r)
+  unfolding _>>_
+  hold-then (refused n) r h k = refuses-by (h .of)
+  hold-then (passed a) r h k = k
+
+module _ {A : Type 0} (Q : A → Type 0) where
+  pub hold-check : (n : ℕ) (t : Bool) (m : Checked A) → known n ≡ true → (t ≡ true → Holds Q m) → Holds Q (check n t >> m)
+  unfolding check _>>_
+  hold-check n true m e k = k refl
+  hold-check n false m e k = refuses-by e
+
+  pub hold-if : (t : Bool) (x y : Checked A) → Holds Q x → Holds Q y → Holds Q (if t then x else y)
+  unfolding if_then_else_
+  hold-if true x y h k = h
+  hold-if false x y h k = k
+
+pub one-check : (n : ℕ) (t : Bool) → known n ≡ true → Holds Any (check n t)
+unfolding check
+one-check n true e = passes tt
+one-check n false e = refuses-by e
+
+-- a chain whose results have the property
+pub holds-from : {A : Type 0} {P : A → Type 0} (m : Checked A) → ((a : A) → m ≡ passed a → P a)
+    → ((n : ℕ) → m ≡ refused n → known n ≡ true) → Holds P m
+holds-from (refused n) p k = refuses-by (k n refl)
+holds-from (passed a) p k = passes (p a refl)
+
+-- ---- at a known result
+
+module _ {A : Type 0} {P : A → Type 0} {m : Checked A} (h : Holds P m) where
+  pub at-passed : {a : A} → m ≡ passed a → P a
+  at-passed e = subst (λ (x : Checked A). HoldsOf P x) e (h .of)
+
+  pub at-refused : {n : ℕ} → m ≡ refused n → known n ≡ true
+  at-refused e = subst (λ (x : Checked A). HoldsOf P x) e (h .of)

@@ -1,0 +1,77 @@
+-- White space around a text: at its end, byte by byte, and that a trimmed text stays as it is.
+use mathlib.Core.Path.{_≡_, refl, ap, _∙_}
+use mathlib.Core.Bool.{Bool, true, false, _&&_}
+use mathlib.Core.List.{[], _∷_, _++_}
+use Prim.Native.Nat.{ℕ, suc, _-_, _≤_, _<_}
+use native.Mathlib.Omega.{arith}
+use lib.ListN.{length, getD, take}
+use lib.Seq.{take-suc}
+use Rattle.registers.specs.Text.{Text, if_then_else_, white, empty, start, after}
+use Rattle.registers.proofs.Tests.{and-fails}
+use Rattle.interpreter.specs.Cuts.{trimEnd, trim}
+
+-- ---- the end, byte by byte
+
+white-more : (l : Text) (x : ℕ) → white x ≡ true → trimEnd (l ++ x ∷ []) ≡ trimEnd l
+unfolding trimEnd if_then_else_
+white-more [] x h = rw h
+white-more (y ∷ l) x h = rw (white-more l x h)
+
+some-last : (l : Text) (x : ℕ) → empty (l ++ x ∷ []) ≡ false
+some-last [] x = refl
+some-last (y ∷ l) x = refl
+
+dark-more : (l : Text) (x : ℕ) → white x ≡ false → trimEnd (l ++ x ∷ []) ≡ l ++ x ∷ []
+unfolding trimEnd if_then_else_
+dark-more [] x h = rw h
+dark-more (y ∷ l) x h = rw (dark-more l x h, and-fails (white y) (empty (l ++ x ∷ [])) (some-last l x))
+
+-- what a text up to a place keeps, by the byte before that place
+module _ (l : Text) (e : ℕ) (pos : 0 < e) (h : e ≤ length l) where
+  up-to : take e l ≡ take (e - 1) l ++ getD l (e - 1) 0 ∷ []
+  up-to = let s : suc (e - 1) ≡ e = omega arith in rw s at (take-suc l (e - 1) 0 (omega arith))
+
+  pub end-white : white (getD l (e - 1) 0) ≡ true → trimEnd (take e l) ≡ trimEnd (take (e - 1) l)
+  end-white w = rw up-to (white-more (take (e - 1) l) (getD l (e - 1) 0) w)
+
+  pub end-dark : white (getD l (e - 1) 0) ≡ false → trimEnd (take e l) ≡ take e l
+  end-dark w = rw up-to (dark-more (take (e - 1) l) (getD l (e - 1) 0) w)
+
+-- ---- trimmed twice
+
+trimEnd-twice : (t : Text) → trimEnd (trimEnd t) ≡ trimEnd t
+unfolding trimEnd if_then_else_
+trimEnd-twice [] = refl
+trimEnd-twice (b ∷ bs) = go (white b && empty (trimEnd bs)) refl (trimEnd-twice bs)
+  where
+    go : (w : Bool) → (white b && empty (trimEnd bs)) ≡ w → trimEnd (trimEnd bs) ≡ trimEnd bs
+        → trimEnd (if w then [] else b ∷ trimEnd bs) ≡ (if w then [] else b ∷ trimEnd bs)
+    go true q ih = refl
+    go false q ih = rw (ih, q)
+
+-- no white space is left at the start
+start-dark : (t : Text) → after white (trimEnd (after white t)) ≡ trimEnd (after white t)
+unfolding trimEnd if_then_else_
+start-dark [] = refl
+start-dark (b ∷ bs) = go (white b) refl (start-dark bs)
+  where
+    go : (w : Bool) → white b ≡ w → after white (trimEnd (after white bs)) ≡ trimEnd (after white bs)
+        → after white (trimEnd (if w then after white bs else b ∷ bs)) ≡ trimEnd (if w then after white bs else b ∷ bs)
+    go true q ih = ih
+    go false q ih = rw (q, q)
+
+pub trim-twice : (t : Text) → trim (trim t) ≡ trim t
+unfolding trim
+trim-twice t = ap trimEnd (start-dark t) ∙ trimEnd-twice (after white t)
+
+-- ---- a text's longest start, as a part of it
+
+pub take-start : (p : ℕ → Bool) (t : Text) → take (length (start p t)) t ≡ start p t
+unfolding if_then_else_
+take-start p [] = refl
+take-start p (b ∷ bs) = go (p b) (take-start p bs)
+  where
+    go : (w : Bool) → take (length (start p bs)) bs ≡ start p bs
+        → take (length (if w then b ∷ start p bs else [])) (b ∷ bs) ≡ (if w then b ∷ start p bs else [])
+    go true ih = ap (λ (l : Text). b ∷ l) ih
+    go false ih = refl

@@ -1,0 +1,116 @@
+use mathlib.Core.Path.{_≡_, sym, _∙_}
+use Prim.Native.Nat.{ℕ, _≤_}
+use native.Mathlib.Omega.{arith}
+use borrow.Author.Needs.{needs}
+use borrow.Author.Tests.{not-true, not-false, le-leb, lt-leb}
+use Rattle.registers.specs.Check.{check, _>>_}
+use Rattle.interpreter.specs.Parameter.{parameters, least, greatest}
+use Rattle.interpreter.specs.UnitParts.{decided}
+use Rattle.interpreter.proofs.unit.Found.{settled-at}
+use Rattle.interpreter.proofs.unit.Laws.{checked, has-empty, not-found, found}
+use Rattle.interpreter.proofs.unit.Parts.{parts-are, greatest-one}
+use Rattle.interpreter.proofs.unit.decide.Statement.{statement}
+use Rattle.interpreter.proofs.unit.decide.Tie as tie
+
+-- once the role is known: the entry, how many parameters there are, and the fewest and the most that there may be
+abbrev entry : tie.After-role-of → tie.Start
+entry p = p .before .before .before .before .before .before .before
+
+abbrev parts-of : tie.After-role-of → ℕ
+parts-of p = p .before .before .before .before .count .result .parts
+
+abbrev most-of : tie.After-role-of → ℕ
+most-of p = greatest (p .role-of .result) (entry p .args .asked)
+
+abbrev fewest-of : tie.After-role-of → ℕ
+fewest-of p = least (p .role-of .result) (entry p .args .asked)
+
+-- the checks that are left then
+says : (p : tie.After-role-of)
+    → let a = entry p .args in
+    decided (a .settings) (a .row) (a .asked) (a .text .now)
+    ≡ checked (a .settings) (p .role-of .result) (a .asked) (parts-of p) (parameters (a .text .now))
+says p =
+    let a = entry p .args in
+    let n = p .before .before .before .before .count in
+    let pre = entry p .pre in
+    let full = not-false _ (p .before .before .if1 .left) in
+    let r = p .role-of in
+    found (a .settings) (a .row) (a .asked) (a .text .now) (n .result) (n .ensures) full (omega arith) (r .result) (r .ensures)
+
+count-requires : tie.Need-count-requires
+count-requires c κs = search needs
+
+returns : tie.Need-returns
+returns c =
+    let a = c .before .before .before .before .before .args in
+    let n = c .before .before .count in
+    sym (has-empty (a .settings) (a .row) (a .asked) (a .text .now) (n .result) (n .ensures) (not-true _ (c .if1 .taken)))
+
+returns-2 : tie.Need-returns-2
+returns-2 c =
+    let a = c .before .before .before .before .before .before .args in
+    let n = c .before .before .before .count in
+    let full = not-false _ (c .before .if1 .left) in
+    sym (not-found (a .settings) (a .row) (a .asked) (a .text .now) (n .result) (n .ensures) full (omega arith))
+
+role-of-requires : tie.Need-role-of-requires
+role-of-requires c κs = search needs
+
+most-requires : tie.Need-most-requires
+most-requires c κs = search needs
+
+returns-3 : tie.Need-returns-3
+unfolding check _>>_
+returns-3 c =
+    let p = c .before .before in
+    let m = c .before .most .ensures in
+    sym (says p ∙ rw (lt-leb (parts-of p) (most-of p) (omega arith)))
+
+fewest-requires : tie.Need-fewest-requires
+fewest-requires c κs = search needs
+
+-- check 4 let the number pass from above
+few : (c : tie.Else3) → parts-of (c .before .before) ≤ most-of (c .before .before)
+few c = let m = c .before .most .ensures in omega arith
+
+returns-4 : tie.Need-returns-4
+unfolding check _>>_
+returns-4 c =
+    let p = c .before .before .before .before in
+    let f = c .before .fewest .ensures in
+    sym (says p ∙ rw (le-leb (parts-of p) (most-of p) (few (c .before .before)), lt-leb (fewest-of p) (parts-of p) (omega arith)))
+
+decide-requires : tie.Need-decide-requires
+decide-requires c κs =
+    let p = c .before .before .before .before in
+    let pre = entry p .pre in
+    (pre .0, rw (p .role-of .ensures) (settled-at (entry p .args .row) (omega arith)))
+
+returns-5 : tie.Need-returns-5
+unfolding check _>>_
+returns-5 c =
+    let p = c .before .before .before .before .before in
+    let a = entry p .args in
+    let n = p .before .before .before .before .count in
+    let r = p .role-of .result in
+    let f = c .before .before .fewest .ensures in
+    let m = few (c .before .before .before) in
+    let one = parts-are (a .text .now) (entry p .pre .2) (n .result) (n .ensures) (omega (arith, greatest-one r (a .asked))) in
+    (rw one at (c .decide .ensures))
+    ∙ sym (says p ∙ rw (le-leb (parts-of p) (most-of p) m, le-leb (fewest-of p) (parts-of p) (omega arith)))
+
+pub decide-spec : {M : Type 1} → statement M
+decide-spec =
+    tie.close
+    (tie.spec
+    count-requires
+    returns
+    returns-2
+    role-of-requires
+    most-requires
+    returns-3
+    fewest-requires
+    returns-4
+    decide-requires
+    returns-5)

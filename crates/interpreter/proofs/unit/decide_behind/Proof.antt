@@ -1,0 +1,76 @@
+use mathlib.Core.Path.{_≡_, ap, _∙_}
+use Prim.Native.Nat.{_-_}
+use native.Mathlib.Omega.{arith}
+use lib.ListN.{length, take, drop}
+use borrow.Author.Needs.{needs}
+use borrow.Rule.Slice.PartAt.{part-to-end}
+use Rattle.registers.specs.Text.{Text, white}
+use Rattle.registers.proofs.text.Laws.{end-drop, end-within}
+use Rattle.interpreter.specs.Cuts.{trimEnd, trim}
+use Rattle.interpreter.proofs.unit.Trims.{trim-twice}
+use Rattle.interpreter.proofs.unit.decide_behind.Statement.{statement}
+use Rattle.interpreter.proofs.unit.decide_behind.Tie as tie
+
+abbrev rest-of : tie.After-trimmed-end → Text
+rest-of c = c .before .before .before .before .before .args .rest .now
+
+-- the part that is handed on
+handed : (c : tie.After-trimmed-end)
+    → let r = rest-of c in
+    let s = c .before .before .white-end .result in
+    take (c .trimmed-end .result - 0) (take (length r - s) (drop s r)) ≡ trim r
+unfolding trim
+handed c =
+    let r = rest-of c in
+    let w = c .before .before .white-end in
+    let whole : c .trimmed-end .result - 0 ≡ c .trimmed-end .result = omega arith in
+    let behind = part-to-end r (w .result) ∙ end-drop white r 0 (w .result) (w .ensures) in
+    rw whole (c .trimmed-end .ensures .0 ∙ ap trimEnd behind)
+
+white-end-requires : tie.Need-white-end-requires
+white-end-requires c κs = search needs
+
+sub-behind : tie.Need-sub-behind
+sub-behind c =
+    end-within white (c .before .before .before .args .rest .now) 0 (c .white-end .result) (c .white-end .ensures) (omega arith)
+
+part-behind-start : tie.Need-part-behind-start
+part-behind-start c = sub-behind c
+
+part-behind-end : tie.Need-part-behind-end
+part-behind-end c = search needs
+
+trimmed-end-requires : tie.Need-trimmed-end-requires
+trimmed-end-requires c κs = search needs
+
+sub-decide : tie.Need-sub-decide
+sub-decide c = search needs
+
+part-decide-start : tie.Need-part-decide-start
+part-decide-start c = search needs
+
+part-decide-end : tie.Need-part-decide-end
+part-decide-end c = search needs
+
+decide-requires : tie.Need-decide-requires
+decide-requires c κs =
+    let p = c .before .before .before .before .before .before .pre in
+    (p .0, p .1, rw (handed (c .before)) (trim-twice (rest-of (c .before))))
+
+returns : tie.Need-returns
+returns c = rw (handed (c .before .before)) at (c .decide .ensures)
+
+pub decide-behind-spec : {M : Type 1} → statement M
+decide-behind-spec =
+    tie.close
+    (tie.spec
+    white-end-requires
+    sub-behind
+    part-behind-start
+    part-behind-end
+    trimmed-end-requires
+    sub-decide
+    part-decide-start
+    part-decide-end
+    decide-requires
+    returns)

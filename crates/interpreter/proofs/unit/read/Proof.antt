@@ -1,0 +1,170 @@
+use mathlib.Core.Path.{_≡_, sym, _∙_}
+use mathlib.Core.Bool.{true}
+use Prim.Native.Nat.{_-_}
+use native.Mathlib.Omega.{arith}
+use lib.ListN.{take, drop}
+use borrow.Author.Needs.{needs}
+use borrow.Author.Tests.{not-true, not-false}
+use Rattle.registers.specs.Text.{Text, every}
+use Rattle.interpreter.specs.ParameterParts.{meantDeed}
+use Rattle.interpreter.specs.Unit.{parameterText}
+use Rattle.interpreter.specs.UnitParts.{decided}
+use Rattle.interpreter.specs.HeaderParts.{named}
+use Rattle.interpreter.proofs.unit.Whole.{Runs, runs, allowed, bad-byte, bad-header, Headed, headed, refuses, obeys}
+use Rattle.interpreter.proofs.unit.read.Statement.{statement}
+use Rattle.interpreter.proofs.unit.read.Tie as tie
+
+-- once the header's end is known
+abbrev entry : tie.After-dark-end → tie.Start
+entry p = p .before .before .before .before .before .before .before .before
+
+abbrev unit-of : tie.After-dark-end → Text
+unit-of p = entry p .args .unit .now
+
+abbrev path-of : tie.After-dark-end → Text
+path-of p = take (entry p .args .used) (entry p .args .path .now)
+
+abbrev header-of : tie.After-dark-end → Text
+header-of p = let s = p .before .white-end .result in take (p .dark-end .result - s) (drop s (unit-of p))
+
+clean : (p : tie.After-dark-end) → every allowed (unit-of p) ≡ true
+clean p = sym (p .before .before .before .all-allowed .ensures) ∙ not-false _ (p .before .before .if1 .left)
+
+ran : (p : tie.After-dark-end) → Runs (unit-of p) (p .before .white-end .result) (p .dark-end .result)
+ran p = let w = p .before .white-end in runs (unit-of p) (w .result) (p .dark-end .result) (w .ensures) (p .dark-end .ensures)
+
+-- once the header is found
+abbrev dark-at : tie.After-looked → tie.After-dark-end
+dark-at p = p .before .before .before .before .before .before .before
+
+row-found : (p : tie.After-looked)
+    → let d = dark-at p in
+    let v = p .looked .given .0 in
+    let buffer = p .before .before .before .before .look-up .last .1 .1 .0 in
+    Headed (entry d .args .settings) (path-of d) (unit-of d) (v .0) (v .1 .0) (v .1 .1 .0) buffer
+row-found p =
+    let d = dark-at p in
+    headed (entry d .args .settings) (path-of d) (unit-of d) (clean d) (header-of d) (ran d .is) (ran d .short)
+    (p .before .before .before .before .look-up .ensures) (p .looked .given .1)
+
+-- once the checks behind the header are made
+left : (p : tie.After-decide-behind)
+    → let l = p .before .before .before in
+    let d = dark-at l in
+    let v = l .looked .given .0 in
+    meantDeed (p .decide-behind .result) ≡ decided (entry d .args .settings) (v .0) (v .1 .1 .0) (parameterText (unit-of d))
+left p = rw (ran (dark-at (p .before .before .before)) .behind) at (p .decide-behind .ensures)
+
+all-allowed-requires : tie.Need-all-allowed-requires
+all-allowed-requires c κs = search needs
+
+returns : tie.Need-returns
+returns c =
+    let a = c .before .before .before .before .before .before .args in
+    let k = sym (c .before .all-allowed .ensures) ∙ not-true _ (c .if1 .taken) in
+    bad-byte (a .settings) (named (take (a .used) (a .path .now))) (a .unit .now) k
+
+white-end-requires : tie.Need-white-end-requires
+white-end-requires c κs = search needs
+
+dark-end-requires : tie.Need-dark-end-requires
+dark-end-requires c κs = search needs
+
+sub-look-up : tie.Need-sub-look-up
+sub-look-up c = search needs
+
+part-look-up-start : tie.Need-part-look-up-start
+part-look-up-start c = search needs
+
+part-look-up-end : tie.Need-part-look-up-end
+part-look-up-end c = ran (c .before) .within
+
+look-up-requires : tie.Need-look-up-requires
+look-up-requires c κs =
+    let p = c .before .before in
+    let pre = entry p .pre in
+    let w = ran p .short in
+    (pre .0, (omega arith, pre .1 .1))
+
+enum-told : tie.Need-enum-told
+enum-told c = search needs
+
+enum-known-looked : tie.Need-enum-known-looked
+enum-known-looked c = search needs
+
+sub-decide-behind : tie.Need-sub-decide-behind
+sub-decide-behind c = ran (dark-at (c .before)) .within
+
+part-decide-behind-start : tie.Need-part-decide-behind-start
+part-decide-behind-start c = ran (dark-at (c .before)) .within
+
+part-decide-behind-end : tie.Need-part-decide-behind-end
+part-decide-behind-end c = search needs
+
+decide-behind-requires : tie.Need-decide-behind-requires
+decide-behind-requires c κs =
+    let l = c .before .before in
+    (entry (dark-at l) .pre .0 .1, row-found l .within)
+
+enum-known-decision : tie.Need-enum-known-decision
+enum-known-decision c = search needs
+
+enum-known-decision-2 : tie.Need-enum-known-decision-2
+enum-known-decision-2 c = search needs
+
+same-length : tie.Need-same-length
+same-length c = search needs
+
+returns-2 : tie.Need-returns-2
+returns-2 c =
+    let d = c .before .before .before .before .before .before .before in
+    let k = c .before .before .before .before .look-up in
+    bad-header (entry d .args .settings) (path-of d) (unit-of d) (k .last .1 .1 .0) (clean d) (header-of d) (ran d .is)
+    (k .ensures) (c .enum-told .given .1)
+
+same-length-2 : tie.Need-same-length-2
+same-length-2 c = search needs
+
+returns-3 : tie.Need-returns-3
+returns-3 c =
+    let p = c .before .before .before in
+    let l = p .before .before .before in
+    let d = dark-at l in
+    refuses (entry d .args .settings) (path-of d) (unit-of d) (row-found l) (left p) (c .before .decision .given .1)
+
+same-length-3 : tie.Need-same-length-3
+same-length-3 c = search needs
+
+returns-4 : tie.Need-returns-4
+returns-4 c =
+    let p = c .before .before .before in
+    let l = p .before .before .before in
+    let d = dark-at l in
+    obeys (entry d .args .settings) (path-of d) (unit-of d) (row-found l) (left p) (c .before .decision2 .given .1)
+
+pub read-spec : {M : Type 1} → statement M
+read-spec =
+    tie.close
+    (tie.spec
+    all-allowed-requires
+    returns
+    white-end-requires
+    dark-end-requires
+    sub-look-up
+    part-look-up-start
+    part-look-up-end
+    look-up-requires
+    enum-told
+    enum-known-looked
+    sub-decide-behind
+    part-decide-behind-start
+    part-decide-behind-end
+    decide-behind-requires
+    enum-known-decision
+    enum-known-decision-2
+    same-length
+    returns-2
+    same-length-2
+    returns-3
+    same-length-3
+    returns-4)

@@ -1,0 +1,56 @@
+-- The box in two parts: the trouble, that is the event status register and the error queue, and the core, all else.
+use mathlib.Core.Bool.{Bool, false}
+use mathlib.Core.List.{[]}
+use Prim.Native.Nat.{ℕ}
+use Rattle.registers.specs.Text.{Text}
+use Rattle.registers.specs.Settings.{atReset}
+use Rattle.registers.specs.Status.{Registers, Trouble, raised, registersOf, troubleOf, atStart}
+use Rattle.registers.specs.declared.settings.Settings.{Settings}
+
+-- "A line holds at most 512 bytes", "would pass 1,024 bytes"
+abbrev pub mostLine : ℕ
+mostLine = 512
+
+abbrev pub mostAnswer : ℕ
+mostAnswer = 1024
+
+pub record Core : Type 0 where
+  pub settings : Settings
+  pub registers : Registers
+  pub line : Text  -- the bytes of the line so far, at most 512
+  pub overlong : Bool  -- further bytes were dropped
+  pub answer : Text  -- the waiting answer; while a line runs, the answers of its units so far
+
+pub record Box : Type 0 where
+  pub core : Core
+  pub trouble : Trouble
+
+abbrev pub box : Core → Trouble → Box
+box c t = record { core = c; trouble = t }
+
+-- ---- a part of the core changed
+
+abbrev pub withSettings : Settings → Core → Core
+withSettings s c = record { settings = s; registers = c .registers; line = c .line; overlong = c .overlong; answer = c .answer }
+
+abbrev pub withRegisters : Registers → Core → Core
+withRegisters r c = record { settings = c .settings; registers = r; line = c .line; overlong = c .overlong; answer = c .answer }
+
+abbrev pub withLine : Text → Bool → Core → Core
+withLine l o c = record { settings = c .settings; registers = c .registers; line = l; overlong = o; answer = c .answer }
+
+abbrev pub withAnswer : Text → Core → Core
+withAnswer a c = record { settings = c .settings; registers = c .registers; line = c .line; overlong = c .overlong; answer = a }
+
+abbrev pub answerIs : Text → Box → Box
+answerIs a b = box (withAnswer a (b .core)) (b .trouble)
+
+-- an error raised: the core stays
+abbrev pub raise : ℕ → Box → Box
+raise n b = box (b .core) (raised n (b .trouble))
+
+-- "Power-up: the first state": "settings as *RST .. all else empty"
+unfoldable pub powerUp : Box
+powerUp =
+    box (record { settings = atReset; registers = registersOf atStart; line = []; overlong = false; answer = [] })
+    (troubleOf atStart)

@@ -1,0 +1,90 @@
+-- What an accepted unit does to the box, with check 9.
+use mathlib.Core.Bool.{Bool, not}
+use mathlib.Core.List.{_∷_, _++_}
+use Prim.Native.Char.{code}
+use lib.Dec.{ltb}
+use lib.ListN.{length}
+use Rattle.registers.specs.Text.{Text, if_then_else_, bytes, empty, first}
+use Rattle.registers.specs.Check.{Checked, passed, _>>=_, _>>_, check}
+use Rattle.registers.specs.Answer.{decimal}
+use Rattle.registers.specs.Errors.{errorText}
+use Rattle.registers.specs.Settings.{kindOf, valueAt, withValue, atReset, answerOf}
+use Rattle.registers.specs.Status.{Trouble, noTrouble, completed, eventsRead, oldestRead, operationRead, storedIn, registerIn, statusByte}
+use Rattle.interpreter.specs.Box.{Core, Box, box, withSettings, withRegisters, withAnswer, mostAnswer}
+use Rattle.interpreter.specs.declared.deed.Deed.{Deed}
+use Rattle.interpreter.specs.declared.deed.Deed.the-variants.{Change, Complete, Clear, Query, Inquire}
+use Rattle.interpreter.specs.declared.deed.Change as changes
+use Rattle.interpreter.specs.declared.deed.Change.the-variants.{Nothing, Put, Reset, Store}
+use Rattle.interpreter.specs.declared.deed.Query as queries
+use Rattle.interpreter.specs.declared.deed.Query.the-variants.{Identity, SelfTest, Completed, Limit, Value, Stored, Condition, OperationEvents}
+use Rattle.interpreter.specs.declared.deed.Inquiry as inquiries
+use Rattle.interpreter.specs.declared.deed.Inquiry.the-variants.{StandardEvents, StatusByte, NextError}
+
+-- ---- changes
+
+unfoldable pub changed : changes.Change → Core → Core
+changed Nothing c = c
+changed (Put i v) c = withSettings (withValue i v (c .settings)) c
+changed Reset c = withSettings atReset c
+changed (Store r n) c = withRegisters (storedIn r n (c .registers)) c
+
+-- ---- queries that see the core alone
+
+unfoldable pub replyTo : queries.Query → Core → Text
+replyTo Identity c = bytes "COURSE,BENCH24,0,4.00"
+replyTo SelfTest c = bytes "0"
+replyTo Completed c = bytes "1"
+replyTo (Limit i v) c = answerOf (kindOf i) v
+replyTo (Value i) c = answerOf (kindOf i) (valueAt (c .settings) i)
+replyTo (Stored r) c = decimal (registerIn r (c .registers))
+replyTo Condition c = decimal (c .registers .operation .condition)
+replyTo OperationEvents c = decimal (c .registers .operation .event)
+
+-- the operation event register is cleared
+abbrev pub operationCleared : Core → Core
+operationCleared c = withRegisters (operationRead (c .registers)) c
+
+abbrev pub afterQuery : queries.Query → Core → Core
+afterQuery Identity c = c
+afterQuery SelfTest c = c
+afterQuery Completed c = c
+afterQuery (Limit i v) c = c
+afterQuery (Value i) c = c
+afterQuery (Stored r) c = c
+afterQuery Condition c = c
+afterQuery OperationEvents c = operationCleared c
+
+-- ---- the three that see the trouble
+
+unfoldable pub inquiryReply : inquiries.Inquiry → Box → Text
+inquiryReply StandardEvents b = decimal (b .trouble .events)
+inquiryReply StatusByte b = decimal (statusByte (b .core .registers) (b .trouble) (not (empty (b .core .answer))))
+inquiryReply NextError b = errorText (first (b .trouble .queue))
+
+abbrev pub afterInquiry : inquiries.Inquiry → Trouble → Trouble
+afterInquiry StandardEvents t = eventsRead t
+afterInquiry StatusByte t = t
+afterInquiry NextError t = oldestRead t
+
+-- ---- check 9
+
+-- "Answers of one line are joined by `;`"
+unfoldable pub joined : Text → Text → Text
+joined a t = if empty a then t else a ++ code ";" ∷ t
+
+-- "the answer with its separator and the final newline would pass 1,024 bytes"
+unfoldable pub fitsAnswer : Text → Text → Bool
+fitsAnswer a t = ltb (length (joined a t)) mostAnswer
+
+-- "-430 .. the query isn't performed"
+unfoldable pub reply : Text → Core → Checked Core
+reply t c = check 430 (fitsAnswer (c .answer) t) >> passed (withAnswer (joined (c .answer) t) c)
+
+-- ---- the deed
+
+unfoldable pub perform : Deed → Box → Checked Box
+perform (Change x) b = passed (box (changed x (b .core)) (b .trouble))
+perform Complete b = passed (box (b .core) (completed (b .trouble)))
+perform Clear b = passed (box (operationCleared (b .core)) noTrouble)
+perform (Query q) b = reply (replyTo q (b .core)) (afterQuery q (b .core)) >>= λ c. passed (box c (b .trouble))
+perform (Inquire q) b = reply (inquiryReply q b) (b .core) >>= λ c. passed (box c (afterInquiry q (b .trouble)))

@@ -1,0 +1,92 @@
+-- "What can happen to the box": the five events, the refusals of 01's table, and histories.
+use mathlib.Core.Bool.{Bool, not, _&&_}
+use mathlib.Core.List.{List, [], _∷_, _++_}
+use Prim.Native.Nat.{ℕ}
+use lib.Dec.{leb}
+use lib.ListN.{length, drop}
+use Rattle.registers.specs.Text.{Text, if_then_else_, empty}
+use Rattle.registers.specs.Group.{conditionIs, widestGroup}
+use Rattle.registers.specs.Settings.{possibleSettings}
+use Rattle.registers.specs.Status.{withOperation, statusByte, possibleRegisters, possibleTrouble}
+use Rattle.interpreter.specs.Box.{Core, Box, box, raise, withRegisters, answerIs, powerUp, mostLine, mostAnswer}
+use Rattle.interpreter.specs.Line.{piece, newlines}
+
+pub data Event : Type 0 where
+  started : Event  -- power-up
+  received : Text → Event  -- a piece
+  take : Text → Event  -- with the lent buffer
+  condition : ℕ → Event
+  look : Event
+
+-- the refusal's number in 01's table, or 0; the count, length or status byte; the lent buffer afterwards
+pub record Result : Type 0 where
+  pub number : ℕ
+  pub value : ℕ
+  pub buffer : Text
+
+abbrev pub result : ℕ → ℕ → Text → Result
+result n v t = record { number = n; value = v; buffer = t }
+
+pub record Happened : Type 0 where
+  pub result : Result
+  pub box : Box
+
+abbrev pub happened : Result → Box → Happened
+happened r b = record { result = r; box = b }
+
+-- "the waiting answer is copied to the start of a lent buffer and is then gone"; numbers 1 and 2
+unfoldable pub taken : Text → Box → Happened
+taken buffer b =
+    let a = b .core .answer in
+    if empty a then happened (result 2 0 buffer) (raise 420 b)
+    else (if leb (length a) (length buffer)
+    then happened (result 0 (length a) (a ++ drop (length a) buffer)) (answerIs [] b)
+    else happened (result 1 (length a) buffer) b)
+
+-- "the box reports the 16-bit operation condition register"; number 3
+unfoldable pub reported : ℕ → Box → Happened
+reported n b =
+    if leb n widestGroup
+    then happened (result 0 0 [])
+    (box (withRegisters (withOperation (conditionIs n (b .core .registers .operation)) (b .core .registers)) (b .core)) (b .trouble))
+    else happened (result 3 0 []) b
+
+-- "the status byte, with bit 6"
+abbrev pub seen : Box → ℕ
+seen b = statusByte (b .core .registers) (b .trouble) (not (empty (b .core .answer)))
+
+-- an event on a state that could be the box's
+unfoldable pub happens : Box → Event → Happened
+happens b started = happened (result 0 0 []) powerUp
+happens b (received xs) = happened (result 0 (newlines xs) []) (piece b xs)
+happens b (take buffer) = taken buffer b
+happens b (condition n) = reported n b
+happens b look = happened (result 0 (seen b) []) b
+
+-- the buffer that an event lends
+abbrev pub lent : Event → Text
+lent started = []
+lent (received xs) = []
+lent (take buffer) = buffer
+lent (condition n) = []
+lent look = []
+
+-- ---- number 4: what could be the box's
+
+unfoldable pub possibleCore : Core → Bool
+possibleCore c =
+    possibleSettings (c .settings)
+    && (possibleRegisters (c .registers) && (leb (length (c .line)) mostLine && leb (length (c .answer)) mostAnswer))
+
+unfoldable pub possible : Box → Bool
+possible b = possibleCore (b .core) && possibleTrouble (b .trouble)
+
+-- ---- histories
+
+unfoldable pub after : Box → List Event → Box
+after b [] = b
+after b (e ∷ es) = after (happens b e .box) es
+
+unfoldable pub results : Box → List Event → List Result
+results b [] = []
+results b (e ∷ es) = happens b e .result ∷ results (happens b e .box) es

@@ -1,0 +1,67 @@
+-- Headers: how one is written, the names that it stands for, and the path that it leaves.
+use mathlib.Core.Bool.{Bool, true, false, _&&_, _||_}
+use mathlib.Core.List.{List, [], _∷_, _++_}
+use Prim.Native.Char.{code}
+use lib.Dec.{eqb}
+use Rattle.registers.specs.Text.{Text, if_then_else_, letter, wordByte, every, empty, first, rest}
+use Rattle.registers.specs.Check.{Checked, passed, _>>_, check}
+use Rattle.registers.specs.Words.{Node, must, may, matches}
+use Rattle.interpreter.specs.Cuts.{last, front, cutAt}
+
+-- "A header starts with `*`, with `:`, or with neither"
+pub data Place : Type 0 where
+  common : Place
+  root : Place
+  here : Place  -- it is read after the path
+
+pub record Header : Type 0 where
+  pub place : Place
+  pub names : List Text
+  pub query : Bool
+
+-- "with an optional `?` at the end"
+abbrev pub asks : Text → Bool
+asks t = eqb (last t) (code "?")
+
+-- "a letter and then letters, digits or underscores"
+unfoldable pub name : Text → Bool
+name t = letter (first t) && every wordByte t
+
+unfoldable pub placed : Place → List Text → Bool → Checked Header
+placed p names q = check 102 (every name names) >> passed (record { place = p; names = names; query = q })
+
+-- check 2 on the header: "`*` and one name, or names joined by single colons (one more may lead)"
+unfoldable pub header : Text → Checked Header
+header t =
+    let q = asks t in
+    let body = if q then front t else t in
+    if eqb (first body) (code "*") then placed common (rest body ∷ []) q
+    else (if eqb (first body) (code ":") then placed root (cutAt (code ":") (rest body)) q
+    else placed here (cutAt (code ":") body) q)
+
+-- ---- the path: "the nodes before the last colon of the previous non-common header in this line, that header's own path
+-- included. Common commands keep the path"
+
+abbrev pub fullNames : Place → List Text → List Text → List Text
+fullNames common path names = names
+fullNames root path names = names
+fullNames here path names = path ++ names
+
+abbrev pub pathAfter : Place → List Text → List Text → List Text
+pathAfter common path names = path
+pathAfter root path names = front names
+pathAfter here path names = front (path ++ names)
+
+abbrev pub isCommon : Place → Bool
+isCommon common = true
+isCommon root = false
+isCommon here = false
+
+-- ---- when a row spells names: "with its optional nodes kept or left out in any way"
+
+unfoldable pub spells : List Node → List Text → Bool
+spells [] names = empty names
+spells (must w ∷ nodes) [] = false
+spells (must w ∷ nodes) (n ∷ names) = matches w n && spells nodes names
+spells (may w ∷ nodes) [] = spells nodes []
+spells (may w ∷ nodes) (n ∷ names) = spells nodes (n ∷ names) || (matches w n && spells nodes names)

@@ -1,0 +1,143 @@
+-- What the header reader's own functions say. Nothing of 01 is defined here: see Header.antt and Rows.antt.
+use mathlib.Core.Path.{_≡_}
+use mathlib.Core.Bool.{Bool, true, false, not, _&&_, _||_}
+use mathlib.Core.List.{List, [], _∷_, _++_}
+use Prim.Native.Nat.{ℕ, _+_, _-_, _*_, _≤_}
+use lib.Dec.{ltb, eqb}
+use lib.Bits.{bitAnd}
+use lib.ListN.{length, getD, take, drop}
+use Rattle.registers.specs.Text.{Text, if_then_else_, letter, wordByte, empty, first, rest}
+use Rattle.registers.specs.Check.{Checked, refused, passed}
+use Rattle.registers.specs.Words.{Node, must, may, matches}
+use Rattle.interpreter.specs.Cuts.{last, front, cutAt, joinFirst}
+use Rattle.interpreter.specs.Header.{Place, common, root, here, Header, header, placed, asks, fullNames, pathAfter, isCommon}
+use Rattle.interpreter.specs.RowsParts.{rowTable, wordTable, wordAt, rowOf}
+use Rattle.interpreter.specs.declared.header.Walk.{Walk}
+use Rattle.interpreter.specs.declared.header.Walk.the-variants.{To, Missed}
+use Rattle.interpreter.specs.declared.header.Heading.{Heading}
+use Rattle.interpreter.specs.declared.header.Entered.{Entered}
+use Rattle.interpreter.specs.declared.header.Looked.{Looked}
+use Rattle.interpreter.specs.declared.header.Looked.the-variants.{Bad, At}
+
+-- ---- a text of names, each ended by a colon or by the end
+
+unfoldable pub named : Text → List Text
+named [] = []
+named (b ∷ bs) = if eqb b 58 then [] ∷ named bs else joinFirst b (named bs)
+
+-- a byte of a name
+abbrev pub inName : ℕ → Bool
+inName b = not (eqb b 58)
+
+-- a text that is empty or ends in a colon: what a path is
+unfoldable pub closed : Text → Bool
+closed p = empty p || eqb (last p) 58
+
+-- the longest start of a text that ends in a colon
+unfoldable pub pathOf : Text → Text
+pathOf [] = []
+pathOf (b ∷ bs) = let m = pathOf bs in if empty m then (if eqb b 58 then b ∷ [] else []) else b ∷ m
+
+-- ---- the greedy walk over a row's nodes: a node that matches is taken, an optional one that doesn't is left out
+
+unfoldable pub greedy : List Node → List Text → Bool
+greedy [] names = empty names
+greedy (must w ∷ nodes) [] = false
+greedy (must w ∷ nodes) (n ∷ names) = if matches w n then greedy nodes names else false
+greedy (may w ∷ nodes) [] = greedy nodes []
+greedy (may w ∷ nodes) (n ∷ names) = if matches w n then greedy nodes names else greedy nodes (n ∷ names)
+
+-- ---- cells of the tables
+
+unfoldable pub wordCell : ℕ → ℕ → ℕ
+wordCell w i = getD wordTable (w * 16 + i) 0
+
+unfoldable pub rowCell : ℕ → ℕ → ℕ
+rowCell r i = getD rowTable (r * 8 + i) 0
+
+unfoldable pub wordIn : ℕ → ℕ
+wordIn x = if ltb x 128 then x else x - 128
+
+unfoldable pub nodeOf : ℕ → Node
+nodeOf x = if ltb x 128 then must (wordAt x) else may (wordAt (x - 128))
+
+-- a node that is not taken is left out if it may be
+unfoldable pub leftOut : ℕ → ℕ → Walk
+leftOut x at = if ltb x 128 then Missed else To at
+
+-- one node is taken or left out, or it is missed
+abbrev pub Walked : Node → Text → ℕ → Walk → Type 0
+Walked x t at (To n) = ((nodes : List Node) → greedy (x ∷ nodes) (named (drop at t)) ≡ greedy nodes (named (drop n t))) × (n ≤ length t)
+Walked x t at Missed = (nodes : List Node) → greedy (x ∷ nodes) (named (drop at t)) ≡ false
+
+-- a header's form as a bit, and whether a row has it
+unfoldable pub formBit : Bool → Bool → ℕ
+formBit false false = 1
+formBit false true = 2
+formBit true false = 4
+formBit true true = 8
+
+unfoldable pub formed : ℕ → ℕ → Bool
+formed r bit = not (eqb (bitAnd (rowCell r 0) bit) 0)
+
+-- ---- a header's grammar, byte by byte: 2 where a name must start, 1 within a name, 0 where it is broken
+
+unfoldable pub nameByte : Bool → ℕ → ℕ → ℕ
+nameByte joined s b = if eqb s 2 then (if letter b then 1 else 0) else (if joined && eqb b 58 then 2 else (if wordByte b then 1 else 0))
+
+unfoldable pub well : Bool → ℕ → Text → Bool
+well joined s [] = eqb s 1
+well joined s (b ∷ bs) = if eqb (nameByte joined s b) 0 then false else well joined (nameByte joined s b) bs
+
+-- a header without its `?`
+unfoldable pub bodyOf : Text → Text
+bodyOf t = if asks t then front t else t
+
+-- the header of a body
+unfoldable pub headerOf : Text → Bool → Checked Header
+headerOf body q =
+    if eqb (first body) 42 then placed common (rest body ∷ []) q
+    else (if eqb (first body) 58 then placed root (cutAt 58 (rest body)) q
+    else placed here (cutAt 58 body) q)
+
+abbrev pub placeOf : Bool → Bool → Place
+placeOf true b = common
+placeOf false true = root
+placeOf false false = here
+
+-- where the names begin
+abbrev pub namesAt : Bool → Bool → ℕ
+namesAt true b = 1
+namesAt false true = 1
+namesAt false false = 0
+
+-- ---- what each function finds
+
+unfoldable pub headed : Heading → Text → Bool → Checked Header
+headed h body q =
+    if h .good then passed (record { place = placeOf (h .star) (h .root); names = cutAt 58 (drop (namesAt (h .star) (h .root)) body); query = q }) else refused 102
+
+pub record HeadingRead (body : Text) (h : Heading) : Type 0 where
+  pub is : (asked : Bool) → headerOf body asked ≡ headed h body asked
+  pub names : h .good ≡ well (not (h .star)) 2 (drop (namesAt (h .star) (h .root)) body)
+  pub within : namesAt (h .star) (h .root) ≤ length body
+
+-- what entering a header's names behind a path finds and leaves
+pub record EnteredAt (path names : Text) (asked : Bool) (r : Entered) (buffer : Text) : Type 0 where
+  pub row : r .row ≡ rowOf false (named path ++ cutAt 58 names) asked
+  pub left : named (take (r .used) buffer) ≡ front (named path ++ cutAt 58 names)
+  pub shut : closed (take (r .used) buffer) ≡ true
+  pub room : r .used ≤ length path + length names
+
+-- checks 2 and 3 on a header: the row of the names that it stands for, and the path that it leaves in the buffer
+pub record FoundRow (path : List Text) (room : ℕ) (h : Header) (row used : ℕ) (asked : Bool) (buffer : Text) : Type 0 where
+  pub query : asked ≡ h .query
+  pub at : row ≡ rowOf (isCommon (h .place)) (fullNames (h .place) path (h .names)) (h .query)
+  pub left : named (take used buffer) ≡ pathAfter (h .place) path (h .names)
+  pub shut : closed (take used buffer) ≡ true
+  pub short : used ≤ room
+
+abbrev pub LookedUp : Text → Text → Looked → Text → Type 0
+LookedUp path t Bad buffer = header t ≡ refused 102
+LookedUp path t (At row used asked) buffer =
+    (h : Header) × (header t ≡ passed h) × FoundRow (named path) (length path + length t) h row used asked buffer

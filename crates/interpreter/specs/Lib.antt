@@ -1,0 +1,16 @@
+pub mod Cuts
+pub mod Header
+pub mod Rows
+pub mod RowsParts
+pub mod HeaderParts
+pub mod Parameter
+pub mod ParameterParts
+pub mod Unit
+pub mod UnitParts
+pub mod Box
+pub mod Deeds
+pub mod Line
+pub mod Events
+pub mod DeedsParts
+pub mod LineParts
+pub mod State

@@ -1,0 +1,132 @@
+-- Checks 4 to 8: how many parameters, what each is, and the value that it gives.
+use mathlib.Core.Bool.{Bool, true, false, not, _&&_, _||_}
+use mathlib.Core.List.{List, [], _∷_, map}
+use Prim.Native.Nat.{ℕ, zero, suc}
+use Prim.Native.Char.{code}
+use Prim.Native.String.{String}
+use lib.IntN.{ℤ, pos, natAbs}
+use lib.Signed.{leZ}
+use Rattle.registers.specs.Text.{Text, if_then_else_, letter, digit, wordByte, every, empty, first}
+use Rattle.registers.specs.Check.{Checked, refused, passed, _>>=_, _>>_, check}
+use Rattle.registers.specs.Words.{matches}
+use Rattle.registers.specs.Number.{number as readNumber, sign, point, switchedOn}
+use Rattle.registers.specs.Rounding.{rounded}
+use Rattle.registers.specs.Settings.{Kind, bool, words, number, kindOf, lowest, highest, within, conflict}
+use Rattle.registers.specs.Status.{widest}
+use Rattle.registers.specs.declared.settings.Settings.{Settings}
+use Rattle.registers.specs.declared.status.Register.{Register}
+use Rattle.interpreter.specs.Cuts.{cutAt, trim}
+use Rattle.interpreter.specs.declared.deed.Deed.{Deed}
+use Rattle.interpreter.specs.declared.deed.Deed.the-variants.{Change, Query}
+use Rattle.interpreter.specs.declared.deed.Change.the-variants.{Put, Store}
+use Rattle.interpreter.specs.declared.deed.Query.the-variants.{Limit, Value, Stored}
+use Rattle.interpreter.specs.declared.deed.Role.{Role}
+use Rattle.interpreter.specs.declared.deed.Role.the-variants.{Setting as setting, Register as register, Order, Question}
+use Rattle.interpreter.specs.declared.parameter.Given.{Given}
+use Rattle.interpreter.specs.declared.parameter.Given.the-variants.{Word, Figure}
+
+-- "commas part the parameters"
+unfoldable pub parameters : Text → List Text
+parameters t = if empty t then [] else map trim (cutAt (code ",") t)
+
+-- ---- check 4: "-108 too many parameters, -109 too few"; a number row's query has "one optional parameter"
+
+abbrev pub asksLimits : Kind → ℕ
+asksLimits bool = 0
+asksLimits (words ws) = 0
+asksLimits (number k low high) = 1
+
+unfoldable pub least : Role → Bool → ℕ
+least (setting i) asked = if asked then 0 else 1
+least (register r) asked = if asked then 0 else 1
+least (Order d) asked = 0
+least (Question d) asked = 0
+
+unfoldable pub greatest : Role → Bool → ℕ
+greatest (setting i) asked = if asked then asksLimits (kindOf i) else 1
+greatest (register r) asked = if asked then 0 else 1
+greatest (Order d) asked = 0
+greatest (Question d) asked = 0
+
+-- ---- checks 5 and 6
+
+-- a word of the row, by its place in the row's list: "-141 if it .. isn't a word of that row"
+unfoldable pub findWord : ℕ → List String → Text → Checked Given
+findWord i [] t = refused 141
+findWord i (w ∷ ws) t = if matches w t then passed (Word i) else findWord (suc i) ws t
+
+-- "First byte a letter: a word .. Digit, sign or point: a number; -104 if the row takes words only, or in any query. Any
+-- other first byte: -104"
+unfoldable pub parameter : List String → Bool → Text → Checked Given
+parameter ws numbers t =
+    if letter (first t) then check 141 (every wordByte t) >> findWord 0 ws t
+    else (if digit (first t) || sign (first t) || point (first t)
+    then (check 104 numbers >> readNumber t >>= λ d. passed (Figure d))
+    else refused 104)
+
+-- "Number rows also take MINimum and MAXimum, in the query too"
+abbrev pub limitWords : List String
+limitWords = "MINimum" ∷ "MAXimum" ∷ []
+
+abbrev pub wordsOf : Kind → List String
+wordsOf bool = "OFF" ∷ "ON" ∷ []
+wordsOf (words ws) = ws
+wordsOf (number k low high) = limitWords
+
+abbrev pub takesNumbers : Kind → Bool
+takesNumbers bool = true
+takesNumbers (words ws) = false
+takesNumbers (number k low high) = true
+
+-- ---- checks 7 and 8
+
+-- MINimum and MAXimum of a row
+abbrev pub limitAt : Settings → ℕ → ℕ → ℤ
+limitAt s i zero = lowest i
+limitAt s i (suc n) = highest s i
+
+-- the value that a parameter gives to setting i
+unfoldable pub valueGiven : Settings → ℕ → Kind → Given → ℤ
+valueGiven s i bool (Word n) = pos n
+valueGiven s i bool (Figure d) = if switchedOn d then pos 1 else pos 0
+valueGiven s i (words ws) (Word n) = pos n
+valueGiven s i (words ws) (Figure d) = pos 0
+valueGiven s i (number k low high) (Word n) = limitAt s i n
+valueGiven s i (number k low high) (Figure d) = rounded k d
+
+unfoldable pub settingDeed : Settings → ℕ → Text → Checked Deed
+settingDeed s i t =
+    parameter (wordsOf (kindOf i)) (takesNumbers (kindOf i)) t >>= λ g.
+    let v = valueGiven s i (kindOf i) g in
+    check 222 (within s i v) >> check 221 (not (conflict s i v)) >> passed (Change (Put i v))
+
+-- the query of a number row with MINimum or MAXimum
+abbrev pub limitGiven : Settings → ℕ → Given → ℤ
+limitGiven s i (Word n) = limitAt s i n
+limitGiven s i (Figure d) = pos 0
+
+unfoldable pub limitDeed : Settings → ℕ → Text → Checked Deed
+limitDeed s i t = parameter limitWords false t >>= λ g. passed (Query (Limit i (limitGiven s i g)))
+
+-- "Numbers here use step 1 and no MIN or MAX"
+abbrev pub registerGiven : Given → ℤ
+registerGiven (Word n) = pos n
+registerGiven (Figure d) = rounded 1 d
+
+unfoldable pub registerDeed : Register → Text → Checked Deed
+registerDeed r t =
+    parameter [] true t >>= λ g.
+    let v = registerGiven g in
+    check 222 (leZ (pos 0) v && leZ v (pos (widest r))) >> passed (Change (Store r (natAbs v)))
+
+-- checks 5 to 8; a parameter is there where check 4 asked for one
+unfoldable pub deedOf : Settings → Role → Bool → List Text → Checked Deed
+deedOf s (setting i) true [] = passed (Query (Value i))
+deedOf s (setting i) true (t ∷ ts) = limitDeed s i t
+deedOf s (setting i) false [] = refused 109
+deedOf s (setting i) false (t ∷ ts) = settingDeed s i t
+deedOf s (register r) true ts = passed (Query (Stored r))
+deedOf s (register r) false [] = refused 109
+deedOf s (register r) false (t ∷ ts) = registerDeed r t
+deedOf s (Order d) asked ts = passed d
+deedOf s (Question d) asked ts = passed d

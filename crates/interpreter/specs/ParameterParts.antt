@@ -1,0 +1,96 @@
+-- What the parameter reader's own functions say. Nothing of 01 is defined here: see Parameter.antt.
+use mathlib.Core.Path.{_≡_}
+use mathlib.Core.Bool.{Bool, true, not, _&&_}
+use mathlib.Core.List.{List, [], _∷_}
+use Prim.Native.Nat.{ℕ, _+_, _≤_}
+use Prim.Native.String.{String}
+use lib.Dec.{ltb, eqb}
+use lib.ListN.{length, take, drop}
+use lib.IntN.{ℤ, pos, natAbs}
+use lib.Signed.{leZ}
+use Rattle.registers.specs.Text.{Text, if_then_else_, wordByte, every, empty}
+use Rattle.registers.specs.Check.{Checked, refused, passed, _>>=_, _>>_, check}
+use Rattle.registers.specs.Errors.{numberOf}
+use Rattle.registers.specs.Number.{number, switchedOn}
+use Rattle.registers.specs.Settings.{within, conflict}
+use Rattle.registers.specs.Status.{widest}
+use Rattle.registers.specs.declared.number.Decimal.{Decimal}
+use Rattle.registers.specs.declared.rounding.Fit.{Fit}
+use Rattle.registers.specs.declared.rounding.Fit.the-variants.{Within, Outside}
+use Rattle.registers.specs.declared.settings.Settings.{Settings}
+use Rattle.registers.specs.declared.status.Register.{Register}
+use Rattle.interpreter.specs.RowsParts.{wordList}
+use Rattle.interpreter.specs.Parameter.{parameters, findWord}
+use Rattle.interpreter.specs.declared.deed.Deed.{Deed}
+use Rattle.interpreter.specs.declared.deed.Deed.the-variants.{Change}
+use Rattle.interpreter.specs.declared.deed.Change.the-variants.{Put, Store}
+use Rattle.interpreter.specs.declared.deed.Role.{Role}
+use Rattle.interpreter.specs.declared.deed.Role.the-variants.{Setting, Register as register, Order, Question}
+use Rattle.interpreter.specs.declared.parameter.Given.{Given}
+use Rattle.interpreter.specs.declared.parameter.Given.the-variants.{Word, Figure}
+use Rattle.interpreter.specs.declared.parameter.Parameter.{Parameter}
+use Rattle.interpreter.specs.declared.parameter.Parameter.the-variants.{Refused as noParameter, Given as aParameter}
+use Rattle.interpreter.specs.declared.parameter.Decision.{Decision}
+use Rattle.interpreter.specs.declared.parameter.Decision.the-variants.{Refused as noDeed, Obey}
+use Rattle.interpreter.specs.declared.parameter.Counted.{Counted}
+use Rattle.interpreter.specs.declared.parameter.Span.{Span}
+
+-- what the answers mean
+abbrev pub meantGiven : Parameter → Checked Given
+meantGiven (noParameter e) = refused (numberOf e)
+meantGiven (aParameter g) = passed g
+
+abbrev pub meantDeed : Decision → Checked Deed
+meantDeed (noDeed e) = refused (numberOf e)
+meantDeed (Obey d) = passed d
+
+pub record CountedIn (t : Text) (r : Counted) : Type 0 where
+  pub parts : r .parts ≡ length (parameters t)
+  pub full : r .full ≡ every (λ p. not (empty p)) (parameters t)
+
+-- words that stand together in the table
+abbrev pub spanWords : Span → List String
+spanWords s = take (s .count) (drop (s .first) wordList)
+
+pub record SpanIn (ws : List String) (r : Span) : Type 0 where
+  pub words : spanWords r ≡ ws
+  pub room : r .first + r .count ≤ 52
+
+-- check 5 on a word, and checks 5 and 6 on a number
+unfoldable pub aWord : List String → Text → Checked Given
+aWord ws t = check 141 (every wordByte t) >> findWord 0 ws t
+
+unfoldable pub aFigure : Bool → Text → Checked Given
+aFigure numbers t = check 104 numbers >> number t >>= λ d. passed (Figure d)
+
+-- a value, where it is within the limits
+unfoldable pub fitIn : Settings → ℕ → ℤ → Fit
+fitIn s i v = if within s i v then Within v else Outside
+
+unfoldable pub switchedTo : Decimal → ℤ
+switchedTo d = if switchedOn d then pos 1 else pos 0
+
+-- a word's place is one of the table
+abbrev pub placed : Given → Bool
+placed (Word n) = ltb n 52
+placed (Figure d) = true
+
+-- check 8 on a value of a setting that check 7 let pass, or not
+abbrev pub putFit : Settings → ℕ → Fit → Checked Deed
+putFit s i (Within v) = check 221 (not (conflict s i v)) >> passed (Change (Put i v))
+putFit s i Outside = refused 222
+
+-- check 7 on a number for a register
+unfoldable pub storeTo : Register → ℤ → Checked Deed
+storeTo x v = check 222 (leZ (pos 0) v && leZ v (pos (widest x))) >> passed (Change (Store x (natAbs v)))
+
+-- a setting's row is one of the sixteen
+abbrev pub settled : Role → Bool
+settled (Setting i) = ltb i 16
+settled (register r) = true
+settled (Order d) = true
+settled (Question d) = true
+
+-- the parameters of a text that has none, or one
+abbrev pub partsOf : ℕ → Text → List Text
+partsOf n t = if eqb n 0 then [] else t ∷ []

@@ -1,0 +1,80 @@
+-- The rows: every header that the box knows, with what it is for.
+use mathlib.Core.Bool.{Bool, true, false, not, _&&_}
+use mathlib.Core.List.{List, [], _∷_, _++_}
+use Prim.Native.Nat.{ℕ, suc}
+use Prim.Native.String.{String}
+use Rattle.registers.specs.Text.{Text, if_then_else_}
+use Rattle.registers.specs.Check.{Checked, refused, passed}
+use Rattle.registers.specs.Words.{Node, must, may}
+use Rattle.registers.specs.Settings.{Setting, table}
+use Rattle.registers.specs.declared.status.Register.{Register}
+use Rattle.interpreter.specs.Header.{spells}
+use Rattle.interpreter.specs.declared.deed.Role.{Role}
+use Rattle.interpreter.specs.declared.deed.Role.the-variants.{Setting as setting, Register as register, Order, Question}
+use Rattle.interpreter.specs.declared.deed.Deed.the-variants.{Change, Complete, Clear, Query, Inquire}
+use Rattle.interpreter.specs.declared.deed.Change.the-variants.{Nothing, Reset}
+use Rattle.interpreter.specs.declared.deed.Query.the-variants.{Identity, SelfTest, Completed, Condition, OperationEvents}
+use Rattle.interpreter.specs.declared.deed.Inquiry.the-variants.{StandardEvents, StatusByte, NextError}
+
+pub record Row : Type 0 where
+  pub star : Bool
+  pub nodes : List Node
+  pub role : Role
+
+abbrev pub plain : List Node → Role → Row
+plain nodes role = record { star = false; nodes = nodes; role = role }
+
+abbrev pub starred : String → Role → Row
+starred w role = record { star = true; nodes = must w ∷ []; role = role }
+
+abbrev pub operation : List Node → Role → Row
+operation nodes role = plain (must "STATus" ∷ must "OPERation" ∷ nodes) role
+
+-- "All have a query"
+unfoldable pub settingRows : ℕ → List Setting → List Row
+settingRows i [] = []
+settingRows i (s ∷ ss) = plain (s .nodes) (setting i) ∷ settingRows (suc i) ss
+
+-- "Registers and queue"
+unfoldable pub otherRows : List Row
+otherRows =
+    starred "IDN" (Question (Query Identity))
+    ∷ starred "TST" (Question (Query SelfTest))
+    ∷ starred "OPC" (Question (Query Completed))
+    ∷ starred "WAI" (Order (Change Nothing))
+    ∷ starred "OPC" (Order Complete)
+    ∷ starred "RST" (Order (Change Reset))
+    ∷ starred "CLS" (Order Clear)
+    ∷ starred "ESE" (register Register.Ese)
+    ∷ starred "SRE" (register Register.Sre)
+    ∷ starred "ESR" (Question (Inquire StandardEvents))
+    ∷ starred "STB" (Question (Inquire StatusByte))
+    ∷ operation (must "CONDition" ∷ []) (Question (Query Condition))
+    ∷ operation (may "EVENt" ∷ []) (Question (Query OperationEvents))
+    ∷ operation (must "ENABle" ∷ []) (register Register.Enable)
+    ∷ operation (must "NTRansition" ∷ []) (register Register.Ntr)
+    ∷ operation (must "PTRansition" ∷ []) (register Register.Ptr)
+    ∷ plain (must "SYSTem" ∷ must "ERRor" ∷ []) (Question (Inquire NextError))
+    ∷ []
+
+unfoldable pub rows : List Row
+rows = settingRows 0 table ++ otherRows
+
+-- "a query or a setting form the row lacks"
+abbrev pub hasForm : Bool → Role → Bool
+hasForm asked (setting i) = true
+hasForm asked (register r) = true
+hasForm asked (Order d) = not asked
+hasForm asked (Question d) = asked
+
+abbrev pub sameBool : Bool → Bool → Bool
+sameBool true b = b
+sameBool false b = not b
+
+unfoldable pub fitsRow : Bool → List Text → Bool → Row → Bool
+fitsRow star names asked r = sameBool star (r .star) && (hasForm asked (r .role) && spells (r .nodes) names)
+
+-- check 3: "-113 is raised exactly when no row .. spells the header"
+unfoldable pub findRow : Bool → List Text → Bool → List Row → Checked Role
+findRow star names asked [] = refused 113
+findRow star names asked (r ∷ rs) = if fitsRow star names asked r then passed (r .role) else findRow star names asked rs

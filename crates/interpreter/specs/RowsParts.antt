@@ -1,0 +1,82 @@
+-- How the code keeps the rows and the words: two tables of bytes, made of 01's rows. Nothing of 01 is defined here.
+use mathlib.Core.Bool.{Bool, true, false}
+use mathlib.Core.List.{List, [], _∷_, _++_, map}
+use Prim.Native.Nat.{ℕ, suc, _+_, _-_}
+use Prim.Native.String.{String}
+use lib.ListN.{length, getD, replicate}
+use Rattle.registers.specs.Text.{Text, if_then_else_, bytes, same}
+use Rattle.registers.specs.Words.{Node, must, may, shortForm, longForm}
+use Rattle.interpreter.specs.Rows.{Row, rows, hasForm, fitsRow}
+use Rattle.interpreter.specs.declared.deed.Role.{Role}
+use Rattle.interpreter.specs.declared.deed.Role.the-variants.{Setting}
+
+-- what a row is for
+unfoldable pub roleAt : ℕ → Role
+roleAt i = getD (map (λ (r : Row). r .role) rows) i (Setting i)
+
+-- ---- words: those of the headers, and from place 42 on those of the parameters, so that each row's words stand together
+
+unfoldable pub wordList : List String
+wordList =
+    "OUTPut" ∷ "STATe" ∷ "PON" ∷ "RELay" ∷ "MONitor" ∷ "MODE" ∷ "SOURce" ∷ "VOLTage" ∷ "LEVel" ∷ "IMMediate" ∷ "AMPLitude" ∷ "RANGe"
+    ∷ "FREQuency" ∷ "CURRent" ∷ "LIMit" ∷ "RMS" ∷ "PEAK" ∷ "TIME" ∷ "HIGH" ∷ "LOW" ∷ "DISPlay" ∷ "BRIGhtness" ∷ "SYSTem" ∷ "KLOCk"
+    ∷ "IDN" ∷ "TST" ∷ "OPC" ∷ "WAI" ∷ "RST" ∷ "CLS" ∷ "ESE" ∷ "SRE" ∷ "ESR" ∷ "STB" ∷ "STATus" ∷ "OPERation" ∷ "CONDition" ∷ "EVENt"
+    ∷ "ENABle" ∷ "NTRansition" ∷ "PTRansition" ∷ "ERRor"
+    ∷ "CURRent" ∷ "SCURrent" ∷ "VOLTage" ∷ "R12V" ∷ "R24V" ∷ "CONTinuous" ∷ "OFF" ∷ "ON" ∷ "MINimum" ∷ "MAXimum" ∷ []
+
+unfoldable pub wordAt : ℕ → String
+wordAt i = getD wordList i ""
+
+-- 16 bytes to a word: the lengths of its short and its long form, its letters, and zeros
+unfoldable pub wordRow : String → Text
+wordRow w = length (shortForm w) ∷ length (longForm w) ∷ longForm w ++ replicate (14 - length (longForm w)) 0
+
+unfoldable pub wordTableOf : List String → Text
+wordTableOf [] = []
+wordTableOf (w ∷ ws) = wordRow w ++ wordTableOf ws
+
+unfoldable pub wordTable : Text
+wordTable = wordTableOf wordList
+
+-- ---- rows
+
+-- a word's place in the list
+unfoldable pub placeIn : List String → String → ℕ
+placeIn [] w = 0
+placeIn (v ∷ vs) w = let more = suc (placeIn vs w) in if same (bytes v) (bytes w) then 0 else more
+
+-- a node's word, and 128 more if it is optional
+unfoldable pub nodeByte : Node → ℕ
+nodeByte (must w) = placeIn wordList w
+nodeByte (may w) = placeIn wordList w + 128
+
+abbrev pub bitIf : Bool → ℕ → ℕ
+bitIf true n = n
+bitIf false n = 0
+
+-- a row's forms as bits: 1 set and 2 asked, 4 and 8 if it is starred
+unfoldable pub formByte : Row → ℕ
+formByte r =
+    if r .star then bitIf (hasForm false (r .role)) 4 + bitIf (hasForm true (r .role)) 8
+    else bitIf (hasForm false (r .role)) 1 + bitIf (hasForm true (r .role)) 2
+
+-- 8 bytes to a row: its forms, how many nodes, the nodes, and zeros
+unfoldable pub rowRow : Row → Text
+rowRow r = formByte r ∷ length (r .nodes) ∷ map nodeByte (r .nodes) ++ replicate (6 - length (r .nodes)) 0
+
+unfoldable pub rowTableOf : List Row → Text
+rowTableOf [] = []
+rowTableOf (r ∷ rs) = rowRow r ++ rowTableOf rs
+
+unfoldable pub rowTable : Text
+rowTable = rowTableOf rows
+
+-- ---- the row that a search finds
+
+unfoldable pub firstFit : (Row → Bool) → List Row → ℕ
+firstFit p [] = 0
+firstFit p (r ∷ rs) = if p r then 0 else suc (firstFit p rs)
+
+-- the first row that spells the names in the form asked for, counted from 0; their number where none does
+unfoldable pub rowOf : Bool → List Text → Bool → ℕ
+rowOf star names asked = firstFit (fitsRow star names asked) rows

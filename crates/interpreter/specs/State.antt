@@ -1,0 +1,78 @@
+-- What a state of the code means, and what each of the five events says of it.
+use mathlib.Core.Path.{_≡_}
+use mathlib.Core.Bool.{Bool, true, false, _&&_}
+use Prim.Native.Nat.{ℕ, _+_, _≤_}
+use lib.Dec.{leb}
+use lib.ListN.{length, take}
+use Rattle.registers.specs.Text.{Text}
+use Rattle.registers.specs.Settings.{possibleSettings}
+use Rattle.registers.specs.Status.{registersOf, troubleOf, possibleStatus}
+use Rattle.registers.specs.declared.settings.Settings.{Settings}
+use Rattle.registers.specs.declared.status.Status.{Status}
+use Rattle.interpreter.specs.Box.{Box, box, powerUp, mostLine, mostAnswer}
+use Rattle.interpreter.specs.Line.{byte, piece, newlines}
+use Rattle.interpreter.specs.Events.{Event, Result, result, happened, happens, lent}
+use Rattle.interpreter.specs.LineParts.{boxHolding}
+use Rattle.interpreter.specs.declared.state.State.{State}
+use Rattle.interpreter.specs.declared.state.Flow.{Flow}
+use Rattle.interpreter.specs.declared.state.Outcome.{Outcome}
+use Rattle.interpreter.specs.declared.state.Outcome.the-variants.{Done, BufferTooShort, NoAnswer, ConditionTooWide, ImpossibleState}
+
+-- the numbers of 01's table
+abbrev pub numberOf : Outcome → ℕ
+numberOf Done = 0
+numberOf BufferTooShort = 1
+numberOf NoAnswer = 2
+numberOf ConditionTooWide = 3
+numberOf ImpossibleState = 4
+
+-- "The array places beyond a stored length mean nothing and two states differing only there are the same"
+abbrev pub boxOf : State → Box
+boxOf s =
+    box (record {
+      settings = s .settings;
+      registers = registersOf (s .status);
+      line = take (s .filled) (s .line);
+      overlong = s .overlong;
+      answer = take (s .waiting) (s .answer);
+    }) (troubleOf (s .status))
+
+-- number 4 on the record's own numbers: "a setting outside its limits, a queue above 16 .., a line above 512, an answer
+-- above 1,024, a register above its width .., *SRE with bit 6, a voltage above its range; not otherwise"
+unfoldable pub possibleParts : Settings → Status → ℕ → ℕ → Bool
+possibleParts settings status filled waiting =
+    possibleSettings settings && possibleStatus status && leb filled mostLine && leb waiting mostAnswer
+
+abbrev pub possibleState : State → Bool
+possibleState s = possibleParts (s .settings) (s .status) (s .filled) (s .waiting)
+
+-- an event on a state s left the result r and the state t
+pub record Happens (s : State) (e : Event) (r : Result) (t : State) : Type 0 where
+  pub possible : possibleState s ≡ true → (possibleState t ≡ true) × (happened r (boxOf t) ≡ happens (boxOf s) e)
+  pub impossible : possibleState s ≡ false → (t ≡ s) × (r ≡ result 4 0 (lent e))
+
+-- "Power-up: the first state"
+pub record Started (t : State) : Type 0 where
+  pub possible : possibleState t ≡ true
+  pub first : boxOf t ≡ powerUp
+
+-- ---- what the functions inside say
+
+abbrev pub flowBox : Flow → Text → Text → Box
+flowBox f line out = boxHolding (f .present) (take (f .filled) line) (f .overlong) (take (f .waiting) out)
+
+-- the three lengths
+pub record FlowFits (f : Flow) : Type 0 where
+  pub filled : f .filled ≤ mostLine
+  pub waiting : f .waiting ≤ mostAnswer
+  pub queued : f .present .status .queued ≤ 16
+
+pub record FlowEnded (f : Flow) (line out : Text) (r : Flow) (left : Text) : Type 0 where
+  pub fits : FlowFits r
+  pub box : flowBox r line left ≡ byte (flowBox f line out) 10
+  pub count : r .count ≡ f .count + 1
+
+pub record FlowFed (f : Flow) (line out bytes : Text) (r : Flow) (lines left : Text) : Type 0 where
+  pub fits : FlowFits r
+  pub box : flowBox r lines left ≡ piece (flowBox f line out) bytes
+  pub count : r .count ≡ newlines bytes

@@ -1,0 +1,37 @@
+-- Checks 1 to 8 on one unit. They see the settings, the path and the unit's bytes, and nothing else of the box.
+use mathlib.Core.Bool.{not, _||_}
+use mathlib.Core.List.{List}
+use lib.Dec.{leb}
+use lib.ListN.{length}
+use Rattle.registers.specs.Text.{Text, white, dark, printable, every, empty, start, after}
+use Rattle.registers.specs.Check.{Checked, passed, _>>=_, _>>_, check}
+use Rattle.registers.specs.declared.settings.Settings.{Settings}
+use Rattle.interpreter.specs.Cuts.{trim}
+use Rattle.interpreter.specs.Header.{header, fullNames, pathAfter, isCommon}
+use Rattle.interpreter.specs.Rows.{rows, findRow}
+use Rattle.interpreter.specs.Parameter.{parameters, least, greatest, deedOf}
+use Rattle.interpreter.specs.declared.deed.Deed.{Deed}
+
+-- what an accepted unit does, and the path that it leaves
+pub record Read : Type 0 where
+  pub deed : Deed
+  pub path : List Text
+
+-- "the header runs to the first white space"
+abbrev pub headerText : Text → Text
+headerText u = start dark (after white u)
+
+abbrev pub parameterText : Text → Text
+parameterText u = trim (after dark (after white u))
+
+unfoldable pub readUnit : Settings → List Text → Text → Checked Read
+readUnit s path u =
+    check 101 (every (λ b. white b || printable b) u) >>
+    header (headerText u) >>= λ h.
+    let ps = parameters (parameterText u) in
+    check 102 (every (λ p. not (empty p)) ps) >>
+    findRow (isCommon (h .place)) (fullNames (h .place) path (h .names)) (h .query) rows >>= λ r.
+    check 108 (leb (length ps) (greatest r (h .query))) >>
+    check 109 (leb (least r (h .query)) (length ps)) >>
+    deedOf s r (h .query) ps >>= λ d.
+    passed (record { deed = d; path = pathAfter (h .place) path (h .names) })

@@ -1,0 +1,71 @@
+-- What the unit reader's own functions say. Nothing of 01 is defined here: see Unit.antt.
+use mathlib.Core.Path.{_≡_}
+use mathlib.Core.Bool.{Bool, true, false, not}
+use Prim.Native.Nat.{ℕ, _+_, _≤_, _<_}
+use lib.Dec.{leb, ltb}
+use lib.ListN.{length, take}
+use Rattle.registers.specs.Text.{Text, if_then_else_, every, empty}
+use Rattle.registers.specs.Check.{Checked, refused, passed, _>>=_, _>>_, check}
+use Rattle.registers.specs.Errors.{numberOf}
+use Rattle.registers.specs.Settings.{within, conflict}
+use Rattle.registers.specs.Status.{widest}
+use Rattle.registers.specs.declared.settings.Settings.{Settings}
+use Rattle.interpreter.specs.Parameter.{parameters, least, greatest, deedOf}
+use Rattle.interpreter.specs.RowsParts.{roleAt}
+use Rattle.interpreter.specs.HeaderParts.{named, closed}
+use Rattle.interpreter.specs.Unit.{readUnit}
+use Rattle.interpreter.specs.declared.deed.Deed.{Deed}
+use Rattle.interpreter.specs.declared.deed.Deed.the-variants.{Change as change, Complete, Clear, Query as query, Inquire}
+use Rattle.interpreter.specs.declared.deed.Change.{Change}
+use Rattle.interpreter.specs.declared.deed.Change.the-variants.{Nothing, Put, Reset, Store}
+use Rattle.interpreter.specs.declared.deed.Query.{Query}
+use Rattle.interpreter.specs.declared.deed.Query.the-variants.{Identity, SelfTest, Completed, Limit, Value, Stored, Condition, OperationEvents}
+use Rattle.interpreter.specs.declared.deed.Role.{Role}
+use Rattle.interpreter.specs.declared.unit.Reading.{Reading}
+use Rattle.interpreter.specs.declared.unit.Reading.the-variants.{Refused, Obey}
+
+-- the role of the row that a search found: 33 is none
+unfoldable pub roleFound : ℕ → Checked Role
+roleFound row = if ltb row 33 then passed (roleAt row) else refused 113
+
+-- the checks behind the header
+unfoldable pub decided : Settings → ℕ → Bool → Text → Checked Deed
+decided s row asked t =
+    check 102 (every (λ p. not (empty p)) (parameters t)) >>
+    roleFound row >>= λ r.
+    check 108 (leb (length (parameters t)) (greatest r asked)) >>
+    check 109 (leb (least r asked) (length (parameters t))) >>
+    deedOf s r asked (parameters t)
+
+-- a unit is refused by an error's number, or leaves its deed and a path in the buffer
+abbrev pub UnitRead : Settings → Text → Text → Reading → Text → Type 0
+UnitRead s path u (Refused e) buffer = readUnit s (named path) u ≡ refused (numberOf e)
+UnitRead s path u (Obey d used) buffer =
+    (readUnit s (named path) u ≡ passed (record { deed = d; path = named (take used buffer) }))
+    × (closed (take used buffer) ≡ true)
+    × (used ≤ length path + length u)
+
+-- ---- what an accepted unit may do: what it stores is within its limits, and the settings that it names are there
+
+abbrev pub AllowedChange : Settings → Change → Type 0
+AllowedChange s Nothing = Unit {0}
+AllowedChange s (Put i v) = (i < 16) × (within s i v ≡ true) × (conflict s i v ≡ false)
+AllowedChange s Reset = Unit {0}
+AllowedChange s (Store x n) = n ≤ widest x
+
+abbrev pub AllowedQuery : Query → Type 0
+AllowedQuery Identity = Unit {0}
+AllowedQuery SelfTest = Unit {0}
+AllowedQuery Completed = Unit {0}
+AllowedQuery (Limit i v) = i < 16
+AllowedQuery (Value i) = i < 16
+AllowedQuery (Stored x) = Unit {0}
+AllowedQuery Condition = Unit {0}
+AllowedQuery OperationEvents = Unit {0}
+
+abbrev pub Allowed : Settings → Deed → Type 0
+Allowed s (change c) = AllowedChange s c
+Allowed s Complete = Unit {0}
+Allowed s Clear = Unit {0}
+Allowed s (query q) = AllowedQuery q
+Allowed s (Inquire q) = Unit {0}

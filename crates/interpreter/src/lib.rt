@@ -1,0 +1,14 @@
+// The upper crate of the bench box: lines, headers, units and answers, and the state with its five
+// events. It sees the lower crate's statements only.
+//
+// A caller needs `state` alone: State::power_up, piece, take, condition and look. None of them has a
+// `requires`; each says of any record and any bytes what it answers.
+pub mod deed;
+mod header;
+mod line;
+mod parameter;
+mod perform;
+mod reply;
+pub mod state;
+mod tables;
+mod unit;

@@ -1,0 +1,98 @@
+// Answers: what each query writes into the tail that it is lent, behind what earlier units of the
+// line wrote.
+use crate::deed::Inquiry;
+use crate::deed::Query;
+use crate::parameter;
+use registers::answer;
+use registers::error;
+use registers::settings::Settings;
+use registers::settings::Values;
+use registers::status::Status;
+ghost use mathlib.Core.Path.{_≡_};
+ghost use Prim.Native.Nat.{_<_};
+ghost use Rattle.registers.specs.Answer.{Laid};
+ghost use Rattle.registers.specs.Words.{shortForm};
+ghost use Rattle.registers.specs.Settings.{kindOf, answerOf};
+ghost use Rattle.interpreter.specs.Deeds.{replyTo};
+ghost use Rattle.interpreter.specs.RowsParts.{wordTable, wordAt};
+ghost use Rattle.interpreter.specs.DeedsParts.{coreIn, placeText, inquiryText};
+ghost use Rattle.interpreter.specs.UnitParts.{AllowedQuery};
+
+// A word in its short form.
+fn write_word(words: &[u8], word: usize, tail: &mut [u8]) -> usize
+    requires { ⌜ (now words ≡ wordTable) × (word < 52) ⌝ }
+    ensures { λ r. ⌜ Laid (shortForm (wordAt word)) (now (tail .entry)) r (now (tail .exit)) ⌝ }
+{
+    let start = word * 16 + 2;
+    let end = start + words[word * 16] as usize;
+    answer::write_text(&words[start..end], tail)
+}
+
+// The word of a setting by its place; a place that has no word writes nothing.
+fn write_place(words: &[u8], row: usize, value: i32, tail: &mut [u8]) -> usize
+    requires { ⌜ (now words ≡ wordTable) × (row < 16) ⌝ }
+    ensures { λ r. ⌜ Laid (placeText row value) (now (tail .entry)) r (now (tail .exit)) ⌝ }
+{
+    let span = parameter::words_of(row);
+    if value < 0 {
+        return 0;
+    }
+    let place = value as usize;
+    if span.count <= place {
+        return 0;
+    }
+    write_word(words, span.first + place, tail)
+}
+
+// A value of a setting.
+fn write_value(words: &[u8], row: usize, value: i32, tail: &mut [u8]) -> usize
+    requires { ⌜ (now words ≡ wordTable) × (row < 16) ⌝ }
+    ensures { λ r. ⌜ Laid (answerOf (kindOf row) value) (now (tail .entry)) r (now (tail .exit)) ⌝ }
+{
+    let values = Settings::values_of(row);
+    match values {
+        Values::Word => write_place(words, row, value, tail),
+        Values::Tenths => answer::write_tenths(value, tail),
+        Values::Whole => answer::write_whole(value, tail),
+        Values::Bool => answer::write_whole(value, tail),
+    }
+}
+
+// The answer to a query that sees settings and registers alone.
+pub(crate) fn write_query(
+    words: &[u8],
+    settings: Settings,
+    status: Status,
+    query: Query,
+    tail: &mut [u8],
+) -> usize
+    requires { ⌜ (now words ≡ wordTable) × AllowedQuery query ⌝ }
+    ensures { λ r. ⌜ Laid (replyTo query (coreIn settings status)) (now (tail .entry)) r (now (tail .exit)) ⌝ }
+{
+    match query {
+        Query::Identity => answer::write_text(b"COURSE,BENCH24,0,4.00", tail),
+        Query::SelfTest => answer::write_text(b"0", tail),
+        Query::Completed => answer::write_text(b"1", tail),
+        Query::Limit { row, value } => write_value(words, row, value, tail),
+        Query::Value(row) => write_value(words, row, settings.value(row), tail),
+        Query::Stored(register) => answer::write_decimal(status.register(register) as u32, tail),
+        Query::Condition => answer::write_decimal(status.operation.condition as u32, tail),
+        Query::OperationEvents => answer::write_decimal(status.operation.event as u32, tail),
+    }
+}
+
+// The answer to one that sees the event status register or the error queue.
+pub(crate) fn write_inquiry(
+    status: Status,
+    answers: bool,
+    inquiry: Inquiry,
+    tail: &mut [u8],
+) -> usize
+    ensures { λ r. ⌜ Laid (inquiryText inquiry status answers) (now (tail .entry)) r (now (tail .exit)) ⌝ }
+{
+    match inquiry {
+        Inquiry::StandardEvents => answer::write_decimal(status.events as u32, tail),
+        Inquiry::StatusByte => answer::write_decimal(status.status_byte(answers) as u32, tail),
+        Inquiry::NextError => error::write_error(status.oldest(), tail),
+    }
+}

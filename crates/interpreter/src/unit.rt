@@ -1,0 +1,125 @@
+// Checks 1 to 8 on one unit, a part of the line where it stands.
+use crate::deed;
+use crate::deed::Deed;
+use crate::header;
+use crate::header::Looked;
+use crate::parameter;
+use crate::parameter::Decision;
+use registers::error::Error;
+use registers::settings::Settings;
+use registers::text;
+ghost use mathlib.Core.Path.{_≡_};
+ghost use mathlib.Core.Bool.{true, _||_};
+ghost use Prim.Native.Nat.{_+_, _≤_};
+ghost use lib.ListN.{length, take};
+ghost use Rattle.registers.specs.Text.{every, white, printable};
+ghost use Rattle.interpreter.specs.Cuts.{trim, trimEnd};
+ghost use Rattle.interpreter.specs.RowsParts.{rowTable, wordTable};
+ghost use Rattle.interpreter.specs.HeaderParts.{closed};
+ghost use Rattle.interpreter.specs.ParameterParts.{meantDeed};
+ghost use Rattle.interpreter.specs.UnitParts.{decided, UnitRead};
+
+// What checks 1 to 8 say of a unit: the error that refuses it, or its deed and how much of the
+// path's buffer the path takes that it leaves.
+pub(crate) enum Reading {
+    Refused(Error),
+    Obey { deed: Deed, used: usize },
+}
+
+// Check 1.
+fn all_allowed(unit: &[u8]) -> bool
+    ensures { λ r. ⌜ r ≡ every (λ b. white b || printable b) (now (unit .entry)) ⌝ }
+{
+    let mut i: usize = 0;
+    while i < unit.len() {
+        let b = unit[i];
+        if !(text::is_white(b) | ((33 <= b) & (b <= 126))) {
+            return false;
+        }
+        i += 1;
+    }
+    true
+}
+
+// Where a text ends without the white space at its end.
+fn trimmed_end(text: &[u8]) -> usize
+    ensures { λ r. ⌜ (take r (now (text .entry)) ≡ trimEnd (now (text .entry))) × (r ≤ length (now (text .entry))) ⌝ }
+{
+    let mut e = text.len();
+    while 0 < e {
+        if !text::is_white(text[e - 1]) {
+            return e;
+        }
+        e -= 1;
+    }
+    0
+}
+
+// Checks 2 to 8 behind the header, on the parameters' text without white space around it.
+fn decide(words: &[u8], settings: Settings, row: usize, asked: bool, text: &[u8]) -> Decision
+    requires { ⌜ (now words ≡ wordTable) × (row ≤ 33) × (trim (now text) ≡ now text) ⌝ }
+    ensures { λ r. ⌜ meantDeed r ≡ decided settings row asked (now (text .entry)) ⌝ }
+{
+    let counted = parameter::count(text);
+    if !counted.full {
+        return Decision::Refused(Error::Syntax);
+    }
+    if row == header::ROWS {
+        return Decision::Refused(Error::UndefinedHeader);
+    }
+    let role = deed::role_of(row);
+    let parts = counted.parts;
+    if parameter::most(role, asked) < parts {
+        return Decision::Refused(Error::ParameterNotAllowed);
+    }
+    if parts < parameter::fewest(role, asked) {
+        return Decision::Refused(Error::MissingParameter);
+    }
+    parameter::decide(words, settings, role, asked, parts, text)
+}
+
+// The same on all that stands behind the header.
+fn decide_behind(words: &[u8], settings: Settings, row: usize, asked: bool, rest: &[u8]) -> Decision
+    requires { ⌜ (now words ≡ wordTable) × (row ≤ 33) ⌝ }
+    ensures { λ r. ⌜ meantDeed r ≡ decided settings row asked (trim (now (rest .entry))) ⌝ }
+{
+    let start = text::white_end(rest, 0);
+    let behind = &rest[start..];
+    let end = trimmed_end(behind);
+    decide(words, settings, row, asked, &behind[0..end])
+}
+
+// Reads a unit after the path in the path's buffer.
+pub(crate) fn read(
+    rows: &[u8],
+    words: &[u8],
+    settings: Settings,
+    path: &mut [u8],
+    used: usize,
+    unit: &[u8],
+) -> Reading
+    requires { ⌜ (now rows ≡ rowTable) × (now words ≡ wordTable) ⌝ }
+    requires { ⌜ (used + length (now unit) ≤ length (now path)) × (closed (take used (now path)) ≡ true) ⌝ }
+    ensures { λ r. ⌜ UnitRead settings (take used (now (path .entry))) (now (unit .entry)) r (now (path .exit)) ⌝ }
+{
+    if !all_allowed(unit) {
+        return Reading::Refused(Error::InvalidCharacter);
+    }
+    let start = text::white_end(unit, 0);
+    let end = text::dark_end(unit, start);
+    let looked = header::look_up(rows, words, path, used, &unit[start..end]);
+    match looked {
+        Looked::Bad => Reading::Refused(Error::Syntax),
+        Looked::At {
+            row,
+            used: left,
+            asked,
+        } => {
+            let decision = decide_behind(words, settings, row, asked, &unit[end..]);
+            match decision {
+                Decision::Refused(e) => Reading::Refused(e),
+                Decision::Obey(deed) => Reading::Obey { deed, used: left },
+            }
+        }
+    }
+}
