@@ -13,3 +13,4 @@ pub mod Settings
 pub mod SettingsParts
 pub mod Group
 pub mod Status
+pub mod Examples
