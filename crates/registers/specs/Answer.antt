@@ -1,4 +1,5 @@
--- What answers are made of: plain integers, one decimal for step 0.1, and how a text stands in a lent tail.
+-- "The sixteen settings", its last paragraph: plain integers and one decimal for step 0.1. "Registers and queue": "Register
+-- answers are decimal". And how a text stands in a lent tail.
 use mathlib.Core.Path.{_≡_}
 use mathlib.Core.List.{[], _∷_, _++_}
 use Prim.Native.Nat.{ℕ, zero, suc, _+_, _/_, _%_}
@@ -25,7 +26,7 @@ decimal n = inPlaces 20 n
 unfoldable pub tenths : ℕ → Text
 tenths n = decimal (n / 10) ++ code "." ∷ decimal (n % 10)
 
--- with its sign: "`-0.5`, `0.0`, never `-0.0`"
+-- a text with its sign: "`-0.5`, `0.0`, never `-0.0`", since only a number below zero has a minus
 abbrev pub signedText : (ℕ → Text) → ℤ → Text
 signedText f (pos n) = f n
 signedText f (negsuc n) = code "-" ∷ f (suc n)
@@ -38,7 +39,8 @@ over [] tail = tail
 over (b ∷ text) [] = []
 over (b ∷ text) (x ∷ tail) = b ∷ over text tail
 
--- what every writer says: its result is the length of its text, whether or not all of it had room, and each byte of the tail
+-- what every writer says: its result r is the length of its text, whether or not all of it had room, and its text stands over
+-- the tail that it was lent
 pub record Laid (text before : Text) (r : ℕ) (tail : Text) : Type 0 where
   pub long : r ≡ length text
   pub bytes : tail ≡ over text before

@@ -1,4 +1,4 @@
--- 01's checks are made in order: each passes, or refuses by an error's number and ends the chain. 222 stands for -222.
+-- "The checks on one unit, in order": each passes, or refuses by an error's number and ends the chain. 222 stands for -222.
 use mathlib.Core.Bool.{Bool, true, false}
 use Prim.Native.Nat.{ℕ}
 
@@ -6,6 +6,7 @@ pub data Checked {ℓ} (A : Type ℓ) : Type ℓ where
   refused : ℕ → Checked A
   passed : A → Checked A
 
+-- a check, and then a check that uses what the first found; or one that doesn't
 infixr 20 _>>=_ _>>_
 unfoldable pub _>>=_ {ℓ κ} : {A : Type ℓ} {B : Type κ} → Checked A → (A → Checked B) → Checked B
 refused n >>= f = refused n

@@ -1,4 +1,5 @@
--- The errors that 01 raises: their numbers, the event bit of each, and the texts of SCPI-99. 222 stands for -222.
+-- "Registers and queue": the errors that 01 raises, their numbers, the event bit of each, their texts in SCPI-99, and the numbers
+-- that may stand in the queue. 222 stands for -222.
 use mathlib.Core.Bool.{Bool, false, _||_}
 use mathlib.Core.List.{List, [], _∷_, _++_}
 use Prim.Native.Nat.{ℕ, _^_}
@@ -30,7 +31,7 @@ numberOf QueryInterrupted = 410
 numberOf QueryUnterminated = 420
 numberOf QueryDeadlocked = 430
 
--- what a full queue's sixteenth turns into
+-- -350, which a full queue's sixteenth turns into
 abbrev pub overflow : ℕ
 overflow = 350
 
@@ -72,10 +73,11 @@ unfoldable pub errorText : ℕ → Text
 errorText n =
     (if eqb n 0 then [] else code "-" ∷ []) ++ decimal n ++ code "," ∷ code "\"" ∷ bytes (messageIn messages n) ++ code "\"" ∷ []
 
--- the numbers that 01 puts into the queue
+-- the numbers that 01 puts into the queue: refusal 4 speaks of "a number this paper never puts there"
 unfoldable pub queueable : List ℕ
 queueable = 101 ∷ 102 ∷ 104 ∷ 108 ∷ 109 ∷ 113 ∷ 121 ∷ 123 ∷ 124 ∷ 138 ∷ 141 ∷ 221 ∷ 222 ∷ 350 ∷ 363 ∷ 410 ∷ 420 ∷ 430 ∷ []
 
+-- a number is in a list
 abbrev pub among : ℕ → List ℕ → Bool
 among n [] = false
 among n (x ∷ xs) = eqb x n || among n xs

@@ -1,11 +1,11 @@
--- A register group: condition, event, enable, PTR and NTR of STATus:OPERation.
+-- "Registers and queue": a register group, the condition, event, enable, PTR and NTR of STATus:OPERation.
 use Prim.Native.Nat.{ℕ}
 use lib.Bits.{bitAnd, bitOr, bitXor}
 use mathlib.Core.Bool.{Bool, _&&_}
 use lib.Dec.{leb}
 use Rattle.registers.specs.declared.group.Group.{Group}
 
--- "32,767 for the others"
+-- refusal 4: "32,767 for the others"
 abbrev pub widestGroup : ℕ
 widestGroup = 32767
 
@@ -20,7 +20,7 @@ falls old new = bitAnd (bitXor old new) old
 unfoldable pub eventsAfter : ℕ → Group → ℕ
 eventsAfter new g = bitOr (g .event) (bitOr (bitAnd (rises (g .condition) new) (g .ptr)) (bitAnd (falls (g .condition) new) (g .ntr)))
 
--- the box reports the condition
+-- the group after the box reported the condition
 unfoldable pub conditionIs : ℕ → Group → Group
 conditionIs new g =
     record { condition = new; event = eventsAfter new g; enable = g .enable; ptr = g .ptr; ntr = g .ntr }
@@ -29,6 +29,7 @@ conditionIs new g =
 unfoldable pub eventRead : Group → Group
 eventRead g = record { condition = g .condition; event = 0; enable = g .enable; ptr = g .ptr; ntr = g .ntr }
 
+-- the group with another enable, PTR or NTR: no event comes of it
 abbrev pub withEnable : ℕ → Group → Group
 withEnable n g = record { condition = g .condition; event = g .event; enable = n; ptr = g .ptr; ntr = g .ntr }
 

@@ -1,3 +1,5 @@
+-- The definitions that the contracts cite, in the words of document 01. A file whose name ends in `Parts` holds only what private
+-- functions say; `Examples` has the worked values.
 pub mod Text
 pub mod Check
 pub mod Words
@@ -13,3 +15,4 @@ pub mod Settings
 pub mod SettingsParts
 pub mod Group
 pub mod Status
+pub mod Examples

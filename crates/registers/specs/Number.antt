@@ -1,4 +1,5 @@
--- Check 6: a number as it is written, its exact decimal value, and the four refusals in their order.
+-- Check 6: a number as it is written, its exact decimal value, and the four refusals in their order. And what a number means for
+-- a bool ("The sixteen settings").
 use mathlib.Core.Bool.{Bool, not, _&&_, _||_}
 use mathlib.Core.List.{[], _∷_, _++_}
 use Prim.Native.Nat.{ℕ, _+_, _-_, _*_}
@@ -20,6 +21,7 @@ sign b = eqb b (code "+") || eqb b (code "-")
 abbrev pub point : ℕ → Bool
 point b = eqb b (code ".")
 
+-- a text without the sign that it may start with
 unfoldable pub afterSign : Text → Text
 afterSign t = if sign (first t) then rest t else t
 
@@ -41,6 +43,7 @@ afterExponent t = if empty (exponentOf t) then t else after digit (afterSign (re
 unfoldable pub lowering : Text → Bool
 lowering t = not (empty (exponentOf t)) && eqb (first (rest t)) (code "-")
 
+-- the parts of a number as it is written
 pub record Written : Type 0 where
   pub minus : Bool  -- its sign is a minus
   pub whole : Text  -- the digits before the point
@@ -83,6 +86,7 @@ decimalOf minus digits places lowers exponent =
       down = if lowers then places + exponent else places - exponent;
     }
 
+-- of a number as it is written
 unfoldable pub valueOf : Written → Decimal
 valueOf w = decimalOf (w .minus) (numeral (w .whole ++ w .fraction)) (length (w .fraction)) (w .lowers) (numeral (w .exponent))
 
@@ -100,6 +104,7 @@ mostExponent = 9
 unfoldable pub remains : Text → Checked (Unit {0})
 remains t = if letter (first t) then refused 138 else check 121 (empty t)
 
+-- check 6: the value of a parameter, or the first of its refusals; "also if there is no such start"
 unfoldable pub number : Text → Checked Decimal
 number t =
     let w = written t in
@@ -111,10 +116,11 @@ number t =
 
 -- ---- what the reader's answer means
 
+-- a refusal by 01's number, a number by its value
 abbrev pub meant : Reading → Checked Decimal
 meant (Refused e) = refused (numberOf e)
 meant (Number d) = passed d
 
--- "zero is off, any other is on"
+-- a bool is "ON, OFF, or a number: zero is off, any other is on"
 unfoldable pub switchedOn : Decimal → Bool
 switchedOn d = not (eqb (d .digits) 0)

@@ -12,17 +12,18 @@ use Rattle.registers.specs.declared.rounding.Fit.the-variants.{Within, O
 unfoldable pub nearest : ℕ → ℕ → ℕ
 nearest num den = (2 * num + den) / (2 * den)
 
+-- a size with its sign
 abbrev pub signed : Bool → ℕ → ℤ
 signed true n = negℤ (pos n)
 signed false n = pos n
 
--- a value's size in steps of which k make one, rounded; and with its sign, so that a half goes away from zero
+-- a value's size in steps of which k make one, rounded; and the value with its sign, so that a half goes away from zero
 unfoldable pub sizeIn : ℕ → Decimal → ℕ
 sizeIn k d = nearest (d .digits * 10 ^ d .up * k) (10 ^ d .down)
 
 unfoldable pub rounded : ℕ → Decimal → ℤ
 rounded k d = signed (d .minus) (sizeIn k d)
 
--- rounded, and only then compared with the lowest and the highest value
+-- rounded, and only then compared with the lowest and the highest value; `Outside` is -222
 unfoldable pub fitted : ℕ → ℤ → ℤ → Decimal → Fit
 fitted k low high d = if leZ low (rounded k d) && leZ (rounded k d) high then Within (rounded k d) else Outside

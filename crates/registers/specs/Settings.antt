@@ -1,4 +1,5 @@
--- The sixteen settings: headers, values, steps, limits and values at *RST, and how a value is answered.
+-- "The sixteen settings": headers, values, steps, limits and values at *RST, and how a value is answered. Checks 7 and 8, and
+-- refusal 4 on the settings, by these limits.
 -- A bool is 0 or 1, a word its place in its list from 0, and a number is counted in its steps.
 use mathlib.Core.Bool.{Bool, not, _&&_}
 use mathlib.Core.List.{List, [], _∷_, map}
@@ -15,11 +16,13 @@ use Rattle.registers.specs.declared.settings.Settings.{Settings}
 use Rattle.registers.specs.declared.settings.Values.{Values}
 use Rattle.registers.specs.declared.settings.Values.the-variants.{Bool as BoolValue, Word, Tenths, Whole}
 
+-- what a row's values are
 pub data Kind : Type 0 where
   bool : Kind
   words : List String → Kind
   number : ℕ → ℤ → ℤ → Kind  -- how many steps make one; the lowest and the highest value, in steps
 
+-- a row of the table
 pub record Setting : Type 0 where
   pub nodes : List Node
   pub kind : Kind
@@ -66,6 +69,7 @@ voltage = 4
 abbrev pub range : ℕ
 range = 5
 
+-- the row at a place; behind the table a bool that has no header
 unfoldable pub settingAt : ℕ → Setting
 settingAt i = getD table i (row [] bool (pos 0))
 
@@ -74,6 +78,7 @@ kindOf i = settingAt i .kind
 
 -- ---- the values of all settings
 
+-- the value of a row, and other settings that differ in it alone
 abbrev pub valueAt : Settings → ℕ → ℤ
 valueAt s i = getD (s .values) i (pos 0)
 
@@ -86,6 +91,7 @@ atReset = record { values = map (λ (x : Setting). x .reset) table }
 
 -- ---- limits
 
+-- the lowest and the highest value of a row, whatever the range
 abbrev pub lowestOf : Kind → ℤ
 lowestOf bool = pos 0
 lowestOf (words ws) = pos 0
@@ -104,6 +110,7 @@ twelveVolts = pos 120
 unfoldable pub wideRange : Settings → Bool
 wideRange s = leZ (pos 1) (valueAt s range)
 
+-- the lowest and the highest value of a row
 unfoldable pub lowest : ℕ → ℤ
 lowest i = lowestOf (kindOf i)
 
@@ -137,12 +144,13 @@ abbrev pub wordText : List String → ℤ → Text
 wordText ws (pos n) = shortForm (wordAt ws n)
 wordText ws (negsuc n) = []
 
+-- a row's value as it is answered
 unfoldable pub answerOf : Kind → ℤ → Text
 answerOf bool v = signedText decimal v
 answerOf (words ws) v = wordText ws v
 answerOf (number k low high) v = signedText (if eqb k 10 then tenths else decimal) v
 
--- what the code's answer says of a row's values
+-- a row's kind of values as the code names it
 abbrev pub valuesIn : Kind → Values
 valuesIn bool = BoolValue
 valuesIn (words ws) = Word

@@ -1,12 +1,12 @@
--- Registers, error queue and status byte. `Trouble` is the event status register and the error queue, all that a refused
--- unit adds to; `Registers` is what it leaves alone.
+-- "Registers and queue": registers, error queue and status byte; refusals 3 and 4 on them. `Trouble` is the event status
+-- register and the error queue, all that a refused unit adds to; `Registers` is what it leaves alone.
 use mathlib.Core.Bool.{Bool, true, false, not, _&&_}
 use mathlib.Core.List.{List, [], _∷_, _++_}
 use Prim.Native.Nat.{ℕ, _+_, _-_, _^_}
 use lib.Dec.{leb, ltb, eqb}
-use lib.ListN.{length, take, drop, set}
+use lib.ListN.{length, take, drop, set, replicate}
 use lib.Bits.{bitAnd, bitOr}
-use Rattle.registers.specs.Text.{if_then_else_, every, empty, first, rest}
+use Rattle.registers.specs.Text.{if_then_else_, every, empty, rest}
 use Rattle.registers.specs.Errors.{eventBit, overflow, known}
 use Rattle.registers.specs.Group.{conditionIs, eventRead, withEnable, withPtr, withNtr, possibleGroup, groupAtStart, widestGroup}
 use Rattle.registers.specs.declared.group.Group.{Group}
@@ -44,6 +44,7 @@ raised n t =
     then record { events = bitOr (t .events) (eventBit n); queue = t .queue ++ n ∷ [] }
     else record { events = bitOr (bitOr (t .events) (eventBit n)) (eventBit overflow); queue = take 15 (t .queue) ++ overflow ∷ [] }
 
+-- what *CLS leaves
 abbrev pub noTrouble : Trouble
 noTrouble = record { events = 0; queue = [] }
 
@@ -76,6 +77,7 @@ widest Ptr = widestGroup
 unfoldable pub withoutBit6 : ℕ → ℕ
 withoutBit6 n = n - bitAnd n (2 ^ 6)
 
+-- a register takes a value, whatever its width
 unfoldable pub storedIn : Register → ℕ → Registers → Registers
 storedIn Ese n r = record { ese = n; sre = r .sre; operation = r .operation }
 storedIn Sre n r = record { ese = r .ese; sre = withoutBit6 n; operation = r .operation }
@@ -83,6 +85,7 @@ storedIn Enable n r = withOperation (withEnable n (r .operation)) r
 storedIn Ntr n r = withOperation (withNtr n (r .operation)) r
 storedIn Ptr n r = withOperation (withPtr n (r .operation)) r
 
+-- what its query answers
 unfoldable pub registerIn : Register → Registers → ℕ
 registerIn Ese r = r .ese
 registerIn Sre r = r .sre
@@ -96,6 +99,7 @@ operationRead r = withOperation (eventRead (r .operation)) r
 
 -- ---- the status byte
 
+-- the weight of bit k where it is set
 abbrev pub bitIf : Bool → ℕ → ℕ
 bitIf true k = 2 ^ k
 bitIf false k = 0
@@ -104,7 +108,8 @@ bitIf false k = 0
 abbrev pub meet : ℕ → ℕ → Bool
 meet a b = not (eqb (bitAnd a b) 0)
 
--- "bit 7 operation event AND its enable is not 0; bit 5 the same for *ESR and *ESE; bit 4 an answer has bytes; bit 2 queue not empty"
+-- "bit 7 operation event AND its enable is not 0; bit 5 the same for *ESR and *ESE; bit 4 an answer has bytes, ..; bit 2 queue not
+-- empty"
 unfoldable pub summary : Registers → Trouble → Bool → ℕ
 summary r t answers =
     bitIf (meet (r .operation .event) (r .operation .enable)) 7
@@ -118,15 +123,15 @@ statusByte r t answers = summary r t answers + bitIf (meet (summary r t answers)
 
 -- ---- refusal 4: what couldn't be the box's
 
--- "a register above its width (255 for the event status register, *ESE and *SRE ..), *SRE with bit 6"
+-- "a register above its width (255 for .. *ESE and *SRE, 32,767 for the others), *SRE with bit 6"
 unfoldable pub possibleRegisters : Registers → Bool
 possibleRegisters r = leb (r .ese) 255 && leb (r .sre) 255 && eqb (bitAnd (r .sre) (2 ^ 6)) 0 && possibleGroup (r .operation)
 
--- "a queue above 16 or holding a number this paper never puts there"
+-- "a queue above 16 or holding a number this paper never puts there"; the event status register above 255
 unfoldable pub possibleTrouble : Trouble → Bool
 possibleTrouble t = leb (length (t .queue)) most && (leb (t .events) 255 && every known (t .queue))
 
--- the record's own queue length is tested, not the list cut to it
+-- the record's own queue length is tested, since `troubleOf` cuts the queue to its sixteen places
 unfoldable pub possibleStatus : Status → Bool
 possibleStatus s = leb (s .queued) most && (possibleRegisters (registersOf s) && possibleTrouble (troubleOf s))
 
@@ -141,24 +146,27 @@ abbrev pub withTrouble : ℕ → ℕ → List ℕ → Status → Status
 withTrouble events queued errors s =
     record { events = events; ese = s .ese; sre = s .sre; operation = s .operation; queued = queued; errors = errors }
 
+-- an error raised, as `raised` says; a queue length above 16 counts as full
 unfoldable pub raisedIn : ℕ → Status → Status
 raisedIn n s =
     if ltb (s .queued) most
     then withTrouble (bitOr (s .events) (eventBit n)) (s .queued + 1) (set (s .errors) (s .queued) n) s
     else withTrouble (bitOr (bitOr (s .events) (eventBit n)) (eventBit overflow)) (s .queued) (set (s .errors) 15 overflow) s
 
--- *CLS
+-- "*CLS clears the event status register, the operation event register and the queue, nothing else"
 unfoldable pub clearedIn : Status → Status
 clearedIn s = withRegisters (operationRead (registersOf s)) (withTrouble 0 0 (s .errors) s)
 
+-- another event status register: 0 once *ESR? has read it, with bit 0 after *OPC
 unfoldable pub eventsIn : ℕ → Status → Status
 eventsIn n s = withTrouble n (s .queued) (s .errors) s
 
+-- the oldest error removed, as `oldestRead` says; the numbers move up and a 0 comes behind them
 unfoldable pub oldestReadIn : Status → Status
 oldestReadIn s =
     if eqb (s .queued) 0 then s else withTrouble (s .events) (s .queued - 1) (drop 1 (s .errors) ++ 0 ∷ []) s
 
--- a condition is reported; refusal 3: one "above 32,767" is none
+-- a condition is reported; refusal 3: a value "above 32,767" leaves all "unchanged"
 unfoldable pub reportedIn : ℕ → Status → Status
 reportedIn n s = if leb n widestGroup then withRegisters (withOperation (conditionIs n (s .operation)) (registersOf s)) s else s
 
@@ -170,4 +178,4 @@ registerSet x n s = if leb n (widest x) then withRegisters (storedIn x n (regist
 
 unfoldable pub atStart : Status
 atStart =
-    record { events = 128; ese = 0; sre = 0; operation = groupAtStart; queued = 0; errors = lib.ListN.replicate most 0 }
+    record { events = 128; ese = 0; sre = 0; operation = groupAtStart; queued = 0; errors = replicate most 0 }

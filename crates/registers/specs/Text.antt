@@ -1,4 +1,5 @@
--- A text is the list of its bytes. The kinds of bytes that 01 names, and the parts of a text that a rule speaks of.
+-- A text is the list of its bytes. The kinds of bytes that 01 names ("Lines and units", checks 1, 2 and 5), and the parts of a
+-- text that its rules speak of.
 use mathlib.Core.Bool.{Bool, true, false, not, _&&_, _||_}
 use mathlib.Core.List.{List, [], _∷_}
 use Prim.Native.Nat.{ℕ, zero, suc, _-_}
@@ -29,14 +30,15 @@ between low high b = leb low b && leb b high
 unfoldable pub white : ℕ → Bool
 white b = leb b 32 && not (eqb b 10)
 
--- any other byte
+-- any byte that is no white space
 abbrev pub dark : ℕ → Bool
 dark b = not (white b)
 
--- check 1: what a unit may hold besides white space
+-- check 1: besides white space a unit may hold "33 to 126"
 unfoldable pub printable : ℕ → Bool
 printable b = between 33 126 b
 
+-- digits, small letters, letters
 unfoldable pub digit : ℕ → Bool
 digit b = between (code "0") (code "9") b
 
@@ -46,16 +48,17 @@ small b = between (code "a") (code "z") b
 unfoldable pub letter : ℕ → Bool
 letter b = between (code "A") (code "Z") b || small b
 
--- what a name has behind its first letter: "letters, digits or underscores"
+-- check 2: a name is "a letter and then letters, digits or underscores"
 unfoldable pub wordByte : ℕ → Bool
 wordByte b = letter b || digit b || eqb b (code "_")
 
--- a letter in capitals, any other byte as it is: "any letter case"
+-- "in any letter case": a letter in capitals, any other byte as it is
 unfoldable pub capital : ℕ → ℕ
 capital b = if small b then b - 32 else b
 
 -- ---- texts and lists
 
+-- the test holds of every member
 abbrev pub every {ℓ} : {A : Type ℓ} → (A → Bool) → List A → Bool
 every p [] = true
 every p (x ∷ xs) = p x && every p xs
@@ -65,6 +68,7 @@ abbrev pub below : ℕ → (ℕ → Bool) → Bool
 below zero p = true
 below (suc n) p = below n p && p n
 
+-- there is none
 abbrev pub empty {ℓ} : {A : Type ℓ} → List A → Bool
 empty [] = true
 empty (x ∷ xs) = false

@@ -1,4 +1,5 @@
--- Words are written as 01 writes them: the short form is the capitals and digits, the long form all of it.
+-- "Lines and units": how the words of a header or a parameter match. A word is written as 01 writes it, `VOLTage`: "its short
+-- form (the capitals and digits below) or long form".
 use mathlib.Core.Bool.{Bool, not, _||_}
 use mathlib.Core.List.{map}
 use Prim.Native.String.{String}

@@ -64,14 +64,14 @@ fn sign_of(value: i32, tail: &mut [u8]) -> usize
     0
 }
 
-// A value without its sign.
-fn size_of(value: i32) -> u32
-    ensures { λ r. ⌜ r ≡ natAbs value ⌝ }
+// A number without its sign.
+fn size_of(number: i32) -> u32
+    ensures { λ r. ⌜ r ≡ natAbs number ⌝ }
 {
-    if value < 0 {
-        return (0 - (value as i64)) as u32;
+    if number < 0 {
+        return (0 - (number as i64)) as u32;
     }
-    value as u32
+    number as u32
 }
 
 // A text as it stands.

@@ -128,8 +128,8 @@ impl Status {
         ensures { λ r. ⌜ r ≡ clearedIn self ⌝ }
     {
         let operation = self.operation;
-        let read = operation.read_event();
-        self.operation = read;
+        let cleared = operation.read_event();
+        self.operation = cleared;
         self.events = 0;
         self.queued = 0;
         self

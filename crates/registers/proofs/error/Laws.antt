@@ -1,4 +1,4 @@
--- Laws of the numbers that 01 puts into the queue.
+-- The numbers that 01 puts into the queue: a search for one by its place, and that every error raised is among them.
 use mathlib.Core.Path.{_≡_, refl}
 use mathlib.Core.Bool.{true}
 use mathlib.Core.List.{List}

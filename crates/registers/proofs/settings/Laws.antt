@@ -1,11 +1,11 @@
--- Laws of the settings: the code's tables are 01's, what a table holds comes back from its 32 bits, and a value that is
--- stored leaves every setting within its limits.
+-- The settings: the code's tables are 01's, what a table holds comes back from its 32 bits, and a value stored and refusal 4 by
+-- their cases.
 use mathlib.Core.Path.{_≡_, refl, sym, _∙_, ap, subst}
 use mathlib.Core.Bool.{Bool, true, false, not, _&&_}
 use mathlib.Core.List.{List, [], _∷_}
 use Prim.Native.Nat.{ℕ, zero, suc, _≤_, _<_}
 use native.Mathlib.Omega.{arith}
-use lib.ListN.{length, getD, List·getD-map}
+use lib.ListN.{length, getD, List·getD-map, List·getD-eq-default}
 use lib.IntN.{ℤ, pos, negsuc}
 use lib.Signed.{ltZ, mag}
 use lib.Dec.{ltb, eqb}
@@ -55,7 +55,7 @@ kind-at i =
 -- a row behind the table
 pub behind-is : (i : ℕ) → 16 ≤ i → kindOf i ≡ bool
 unfolding table settingAt
-behind-is i h = ap (λ (x : Setting). x .kind) (lib.ListN.List·getD-eq-default table behind h)
+behind-is i h = ap (λ (x : Setting). x .kind) (List·getD-eq-default table behind h)
 
 -- what a table holds comes back from its bits
 abbrev small : List ℤ → Bool

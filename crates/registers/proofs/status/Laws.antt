@@ -1,4 +1,5 @@
--- Laws of the status record.
+-- The status record by cases: an error raised, the oldest removed, a condition reported, a register set, the status byte, and
+-- refusal 4.
 use mathlib.Core.Path.{_≡_, refl, sym}
 use mathlib.Core.Bool.{Bool, true, false, not}
 use mathlib.Core.List.{List, [], _∷_, _++_}

@@ -5,7 +5,7 @@ use Rattle.registers.proofs.status.without_bit6.Statement.{statement}
 use Rattle.registers.proofs.status.without_bit6.Tie as tie
 
 sub-result : tie.Need-sub-result
-sub-result c = and-le-l (c .args .value) 64
+sub-result c = and-le-l (c .args .value) _
 
 returns : tie.Need-returns
 unfolding withoutBit6

@@ -1,4 +1,6 @@
-use Rattle.registers.specs.Status.{clearedIn}
+use mathlib.Core.Path.{ap}
+use Rattle.registers.specs.Status.{registersOf, withOperation, withRegisters, withTrouble, clearedIn}
+use Rattle.registers.specs.declared.group.Group.{Group}
 use borrow.Author.Needs.{needs}
 use Rattle.registers.proofs.status.Status.clear.Statement.{statement}
 use Rattle.registers.proofs.status.Status.clear.Tie as tie
@@ -8,7 +10,9 @@ read-event-requires c κs = search needs
 
 returns : tie.Need-returns
 unfolding clearedIn
-returns c = rw (c .read-event .ensures)
+returns c =
+    let s = c .before .before .args .self in
+    ap (λ (g : Group). withRegisters (withOperation g (registersOf s)) (withTrouble 0 0 (s .errors) s)) (c .read-event .ensures)
 
 pub clear-spec : {M : Type 1} → statement M
 clear-spec = tie.close (tie.spec read-event-requires returns)

@@ -1,0 +1,319 @@
+-- Worked values of 01, as one table under one statement: the definitions of this crate compute each of them. Checks 6, 7 and 8,
+-- the sixteen settings and their answers, registers, queue and status byte, and refusal 4 on the status record.
+use mathlib.Core.Bool.{Bool, true, false, not, _&&_}
+use mathlib.Core.List.{List, [], _∷_, _++_}
+use Prim.Native.Nat.{ℕ, suc}
+use Prim.Native.Char.{code}
+use Prim.Native.String.{String}
+use lib.Bits.{bitOr}
+use lib.Dec.{T, eqb}
+use lib.ListN.{replicate}
+use lib.IntN.{ℤ, pos}
+use lib.Signed.{leZ}
+use Rattle.registers.specs.Text.{Text, if_then_else_, bytes, white, digit, small, letter, capital, every, same}
+use Rattle.registers.specs.Check.{Checked, refused, passed, _>>=_, _>>_, check}
+use Rattle.registers.specs.Words.{Node, must, may, shortForm}
+use Rattle.registers.specs.Answer.{inPlaces, decimal, tenths, over}
+use Rattle.registers.specs.Errors.{numberOf, eventBit, messages, messageIn, errorText, queueable, known}
+use Rattle.registers.specs.Number.{afterSign, fractionOf, afterFraction, exponentOf, afterExponent, lowering, written, numeralFrom, decimalOf, valueOf, remains, number, switchedOn}
+use Rattle.registers.specs.Rounding.{nearest, sizeIn, rounded, fitted}
+use Rattle.registers.specs.Settings.{Kind, bool, words, number as steps, Setting, minus, table, settingAt, kindOf, valueAt, atReset, wideRange, lowest, highest, within, conflict, stored, answerOf}
+use Rattle.registers.specs.Group.{rises, falls, eventsAfter, conditionIs, eventRead, possibleGroup}
+use Rattle.registers.specs.Status.{registersOf, troubleOf, withoutBit6, storedIn, registerIn, summary, statusByte, possibleRegisters, possibleTrouble, possibleStatus, withTrouble, raisedIn, clearedIn, eventsIn, operationRead, withRegisters, oldestReadIn, reportedIn, registerSet, atStart}
+use Rattle.registers.specs.declared.error.Error.{Error}
+use Rattle.registers.specs.declared.error.Error.the-variants.{Syntax, DataOutOfRange, InputBufferOverrun, QueryUnterminated}
+use Rattle.registers.specs.declared.number.Decimal.{Decimal}
+use Rattle.registers.specs.declared.rounding.Fit.{Fit}
+use Rattle.registers.specs.declared.rounding.Fit.the-variants.{Within, Outside}
+use Rattle.registers.specs.declared.settings.Settings.{Settings}
+use Rattle.registers.specs.declared.status.Register.{Register}
+use Rattle.registers.specs.declared.status.Register.the-variants.{Ese, Sre, Enable, Ntr, Ptr}
+use Rattle.registers.specs.declared.status.Status.{Status}
+
+-- ---- the kinds of examples
+
+-- what can happen to the status record
+data Step : Type 0 where
+  raise : Error → Step
+  report : ℕ → Step  -- a condition
+  set : Register → ℕ → Step
+  askEvents : Step  -- *ESR?
+  askOperation : Step  -- STATus:OPERation?
+  askError : Step  -- SYSTem:ERRor?
+  complete : Step  -- *OPC
+  clear : Step  -- *CLS
+
+data Example : Type 0 where
+  value : String → Bool → ℕ → ℕ → ℕ → Example  -- a number: is its sign a minus, its digits, its powers of ten up and down
+  wrong : ℕ → List String → Example  -- an error, and texts that check 6 refuses by it
+  switch : String → Bool → Example  -- a number given for a bool: is it on
+  rounds : String → ℕ → ℤ → ℤ → Fit → Example  -- a number, how many steps make one, the limits in steps, and what check 7 says
+  sets : String → String → String → Example  -- a header, a number given for it at *RST, and what the header then answers
+  outside : String → String → Example  -- a header, and a number given for it at *RST: -222
+  limits : String → String → String → String → Example  -- a header's lowest, highest and own value at *RST, as answers
+  answers : List (String × ℤ) → String → String → Example  -- values stored by header from *RST on, and what a header then answers
+  lays : String → String → String → Example  -- a text, a lent tail, and that tail with the text in it
+  message : ℕ → String → Example  -- an error, and what SYSTem:ERRor? answers
+  operation : List Step → ℕ → Example  -- steps from power-up on, and the operation event register then
+  events : List Step → ℕ → Example  -- .. the event status register
+  queue : List Step → List ℕ → Example  -- .. the error queue
+  register : List Step → Register → ℕ → Example  -- .. a register
+  byte : List Step → Bool → ℕ → Example  -- .. the status byte where an answer has bytes (true) or not
+  possible : Status → Bool → Example  -- a status record: could it be the box's
+
+-- ---- the examples
+
+abbrev raises : ℕ → Error → List Step
+raises n e = replicate n (raise e)
+
+abbrev registers : ℕ → ℕ → Status
+registers ese sre = withRegisters (record { ese = ese; sre = sre; operation = atStart .operation }) atStart
+
+examples : List Example
+examples =
+    -- check 6: the exact value
+    value "7.25" false 725 0 2
+    ∷ value "-0.45" true 45 0 2
+    ∷ value "+.5" false 5 0 1
+    ∷ value "5. " false 5 0 0
+    ∷ value "1.E1" false 1 1 0
+    ∷ value "0.00001E6" false 1 1 0
+    ∷ value "25e-3" false 25 0 3
+    -- twelve digits and thirteen: leading zeros don't count, across the point too, and trailing zeros do
+    ∷ value "123456789012" false 123456789012 0 0
+    ∷ value "0000000000000000.012" false 12 0 3
+    ∷ value "0.0000000000001" false 1 0 13
+    ∷ value "5.00000000000" false 500000000000 0 11
+    ∷ wrong 124 ("1234567890123" ∷ "5.000000000000" ∷ "0.1234567890123" ∷ "1234567890123E10" ∷ [])
+    -- exponents 9 and 10
+    ∷ value "1E9" false 1 9 0
+    ∷ value "1E0000000009" false 1 9 0
+    ∷ value "1E-9" false 1 0 9
+    ∷ wrong 123 ("1E10" ∷ "0E10" ∷ "1E-10" ∷ "1E99999999999999" ∷ [])
+    -- something behind the number, or no number
+    ∷ wrong 138 ("5V" ∷ "1E" ∷ "1E+" ∷ "5 E3" ∷ "5E 3" ∷ "0x10" ∷ "1E5E5" ∷ "1E10V" ∷ [])
+    ∷ wrong 121 ("1 2" ∷ "1.2.3" ∷ "1_0" ∷ "5%" ∷ "+" ∷ "-" ∷ "." ∷ "--5" ∷ "- 5" ∷ "+V" ∷ ".E5" ∷ [])
+    -- a bool: "zero is off, any other is on"
+    ∷ switch "0.4" true
+    ∷ switch "1E-9" true
+    ∷ switch "-1" true
+    ∷ switch "-0" false
+    -- check 7: rounded to the step, halves away from zero, and only then compared
+    ∷ rounds "2.5" 1 (minus 9) (pos 9) (Within (pos 3))
+    ∷ rounds "2.49999999999" 1 (minus 9) (pos 9) (Within (pos 2))
+    ∷ rounds "-2.5" 1 (minus 9) (pos 9) (Within (minus 3))
+    ∷ rounds "-0.4" 1 (minus 9) (pos 9) (Within (pos 0))
+    ∷ rounds "123456789012E9" 1 (minus 9) (pos 9) Outside
+    ∷ rounds "255.4" 1 (pos 0) (pos 255) (Within (pos 255))
+    ∷ rounds "255.5" 1 (pos 0) (pos 255) Outside
+    ∷ sets "VOLT" "7.25" "7.3"
+    ∷ sets "VOLT" "7.2499" "7.2"
+    ∷ sets "VOLT" "12.04" "12.0"
+    ∷ outside "VOLT" "12.05"
+    ∷ sets "VOLT" "-0.04" "0.0"
+    ∷ outside "VOLT" "-0.05"
+    ∷ sets "CURR:LIM:PEAK:LOW" "-0.45" "-0.5"
+    ∷ outside "CURR:LIM:PEAK:LOW" "-0.44"
+    ∷ sets "CURR:LIM:PEAK:LOW" "-8.04" "-8.0"
+    ∷ outside "CURR:LIM:PEAK:LOW" "-8.05"
+    ∷ sets "FREQ" "39.95" "40.0"
+    ∷ outside "FREQ" "39.94"
+    ∷ sets "CURR:LIM:RMS:TIME" "0.5" "1"
+    ∷ outside "CURR:LIM:RMS:TIME" "0.4"
+    ∷ sets "DISP:BRIG" "99.4" "99"
+    ∷ outside "DISP:BRIG" "99.5"
+    -- the sixteen settings: lowest and highest value, and the one at *RST
+    ∷ limits "OUTP" "0" "1" "0"
+    ∷ limits "OUTP:PON" "0" "1" "0"
+    ∷ limits "OUTP:REL" "0" "1" "1"
+    ∷ limits "OUTP:MON:MODE" "CURR" "VOLT" "VOLT"
+    ∷ limits "VOLT" "0.0" "12.0" "0.0"
+    ∷ limits "VOLT:RANG" "R12V" "R24V" "R12V"
+    ∷ limits "FREQ" "40.0" "550.0" "50.0"
+    ∷ limits "CURR:LIM:RMS" "0.1" "2.0" "1.0"
+    ∷ limits "CURR:LIM:RMS:MODE" "CONT" "OFF" "OFF"
+    ∷ limits "CURR:LIM:PEAK:MODE" "CONT" "OFF" "OFF"
+    ∷ limits "CURR:LIM:RMS:TIME" "1" "10" "1"
+    ∷ limits "CURR:LIM:PEAK:TIME" "1" "10" "1"
+    ∷ limits "CURR:LIM:PEAK:HIGH" "0.5" "8.0" "4.0"
+    ∷ limits "CURR:LIM:PEAK:LOW" "-8.0" "-0.5" "-4.0"
+    ∷ limits "DISP:BRIG" "0" "99" "50"
+    ∷ limits "SYST:KLOC" "0" "1" "0"
+    -- stored and answered; the voltage's limit goes by the range, and check 8 keeps R24V above 12.0
+    ∷ answers (("OUTP:MON:MODE", pos 1) ∷ []) "OUTP:MON:MODE" "SCUR"
+    ∷ answers (("CURR:LIM:PEAK:LOW", minus 5) ∷ []) "CURR:LIM:PEAK:LOW" "-0.5"
+    ∷ answers (("VOLT", pos 121) ∷ []) "VOLT" "0.0"
+    ∷ answers (("VOLT:RANG", pos 1) ∷ ("VOLT", pos 240) ∷ []) "VOLT" "24.0"
+    ∷ answers (("VOLT:RANG", pos 1) ∷ ("VOLT", pos 241) ∷ []) "VOLT" "0.0"
+    ∷ answers (("VOLT:RANG", pos 1) ∷ ("VOLT", pos 200) ∷ ("VOLT:RANG", pos 0) ∷ []) "VOLT:RANG" "R24V"
+    ∷ answers (("VOLT:RANG", pos 1) ∷ ("VOLT", pos 120) ∷ ("VOLT:RANG", pos 0) ∷ []) "VOLT:RANG" "R12V"
+    ∷ lays "12.0" "--------" "12.0----"
+    ∷ lays "12.0" "--" "12"
+    -- error texts
+    ∷ message 0 "0,\"No error\""
+    ∷ message 222 "-222,\"Data out of range\""
+    ∷ message 350 "-350,\"Queue overflow\""
+    ∷ message 410 "-410,\"Query INTERRUPTED\""
+    -- transitions: at power-up PTR has every bit and NTR none
+    ∷ operation (report 4 ∷ []) 4
+    ∷ operation (set Ptr 3 ∷ report 4 ∷ []) 0
+    ∷ operation (set Ptr 3 ∷ report 4 ∷ set Ptr 4 ∷ []) 0
+    ∷ operation (report 4 ∷ askOperation ∷ report 4 ∷ []) 0
+    ∷ operation (report 4 ∷ askOperation ∷ report 0 ∷ []) 0
+    ∷ operation (set Ntr 4 ∷ report 4 ∷ askOperation ∷ report 0 ∷ []) 4
+    ∷ operation (set Ntr 4 ∷ report 4 ∷ askOperation ∷ report 3 ∷ []) 7
+    ∷ operation (set Ntr 4 ∷ report 4 ∷ askOperation ∷ report 32768 ∷ []) 0
+    ∷ operation (report 1 ∷ report 2 ∷ []) 3
+    ∷ operation (report 4 ∷ clear ∷ []) 0
+    -- the event status register: 128 at power-up, and a bit by an error's hundreds
+    ∷ events [] 128
+    ∷ events (raise Syntax ∷ []) 160
+    ∷ events (raise DataOutOfRange ∷ []) 144
+    ∷ events (raise InputBufferOverrun ∷ []) 136
+    ∷ events (raise QueryUnterminated ∷ []) 132
+    ∷ events (complete ∷ []) 129
+    ∷ events (complete ∷ askEvents ∷ []) 0
+    ∷ events (complete ∷ clear ∷ []) 0
+    -- the queue: oldest first, sixteen numbers, and the seventeenth error makes the sixteenth -350 and sets bit 3
+    ∷ queue (raise Syntax ∷ raise DataOutOfRange ∷ []) (102 ∷ 222 ∷ [])
+    ∷ queue (raise Syntax ∷ raise DataOutOfRange ∷ askError ∷ []) (222 ∷ [])
+    ∷ queue (raise Syntax ∷ clear ∷ []) []
+    ∷ queue (raises 16 DataOutOfRange) (replicate 16 222)
+    ∷ events (raises 16 DataOutOfRange) 144
+    ∷ queue (raises 17 DataOutOfRange) (replicate 15 222 ++ 350 ∷ [])
+    ∷ events (raises 17 DataOutOfRange) 152
+    ∷ queue (raises 18 DataOutOfRange) (replicate 15 222 ++ 350 ∷ [])
+    ∷ events (raises 17 DataOutOfRange ++ askEvents ∷ raise Syntax ∷ []) 40
+    ∷ queue (raises 17 DataOutOfRange ++ askError ∷ raise Syntax ∷ []) (replicate 14 222 ++ 350 ∷ 102 ∷ [])
+    -- registers: bit 6 of *SRE is stored as 0, and *CLS leaves them alone
+    ∷ register (set Sre 255 ∷ []) Sre 191
+    ∷ register (set Ese 255 ∷ clear ∷ []) Ese 255
+    ∷ register (set Ese 256 ∷ []) Ese 0
+    ∷ register (set Enable 32767 ∷ []) Enable 32767
+    ∷ register (set Enable 32768 ∷ []) Enable 0
+    ∷ register [] Ptr 32767
+    ∷ register [] Ntr 0
+    -- the status byte
+    ∷ byte [] false 0
+    ∷ byte [] true 16
+    ∷ byte (set Sre 16 ∷ []) true 80
+    ∷ byte (set Ese 128 ∷ []) false 32
+    ∷ byte (raise DataOutOfRange ∷ []) false 4
+    ∷ byte (set Sre 64 ∷ raise DataOutOfRange ∷ []) false 4
+    ∷ byte (set Sre 32 ∷ set Ese 16 ∷ raise DataOutOfRange ∷ []) false 100
+    ∷ byte (set Enable 4 ∷ report 4 ∷ []) false 128
+    ∷ byte (set Enable 4 ∷ set Sre 128 ∷ report 4 ∷ []) true 208
+    -- refusal 4: -350 may stand anywhere in the queue, and places beyond its length mean nothing
+    ∷ possible atStart true
+    ∷ possible (registers 255 191) true
+    ∷ possible (registers 256 0) false
+    ∷ possible (registers 0 64) false
+    ∷ possible (withTrouble 256 0 (replicate 16 0) atStart) false
+    ∷ possible (withTrouble 0 16 (replicate 16 350) atStart) true
+    ∷ possible (withTrouble 0 17 (replicate 16 350) atStart) false
+    ∷ possible (withTrouble 0 1 (103 ∷ replicate 15 0) atStart) false
+    ∷ possible (withTrouble 0 1 (102 ∷ replicate 15 103) atStart) true
+    ∷ []
+
+-- ---- what an example says
+
+passes : {A : Type 0} → (A → Bool) → Checked A → Bool
+passes p (refused n) = false
+passes p (passed a) = p a
+
+fails : {A : Type 0} → ℕ → Checked A → Bool
+fails n (refused m) = eqb m n
+fails n (passed a) = false
+
+alike : Bool → Bool → Bool
+alike a b = if a then b else not b
+
+sameFit : Fit → Fit → Bool
+sameFit (Within a) (Within b) = leZ a b && leZ b a
+sameFit (Within a) Outside = false
+sameFit Outside (Within b) = false
+sameFit Outside Outside = true
+
+-- a header in its shortest spelling, and the row that it stands in
+shortest : List Node → Text
+shortest [] = []
+shortest (may w ∷ nodes) = shortest nodes
+shortest (must w ∷ nodes) = code ":" ∷ shortForm w ++ shortest nodes
+
+rowIn : List Setting → Text → ℕ
+rowIn [] t = 0
+rowIn (s ∷ ss) t = if same (shortest (s .nodes)) t then 0 else suc (rowIn ss t)
+
+row : String → ℕ
+row header = rowIn table (code ":" ∷ bytes header)
+
+-- checks 6 and 7 on a number
+fit : ℕ → ℤ → ℤ → String → Checked Fit
+fit k low high t = number (bytes t) >>= λ d. passed (fitted k low high d)
+
+-- on a number given for a row
+stepsOf : Kind → ℕ
+stepsOf bool = 1
+stepsOf (words ws) = 1
+stepsOf (steps k low high) = k
+
+given : ℕ → String → Checked Fit
+given i t = fit (stepsOf (kindOf i)) (lowest i) (highest atReset i) t
+
+answered : ℕ → String → ℤ → Bool
+answered i answer v = same (answerOf (kindOf i) v) (bytes answer)
+
+answeredFit : ℕ → String → Fit → Bool
+answeredFit i answer (Within v) = answered i answer v
+answeredFit i answer Outside = false
+
+storedAll : List (String × ℤ) → Settings → Settings
+storedAll [] s = s
+storedAll (p ∷ ps) s = storedAll ps (stored (row (p .0)) (p .1) s)
+
+step : Step → Status → Status
+step (raise e) s = raisedIn (numberOf e) s
+step (report n) s = reportedIn n s
+step (set x n) s = registerSet x n s
+step askEvents s = eventsIn 0 s
+step askOperation s = withRegisters (operationRead (registersOf s)) s
+step askError s = oldestReadIn s
+step complete s = eventsIn (bitOr (s .events) 1) s
+step clear s = clearedIn s
+
+stepsFrom : Status → List Step → Status
+stepsFrom s [] = s
+stepsFrom s (x ∷ xs) = stepsFrom (step x s) xs
+
+holds : Example → Bool
+holds (value t m n up down) =
+    passes (λ (d : Decimal). alike (d .minus) m && (eqb (d .digits) n && (eqb (d .up) up && eqb (d .down) down))) (number (bytes t))
+holds (wrong n ts) = every (λ (t : String). fails n (number (bytes t))) ts
+holds (switch t on) = passes (λ (d : Decimal). alike (switchedOn d) on) (number (bytes t))
+holds (rounds t k low high r) = passes (sameFit r) (fit k low high t)
+holds (sets h t answer) = passes (answeredFit (row h) answer) (given (row h) t)
+holds (outside h t) = passes (sameFit Outside) (given (row h) t)
+holds (limits h low high reset) =
+    answered (row h) low (lowest (row h))
+    && (answered (row h) high (highest atReset (row h)) && answered (row h) reset (valueAt atReset (row h)))
+holds (answers ps h answer) = answered (row h) answer (valueAt (storedAll ps atReset) (row h))
+holds (lays text before tail) = same (over (bytes text) (bytes before)) (bytes tail)
+holds (message n answer) = same (errorText n) (bytes answer)
+holds (operation xs n) = eqb (stepsFrom atStart xs .operation .event) n
+holds (events xs n) = eqb (stepsFrom atStart xs .events) n
+holds (queue xs ns) = same (troubleOf (stepsFrom atStart xs) .queue) ns
+holds (register xs x n) = eqb (registerIn x (registersOf (stepsFrom atStart xs))) n
+holds (byte xs on n) = eqb (statusByte (registersOf (stepsFrom atStart xs)) (troubleOf (stepsFrom atStart xs)) on) n
+holds (possible s on) = alike (possibleStatus s) on
+
+all-hold : T (every holds examples)
+unfolding examples passes fails alike sameFit fit stepsOf shortest rowIn row given answered answeredFit storedAll step stepsFrom holds
+    if_then_else_ bytes white digit small letter capital same _>>=_ _>>_ check shortForm inPlaces decimal tenths over
+    eventBit messages messageIn errorText queueable known
+    afterSign fractionOf afterFraction exponentOf afterExponent lowering written numeralFrom decimalOf valueOf remains number switchedOn
+    nearest sizeIn rounded fitted
+    table settingAt atReset wideRange lowest highest within conflict stored answerOf
+    rises falls eventsAfter conditionIs eventRead possibleGroup
+    withoutBit6 storedIn registerIn summary statusByte possibleRegisters possibleTrouble possibleStatus
+    raisedIn clearedIn eventsIn oldestReadIn reportedIn registerSet atStart
+all-hold = tt
