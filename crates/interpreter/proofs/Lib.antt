@@ -1,3 +1,5 @@
 pub mod Choices
 pub mod Lists
 pub mod Possible
+pub mod Examples
+pub mod demands

@@ -14,3 +14,8 @@ pub mod Events
 pub mod DeedsParts
 pub mod LineParts
 pub mod State
+pub mod Examples
+pub mod Histories
+pub mod Demand1
+pub mod Demand2
+pub mod Demand3

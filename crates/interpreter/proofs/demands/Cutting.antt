@@ -1,0 +1,196 @@
+-- Demand 3, at the newline: a line that is refused by a number other than -430, and the same line cut to the units that were
+-- obeyed, leave the same core.
+use mathlib.Core.Path.{_≡_, refl, sym, _∙_, ap}
+use mathlib.Core.Bool.{Bool, true, false, not, _||_, false≢true}
+use mathlib.Core.List.{List, [], _∷_, _++_}
+use Prim.Native.Nat.{ℕ}
+use Prim.Native.Char.{code}
+use lib.Dec.{eqb}
+use borrow.Author.Tests.{eqb-true, eq-eqb, not-true}
+use Rattle.registers.specs.Text.{Text, if_then_else_, every, white, printable, letter, small, empty, after}
+use Rattle.registers.specs.Check.{Checked, refused, passed, _>>=_, _>>_, check}
+use Rattle.registers.specs.declared.settings.Settings.{Settings}
+use Rattle.registers.proofs.Tests.{and-both, and-true}
+use Rattle.interpreter.specs.Cuts.{joinFirst, cutAt}
+use Rattle.interpreter.specs.Header.{name, placed, header}
+use Rattle.interpreter.specs.Box.{Box, box, withLine}
+use Rattle.interpreter.specs.Unit.{Read, readUnit}
+use Rattle.interpreter.specs.Line.{Obeyed, attempt, refuse, next, runUnits, unitsOf, interrupted, finished, runLine, endLine, atNewline}
+use Rattle.interpreter.specs.Demand3.{obeyedNext, obeyed, refusalNext, refusal, joinUnits, cutLine, lineRefusal}
+use Rattle.interpreter.proofs.Choices.{if-elim}
+use Rattle.interpreter.proofs.demands.Agreement.{over-cores, finished-core}
+
+-- the same box, its waiting line cut to the first n units
+abbrev pub cut : Box → Box
+cut b = box (withLine (cutLine b) false (b .core)) (b .trouble)
+
+-- a refusal by a number other than -430 changes no core
+refuse-keeps : (n : ℕ) (b : Box) → (n ≡ 430 → ⊥) → refuse n b .core ≡ b .core
+unfolding refuse
+refuse-keeps n b h =
+    if-elim (λ (c : Box). c .core ≡ b .core) (eqb n 430) (λ q. absurd (h (eqb-true n 430 q))) (λ _. refl)
+
+-- ---- the units that were obeyed, run by themselves
+
+next-cut : (u : Text) (us path : List Text) (b : Box)
+    → ((p : List Text) (c : Box) → (refusal us p c ≡ 430 → ⊥) → runUnits us p c .core ≡ runUnits (obeyed us p c) p c .core)
+    → (r : Checked Obeyed) → attempt path b u ≡ r → (refusalNext (λ p c. refusal us p c) r ≡ 430 → ⊥)
+    → next (λ p c. runUnits us p c) b r .core ≡ runUnits (obeyedNext (λ p c. obeyed us p c) u r) path b .core
+unfolding runUnits
+next-cut u us path b ih (refused n) e h = refuse-keeps n b h
+next-cut u us path b ih (passed o) e h = rw e (ih (o .path) (o .box) h)
+
+units-cut : (us path : List Text) (b : Box) → (refusal us path b ≡ 430 → ⊥) → runUnits us path b .core ≡ runUnits (obeyed us path b) path b .core
+unfolding runUnits obeyed refusal
+units-cut [] path b h = refl
+units-cut (u ∷ us) path b h = next-cut u us path b (λ p c k. units-cut us p c k) (attempt path b u) refl h
+
+-- ---- the cut line's units are the units that were obeyed
+
+-- no separator stands in a text
+abbrev pub other : ℕ → ℕ → Bool
+other s b = not (eqb b s)
+
+unfoldable pub free : ℕ → Text → Bool
+free s u = every (other s) u
+
+join-free : (s b : ℕ) (us : List Text) → other s b ≡ true → every (free s) us ≡ true → every (free s) (joinFirst b us) ≡ true
+unfolding free
+join-free s b [] h t = rw h
+join-free s b (u ∷ us) h t = rw h t
+
+cut-free : (s : ℕ) (t : Text) → every (free s) (cutAt s t) ≡ true
+unfolding cutAt free
+cut-free s [] = refl
+cut-free s (b ∷ bs) =
+    if-elim (λ (us : List Text). every (free s) us ≡ true) (eqb b s) (λ _. cut-free s bs) (λ q. join-free s b (cutAt s bs) (rw q) (cut-free s bs))
+
+-- the first part ends at the first separator
+cut-more : (s : ℕ) (u v : Text) → free s u ≡ true → cutAt s (u ++ s ∷ v) ≡ u ∷ cutAt s v
+unfolding cutAt free if_then_else_
+cut-more s [] v t = rw (eq-eqb s s refl)
+cut-more s (b ∷ bs) v t = let p = and-both (other s b) (every (other s) bs) t in rw (not-true (eqb b s) (p .0), cut-more s bs v (p .1))
+
+-- a text with no separator is one part
+pub cut-one : (s : ℕ) (u : Text) → free s u ≡ true → cutAt s u ≡ u ∷ []
+unfolding cutAt free if_then_else_
+cut-one s [] t = refl
+cut-one s (b ∷ bs) t = let p = and-both (other s b) (every (other s) bs) t in rw (not-true (eqb b s) (p .0), cut-one s bs (p .1))
+
+-- units joined by `;` and cut again
+cut-joined : (u : Text) (us : List Text) → every (free (code ";")) (u ∷ us) ≡ true → cutAt (code ";") (joinUnits (u ∷ us)) ≡ u ∷ us
+unfolding joinUnits
+cut-joined u [] t = cut-one (code ";") u (and-both (free (code ";") u) _ t .0)
+cut-joined u (v ∷ us) t =
+    let p = and-both (free (code ";") u) _ t in
+    cut-more (code ";") u (joinUnits (v ∷ us)) (p .0) ∙ ap (λ (x : List Text). u ∷ x) (cut-joined v us (p .1))
+
+-- ---- a unit that is obeyed is not blank
+
+after-all : (p : ℕ → Bool) (t : Text) → every p t ≡ true → after p t ≡ []
+unfolding if_then_else_
+after-all p [] h = refl
+after-all p (b ∷ bs) h = let q = and-both (p b) (every p bs) h in rw (q .0, after-all p bs (q .1))
+
+pub header-none : header [] ≡ refused 102
+unfolding header placed name cutAt letter small if_then_else_ _>>_ check
+header-none = refl
+
+blank-refused : (s : Settings) (path : List Text) (u : Text) → every white u ≡ true → (n : ℕ) × (readUnit s path u ≡ refused n)
+unfolding readUnit check _>>=_ _>>_
+blank-refused s path u h = rw (after-all white u h, header-none) (go (every (λ b. white b || printable b) u))
+  where
+    none : Checked Read
+    none = refused 102
+
+    go : (t : Bool) → (n : ℕ) × ((check 101 t >> none) ≡ refused n)
+    go true = (102, refl)
+    go false = (101, refl)
+
+-- nothing, or a first unit that is not blank
+abbrev darkFirst : List Text → Bool
+darkFirst [] = true
+darkFirst (u ∷ us) = not (every white u)
+
+dark-first : (us path : List Text) (b : Box) → darkFirst (obeyed us path b) ≡ true
+unfolding obeyed attempt _>>=_
+dark-first [] path b = refl
+dark-first (w ∷ us) path b = go (every white w) refl
+  where
+    dark : every white w ≡ false → (r : Checked Obeyed) → darkFirst (obeyedNext (λ p c. obeyed us p c) w r) ≡ true
+    dark q (refused n) = refl
+    dark q (passed o) = rw q
+
+    go : (t : Bool) → every white w ≡ t → darkFirst (obeyed (w ∷ us) path b) ≡ true
+    go true q = rw (blank-refused (b .core .settings) path w q .1)
+    go false q = dark q (attempt path b w)
+
+-- what holds of every unit holds of every unit that is obeyed
+every-obeyed : (p : Text → Bool) (us path : List Text) (b : Box) → every p us ≡ true → every p (obeyed us path b) ≡ true
+unfolding obeyed
+every-obeyed p [] path b t = refl
+every-obeyed p (u ∷ us) path b t = go (attempt path b u) (λ q c. every-obeyed p us q c (and-both (p u) _ t .1))
+  where
+    go : (r : Checked Obeyed) → ((q : List Text) (c : Box) → every p (obeyed us q c) ≡ true) → every p (obeyedNext (λ q c. obeyed us q c) u r) ≡ true
+    go (refused n) ih = refl
+    go (passed o) ih = and-true (and-both (p u) _ t .0) (ih (o .path) (o .box))
+
+-- a start of a blank text is blank
+blank-start : (p : ℕ → Bool) (u v : Text) → every p (u ++ v) ≡ true → every p u ≡ true
+blank-start p [] v t = refl
+blank-start p (b ∷ bs) v t = let q = and-both (p b) _ t in and-true (q .0) (blank-start p bs v (q .1))
+
+blank-joined : (u : Text) (us : List Text) → every white (joinUnits (u ∷ us)) ≡ true → every white u ≡ true
+unfolding joinUnits
+blank-joined u [] t = t
+blank-joined u (v ∷ us) t = blank-start white u (code ";" ∷ joinUnits (v ∷ us)) t
+
+-- units joined, and cut as a line
+units-joined : (us : List Text) → every (free (code ";")) us ≡ true → darkFirst us ≡ true → unitsOf (joinUnits us) ≡ us
+unfolding unitsOf joinUnits if_then_else_
+units-joined [] t h = refl
+units-joined (u ∷ us) t h =
+    if-elim (λ (x : List Text). x ≡ u ∷ us) (every white (joinUnits (u ∷ us)))
+    (λ q. absurd (false≢true (rw (blank-joined u us q) at h))) (λ _. cut-joined u us t)
+
+units-free : (line : Text) → every (free (code ";")) (unitsOf line) ≡ true
+unfolding unitsOf
+units-free line =
+    if-elim (λ (us : List Text). every (free (code ";")) us ≡ true) (every white line) (λ _. refl) (λ _. cut-free (code ";") line)
+
+-- ---- the line
+
+-- a line that runs in a box, and the same cut to its obeyed units
+run-cut : (line : Text) (b : Box) → (refusal (unitsOf line) [] b ≡ 430 → ⊥)
+    → runLine line false b .core ≡ runLine (joinUnits (obeyed (unitsOf line) [] b)) false b .core
+unfolding runLine if_then_else_
+run-cut line b h =
+    let us = obeyed (unitsOf line) [] b in
+    let e = units-joined us (every-obeyed (free (code ";")) (unitsOf line) [] b (units-free line)) (dark-first (unitsOf line) [] b) in
+    over-cores (λ x y. finished x .core ≡ finished y .core) finished-core _ _ (units-cut (unitsOf line) [] b h)
+    ∙ ap (λ (vs : List Text). finished (runUnits vs [] b) .core) (sym e)
+
+-- a blank line runs nothing
+blank-line : (b : Box) → b .core .answer ≡ [] → runLine [] false b .core ≡ b .core
+unfolding runLine unitsOf runUnits finished if_then_else_
+blank-line b e = rw e refl
+
+pub is-empty : (t : Text) → empty t ≡ true → t ≡ []
+is-empty [] q = refl
+is-empty (x ∷ xs) q = absurd (false≢true q)
+
+-- behind the -410 no answer waits
+pub none-waits : (b : Box) → interrupted b .core .answer ≡ []
+unfolding interrupted
+none-waits b = if-elim (λ (c : Box). c .core .answer ≡ []) (empty (b .core .answer)) (λ q. is-empty (b .core .answer) q) (λ _. refl)
+
+-- "At its newline the two agree in all but the error queue and the event status register"
+pub newline-cut : (b : Box) → (lineRefusal b ≡ 430 → ⊥) → endLine b .core ≡ endLine (cut b) .core
+unfolding endLine cutLine lineRefusal runLine if_then_else_
+newline-cut b h = go (b .core .overlong) h
+  where
+    go : (o : Bool) → ((if o then 363 else refusal (unitsOf (b .core .line)) [] (atNewline b)) ≡ 430 → ⊥)
+        → runLine (b .core .line) o (atNewline b) .core
+        ≡ runLine (if o then [] else joinUnits (obeyed (unitsOf (b .core .line)) [] (atNewline b))) false (atNewline b) .core
+    go true k = sym (blank-line (atNewline b) (none-waits (box (withLine [] false (b .core)) (b .trouble))))
+    go false k = run-cut (b .core .line) (atNewline b) k

@@ -1,0 +1,29 @@
+-- Demand 2, proved; its parts are in Limits, Pieces and RoundTrip.
+use mathlib.Core.Path.{refl}
+use Rattle.interpreter.specs.Deeds.{changed, perform}
+use Rattle.interpreter.specs.Histories.{noPiece}
+use Rattle.interpreter.specs.Demand2.{ResetsOnly, ClearsOnly, Demand2}
+use Rattle.interpreter.proofs.demands.Pieces.{piece-append, newlines-append, recut-state, recut-results, recut-ends}
+use Rattle.interpreter.proofs.demands.Limits.{within-limits, within-range}
+use Rattle.interpreter.proofs.demands.RoundTrip.{query-answers, round-trip}
+
+resets-only : ResetsOnly
+unfolding perform changed
+resets-only b = refl
+
+clears-only : ClearsOnly
+unfolding perform
+clears-only b = refl
+
+pub demand2 : Demand2
+demand2 =
+    record {
+      limits = within-limits;
+      range = within-range;
+      resets = resets-only;
+      clears = clears-only;
+      parts = λ b xs ys. (piece-append b xs ys, newlines-append xs ys);
+      pieces = λ b h g e. (recut-state b h g e, recut-results noPiece (λ xs. refl) b h g e, recut-ends h g e);
+      answered = query-answers;
+      roundTrip = round-trip;
+    }

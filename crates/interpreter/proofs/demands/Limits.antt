@@ -1,0 +1,51 @@
+-- Demand 2: settings never leave their limits, and the voltage never its range.
+use mathlib.Core.Path.{_≡_, refl, _∙_, ap}
+use mathlib.Core.Bool.{Bool, true, false, not, _&&_}
+use Prim.Native.Nat.{ℕ, _<_}
+use native.Mathlib.Omega.{arith}
+use lib.Dec.{eqb}
+use lib.IntN.{ℤ, pos, negsuc}
+use lib.Signed.{leZ, ltZ}
+use borrow.Author.Tests.{leb-true, lt-leb, eqb-true}
+use Rattle.registers.specs.Text.{if_then_else_}
+use Rattle.registers.specs.Settings.{count, voltage, range, conflict, twelveVolts, wideRange, lowest, highest, valueAt, within, possibleSettings}
+use Rattle.registers.specs.declared.settings.Settings.{Settings}
+use Rattle.registers.proofs.Tests.{and-both, below-at, ltZ-not}
+use Rattle.registers.proofs.settings.Possible.{Good, good-to}
+use Rattle.interpreter.specs.Box.{powerUp}
+use Rattle.interpreter.specs.Demand2.{WithinLimits, WithinRange}
+use Rattle.interpreter.proofs.Possible.{history-fit, power-up-fit}
+
+-- each of the sixteen, by its place
+pub good-at : (s : Settings) → Good s → (i : ℕ) → i < count → within s i (valueAt s i) ≡ true
+unfolding possibleSettings
+good-at s g i h = below-at count (λ j. within s j (valueAt s j)) (good-to s g) i h
+
+pub within-limits : WithinLimits
+within-limits es i h = good-at _ (history-fit powerUp es power-up-fit .core .settings) i h
+
+-- the voltage in the lower range
+pub narrow-voltage : (s : Settings) → Good s → wideRange s ≡ false → leZ (valueAt s voltage) twelveVolts ≡ true
+unfolding within highest if_then_else_
+narrow-voltage s g narrow =
+    rw narrow at (and-both (leZ (lowest voltage) (valueAt s voltage)) _ (good-at s g voltage (omega arith)) .1)
+
+-- the range as it is never conflicts with the voltage
+low-range : (v : ℤ) → leZ v (pos 0) ≡ true → leZ (pos 1) v ≡ false
+low-range (pos n) e = let h = leb-true n 0 e in lt-leb 1 n (omega arith)
+low-range (negsuc n) e = refl
+
+pub no-conflict : (s : Settings) → Good s → (i : ℕ) → conflict s i (valueAt s i) ≡ false
+unfolding conflict wideRange
+no-conflict s g i = go (eqb i range) refl
+  where
+    above : (t : Bool) → leZ (valueAt s range) (pos 0) ≡ t → (t && ltZ twelveVolts (valueAt s voltage)) ≡ false
+    above true q = ltZ-not twelveVolts (valueAt s voltage) ∙ ap not (narrow-voltage s g (low-range (valueAt s range) q))
+    above false q = refl
+
+    go : (t : Bool) → eqb i range ≡ t → (t && (leZ (valueAt s i) (pos 0) && ltZ twelveVolts (valueAt s voltage))) ≡ false
+    go true q = rw (eqb-true i range q) (above (leZ (valueAt s range) (pos 0)) refl)
+    go false q = refl
+
+pub within-range : WithinRange
+within-range es narrow = narrow-voltage _ (history-fit powerUp es power-up-fit .core .settings) narrow

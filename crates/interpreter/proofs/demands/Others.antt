@@ -1,0 +1,41 @@
+-- How many results a history has that are no pieces': as many as it has other events.
+use mathlib.Core.Path.{_≡_, refl, ap}
+use mathlib.Core.Bool.{Bool, true, false}
+use mathlib.Core.List.{List, [], _∷_, _++_}
+use Prim.Native.Nat.{ℕ, suc, _-_, _+_}
+use native.Mathlib.Omega.{arith}
+use lib.ListN.{length}
+use Rattle.registers.specs.Text.{if_then_else_}
+use Rattle.interpreter.specs.Box.{Box}
+use Rattle.interpreter.specs.Events.{Event, started, received, take, condition, look, Result, happens}
+use Rattle.interpreter.specs.Histories.{noPiece, resultsOf, replies}
+use Rattle.interpreter.specs.Demand3.{keep, others}
+
+pub replies-length : (b : Box) (es : List Event) → length (replies b es) ≡ others es
+unfolding resultsOf others if_then_else_
+replies-length b [] = refl
+replies-length b (e ∷ es) = go (noPiece e) (replies (happens b e .box) es) (replies-length (happens b e .box) es)
+  where
+    go : (t : Bool) (rs : List Result) → length rs ≡ others es
+        → length (if t then happens b e .result ∷ rs else rs) ≡ (if t then suc (others es) else others es)
+    go true rs ih = ap suc ih
+    go false rs ih = ih
+
+pub others-append : (es fs : List Event) → others (es ++ fs) ≡ others es + others fs
+unfolding others if_then_else_
+others-append [] fs = omega arith
+others-append (e ∷ es) fs = go (noPiece e) (others-append es fs)
+  where
+    go : (t : Bool) → others (es ++ fs) ≡ others es + others fs
+        → (if t then suc (others (es ++ fs)) else others (es ++ fs)) ≡ (if t then suc (others es) else others es) + others fs
+    go true ih = omega arith
+    go false ih = ih
+
+pub others-keep : (k : ℕ) (es : List Event) → others (keep k es) ≡ others es
+unfolding others keep if_then_else_
+others-keep k [] = refl
+others-keep k (started ∷ es) = ap suc (others-keep k es)
+others-keep k (received xs ∷ es) = others-keep (k - length xs) es
+others-keep k (take buffer ∷ es) = ap suc (others-keep k es)
+others-keep k (condition n ∷ es) = ap suc (others-keep k es)
+others-keep k (look ∷ es) = ap suc (others-keep k es)

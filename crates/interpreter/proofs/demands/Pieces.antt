@@ -1,0 +1,124 @@
+-- "A piece behaves as its bytes one at a time": histories with the same bytes leave the same state and the same results, in
+-- whatever pieces the bytes come.
+use mathlib.Core.Path.{_≡_, refl, sym, _∙_, ap}
+use mathlib.Core.Bool.{Bool, true, false}
+use mathlib.Core.List.{List, [], _∷_, _++_, map}
+use Prim.Native.Nat.{suc, _+_}
+use native.Mathlib.Omega.{arith}
+use lib.Dec.{eqb}
+use Rattle.registers.specs.Text.{Text, if_then_else_}
+use Rattle.interpreter.specs.Box.{Box}
+use Rattle.interpreter.specs.Line.{endLine, byte, piece, newlines}
+use Rattle.interpreter.specs.Events.{Event, started, received, take, condition, look, Result, happens, after}
+use Rattle.interpreter.specs.Histories.{single, newline, moments, ends, Recut, resultsOf}
+
+-- ---- pieces
+
+pub piece-append : (b : Box) (xs ys : Text) → piece b (xs ++ ys) ≡ piece (piece b xs) ys
+unfolding piece
+piece-append b [] ys = refl
+piece-append b (x ∷ xs) ys = piece-append (byte b x) xs ys
+
+pub newlines-append : (xs ys : Text) → newlines (xs ++ ys) ≡ newlines xs + newlines ys
+unfolding newlines if_then_else_
+newlines-append [] ys = omega arith
+newlines-append (x ∷ xs) ys = go (eqb x 10) (newlines-append xs ys)
+  where
+    go : (t : Bool) → newlines (xs ++ ys) ≡ newlines xs + newlines ys
+        → (if t then suc (newlines (xs ++ ys)) else newlines (xs ++ ys)) ≡ (if t then suc (newlines xs) else newlines xs) + newlines ys
+    go true ih = omega arith
+    go false ih = ih
+
+-- ---- histories, part by part
+
+pub after-append : (b : Box) (es fs : List Event) → after b (es ++ fs) ≡ after (after b es) fs
+unfolding after
+after-append b [] fs = refl
+after-append b (e ∷ es) fs = after-append (happens b e .box) es fs
+
+pub results-append : (p : Event → Bool) (b : Box) (es fs : List Event)
+    → resultsOf p b (es ++ fs) ≡ resultsOf p b es ++ resultsOf p (after b es) fs
+unfolding after resultsOf if_then_else_
+results-append p b [] fs = refl
+results-append p b (e ∷ es) fs = go (p e) _ _ _ (results-append p (happens b e .box) es fs)
+  where
+    go : (t : Bool) (xs ys zs : List Result) → xs ≡ ys ++ zs
+        → (if t then happens b e .result ∷ xs else xs) ≡ (if t then happens b e .result ∷ ys else ys) ++ zs
+    go true xs ys zs ih = ap (λ (rs : List Result). happens b e .result ∷ rs) ih
+    go false xs ys zs ih = ih
+
+pub newline-after : (b : Box) (es : List Event) → after b (es ++ newline ∷ []) ≡ endLine (after b es)
+unfolding after happens piece byte if_then_else_
+newline-after b es = after-append b es (newline ∷ [])
+
+-- ---- bytes one at a time
+
+singles-after : (b : Box) (xs : Text) → after b (map single xs) ≡ piece b xs
+unfolding after happens piece
+singles-after b [] = refl
+singles-after b (x ∷ xs) = singles-after (byte b x) xs
+
+pub after-moments : (b : Box) (es : List Event) → after b (moments es) ≡ after b es
+unfolding after moments happens
+after-moments b [] = refl
+after-moments b (started ∷ es) = after-moments _ es
+after-moments b (received xs ∷ es) =
+    after-append b (map single xs) (moments es) ∙ ap (λ (c : Box). after c (moments es)) (singles-after b xs) ∙ after-moments (piece b xs) es
+after-moments b (take buffer ∷ es) = after-moments _ es
+after-moments b (condition n ∷ es) = after-moments _ es
+after-moments b (look ∷ es) = after-moments b es
+
+-- of results that are no pieces'
+module _ (p : Event → Bool) (silent : (xs : Text) → p (received xs) ≡ false) where
+  singles-results : (b : Box) (xs : Text) → resultsOf p b (map single xs) ≡ []
+  unfolding resultsOf happens piece if_then_else_
+  singles-results b [] = refl
+  singles-results b (x ∷ xs) = rw (silent (x ∷ [])) (singles-results (byte b x) xs)
+
+  one-more : (e : Event) (r : Result) {xs ys : List Result} → xs ≡ ys → (if p e then r ∷ xs else xs) ≡ (if p e then r ∷ ys else ys)
+  one-more e r q = ap (λ (rs : List Result). if p e then r ∷ rs else rs) q
+
+  pub results-moments : (b : Box) (es : List Event) → resultsOf p b (moments es) ≡ resultsOf p b es
+  unfolding resultsOf moments happens if_then_else_
+  results-moments b [] = refl
+  results-moments b (started ∷ es) = one-more started _ (results-moments _ es)
+  results-moments b (received xs ∷ es) =
+      results-append p b (map single xs) (moments es)
+      ∙ rw (silent xs, singles-results b xs, singles-after b xs) (results-moments (piece b xs) es)
+  results-moments b (take buffer ∷ es) = one-more (take buffer) _ (results-moments _ es)
+  results-moments b (condition n ∷ es) = one-more (condition n) _ (results-moments _ es)
+  results-moments b (look ∷ es) = one-more look _ (results-moments b es)
+
+  pub recut-results : (b : Box) (h g : List Event) → Recut h g → resultsOf p b h ≡ resultsOf p b g
+  recut-results b h g e = sym (results-moments b h) ∙ ap (resultsOf p b) e ∙ results-moments b g
+
+pub recut-state : (b : Box) (h g : List Event) → Recut h g → after b h ≡ after b g
+recut-state b h g e = sym (after-moments b h) ∙ ap (after b) e ∙ after-moments b g
+
+-- ---- the pieces' own counts
+
+ends-append : (es fs : List Event) → ends (es ++ fs) ≡ ends es + ends fs
+unfolding ends
+ends-append [] fs = omega arith
+ends-append (started ∷ es) fs = ends-append es fs
+ends-append (received xs ∷ es) fs = omega (arith, ends-append es fs)
+ends-append (take buffer ∷ es) fs = ends-append es fs
+ends-append (condition n ∷ es) fs = ends-append es fs
+ends-append (look ∷ es) fs = ends-append es fs
+
+singles-ends : (xs : Text) → ends (map single xs) ≡ newlines xs
+unfolding ends newlines
+singles-ends [] = refl
+singles-ends (x ∷ xs) = omega (arith, singles-ends xs, newlines-append (x ∷ []) xs)
+
+ends-moments : (es : List Event) → ends (moments es) ≡ ends es
+unfolding ends moments
+ends-moments [] = refl
+ends-moments (started ∷ es) = ends-moments es
+ends-moments (received xs ∷ es) = omega (arith, ends-append (map single xs) (moments es), singles-ends xs, ends-moments es)
+ends-moments (take buffer ∷ es) = ends-moments es
+ends-moments (condition n ∷ es) = ends-moments es
+ends-moments (look ∷ es) = ends-moments es
+
+pub recut-ends : (h g : List Event) → Recut h g → ends h ≡ ends g
+recut-ends h g e = sym (ends-moments h) ∙ ap ends e ∙ ends-moments g

@@ -1,0 +1,128 @@
+-- Demand 2, beside the definition of every event: settings keep their limits, pieces behave as their bytes, and an answer to a
+-- settings query, sent back, leaves every setting as it was.
+use mathlib.Core.Path.{_≡_}
+use mathlib.Core.Bool.{true, false}
+use mathlib.Core.List.{List, [], _∷_, _++_}
+use Prim.Native.Nat.{ℕ, _+_, _<_}
+use lib.ListN as L
+use lib.Signed.{leZ}
+use Rattle.registers.specs.Text.{Text, white, every, empty}
+use Rattle.registers.specs.Check.{passed}
+use Rattle.registers.specs.Settings.{count, voltage, twelveVolts, wideRange, kindOf, valueAt, within, answerOf, atReset}
+use Rattle.registers.specs.Status.{operationRead}
+use Rattle.interpreter.specs.Header.{Header, header, isCommon, fullNames}
+use Rattle.interpreter.specs.Rows.{rows, findRow}
+use Rattle.interpreter.specs.Box.{Box, box, withSettings, withRegisters, withLine, powerUp}
+use Rattle.interpreter.specs.Unit.{readUnit}
+use Rattle.interpreter.specs.Deeds.{perform}
+use Rattle.interpreter.specs.Line.{unitsOf, piece, newlines}
+use Rattle.interpreter.specs.Events.{Event, take, Result, happens, after}
+use Rattle.interpreter.specs.Histories.{newline, ends, Recut, replies}
+use Rattle.interpreter.specs.Demand3.{inLine, lineRefusal}
+use Rattle.interpreter.specs.declared.deed.Deed.the-variants.{Change, Clear, Query}
+use Rattle.interpreter.specs.declared.deed.Change.the-variants.{Reset}
+use Rattle.interpreter.specs.declared.deed.Query.the-variants.{Value}
+use Rattle.interpreter.specs.declared.deed.Role.the-variants.{Setting}
+
+-- ---- "Settings never leave their limits", in any history
+
+abbrev pub WithinLimits : Type 0
+WithinLimits = (es : List Event) (i : ℕ) → i < count →
+    let s = after powerUp es .core .settings in within s i (valueAt s i) ≡ true
+
+-- "a voltage above its range" never comes
+abbrev pub WithinRange : Type 0
+WithinRange = (es : List Event) →
+    let s = after powerUp es .core .settings in wideRange s ≡ false → leZ (valueAt s voltage) twelveVolts ≡ true
+
+-- ---- "*RST the settings only"; "*CLS clears the event status register, the operation event register and the queue, nothing else"
+
+abbrev pub ResetsOnly : Type 0
+ResetsOnly = (b : Box) → perform (Change Reset) b ≡ passed (box (withSettings atReset (b .core)) (b .trouble))
+
+abbrev pub ClearsOnly : Type 0
+ClearsOnly = (b : Box) → perform Clear b ≡ passed (box (withRegisters (operationRead (b .core .registers)) (b .core)) (record { events = 0; queue = [] }))
+
+-- ---- "A piece behaves as its bytes one at a time", and so as its parts; its count is the sum of theirs. In whatever pieces the
+-- bytes of a history come, the state, the results of all other events and the sum of the pieces' counts are the same
+
+abbrev pub InParts : Type 0
+InParts = (b : Box) (xs ys : Text)
+    → (piece b (xs ++ ys) ≡ piece (piece b xs) ys) × (newlines (xs ++ ys) ≡ newlines xs + newlines ys)
+
+abbrev pub InAnyPieces : Type 0
+InAnyPieces = (b : Box) (h g : List Event) → Recut h g → (after b h ≡ after b g) × (replies b h ≡ replies b g) × (ends h ≡ ends g)
+
+-- ---- the round trip
+
+-- a box whose waiting line is a query of setting i without parameter, in any spelling, alone
+pub record Asks (i : ℕ) (b : Box) : Type 0 where
+  pub whole : b .core .overlong ≡ false
+  pub alone : unitsOf (b .core .line) ≡ b .core .line ∷ []
+  pub path : List Text
+  pub asks : readUnit (b .core .settings) [] (b .core .line) ≡ passed (record { deed = Query (Value i); path = path })
+
+-- what then waits is the setting's value
+abbrev pub Answered : Type 0
+Answered = (i : ℕ) (before : List Event) → Asks i (after powerUp before) →
+    after powerUp (before ++ newline ∷ []) .core .answer ≡ answerOf (kindOf i) (valueAt (after powerUp before .core .settings) i) ++ 10 ∷ []
+
+-- an event took an answer: these bytes and a newline
+pub record Took (a : Text) (r : Result) : Type 0 where
+  pub number : r .number ≡ 0
+  pub bytes : L.take (r .value) (r .buffer) ≡ a ++ 10 ∷ []
+
+-- a header of setting i, not as a query, in any spelling
+pub record Spelling (i : ℕ) (h : Text) : Type 0 where
+  pub read : Header
+  pub reads : header h ≡ passed read
+  pub sets : read .query ≡ false
+  pub row : findRow (isCommon (read .place)) (fullNames (read .place) [] (read .names)) false rows ≡ passed (Setting i)
+
+-- a box whose waiting line is such a header with that parameter, alone, with any white space around them
+pub record Sends (i : ℕ) (a : Text) (b : Box) : Type 0 where
+  pub whole : b .core .overlong ≡ false
+  pub left : Text
+  pub header : Text
+  pub gap : Text
+  pub right : Text
+  pub line : b .core .line ≡ left ++ (header ++ (gap ++ (a ++ right)))
+  pub spelling : Spelling i header
+  pub leftWhite : every white left ≡ true
+  pub gapWhite : every white gap ≡ true
+  pub gapThere : empty gap ≡ false
+  pub rightWhite : every white right ≡ true
+
+-- the history up to the query's newline, to the take, and to the newline of the line that sends the answer back; what happens
+-- in between is no power-up and ends no other line
+abbrev pub queried : List Event → List Event
+queried before = before ++ newline ∷ []
+
+abbrev pub sentBack : List Event → List Event → Text → List Event → List Event
+sentBack before early buffer late = queried before ++ early ++ take buffer ∷ late
+
+-- "is accepted and leaves every setting as it was": it raises no error, and nothing is changed but that the line is gone
+pub record Back (asking sending back : Box) : Type 0 where
+  pub settings : back .core .settings ≡ asking .core .settings
+  pub accepted : lineRefusal sending ≡ 0
+  pub rest : back ≡ box (withLine [] false (sending .core)) (sending .trouble)
+
+abbrev pub RoundTrip : Type 0
+RoundTrip =
+    (i : ℕ) (a buffer : Text) (before early late h : List Event)
+    → every inLine early ≡ true → every inLine late ≡ true
+    → Asks i (after powerUp before)
+    → Took a (happens (after powerUp (queried before ++ early)) (take buffer) .result)
+    → Sends i a (after powerUp (sentBack before early buffer late))
+    → Recut h (sentBack before early buffer late ++ newline ∷ [])
+    → Back (after powerUp before) (after powerUp (sentBack before early buffer late)) (after powerUp h)
+
+pub record Demand2 : Type 0 where
+  pub limits : WithinLimits
+  pub range : WithinRange
+  pub resets : ResetsOnly
+  pub clears : ClearsOnly
+  pub parts : InParts
+  pub pieces : InAnyPieces
+  pub answered : Answered
+  pub roundTrip : RoundTrip

@@ -1,0 +1,186 @@
+-- Demand 3: a refused line, and the same history with that line cut to the units that were obeyed.
+use mathlib.Core.Path.{_≡_}
+use mathlib.Core.Bool.{Bool, true, false, not}
+use mathlib.Core.List.{List, [], _∷_, _++_}
+use Prim.Native.Nat.{ℕ, _-_}
+use Prim.Native.Char.{code}
+use lib.Dec.{eqb}
+use lib.ListN as L
+use lib.ListN.{length, drop}
+use Rattle.registers.specs.Text.{Text, if_then_else_, every}
+use Rattle.registers.specs.Check.{Checked, refused, passed}
+use Rattle.interpreter.specs.Box.{Core, Box, powerUp}
+use Rattle.interpreter.specs.Unit.{Read, readUnit}
+use Rattle.interpreter.specs.Line.{Obeyed, attempt, unitsOf, atNewline, byte}
+use Rattle.interpreter.specs.Events.{Event, started, received, take, condition, look, Result, happens, after}
+use Rattle.interpreter.specs.Histories.{newline, Recut, noPiece, answers, replies}
+use Rattle.interpreter.specs.declared.deed.Deed.{Deed}
+use Rattle.interpreter.specs.declared.deed.Deed.the-variants.{Change, Complete, Clear, Query, Inquire}
+
+-- ---- "refused at unit n+1": the first n units, those that are obeyed, and the number of the refusal, or 0
+
+abbrev pub obeyedNext : (List Text → Box → List Text) → Text → Checked Obeyed → List Text
+obeyedNext go u (refused n) = []
+obeyedNext go u (passed o) = u ∷ go (o .path) (o .box)
+
+unfoldable pub obeyed : List Text → List Text → Box → List Text
+obeyed [] path b = []
+obeyed (u ∷ us) path b = obeyedNext (λ p c. obeyed us p c) u (attempt path b u)
+
+abbrev pub refusalNext : (List Text → Box → ℕ) → Checked Obeyed → ℕ
+refusalNext go (refused n) = n
+refusalNext go (passed o) = go (o .path) (o .box)
+
+unfoldable pub refusal : List Text → List Text → Box → ℕ
+refusal [] path b = 0
+refusal (u ∷ us) path b = refusalNext (λ p c. refusal us p c) (attempt path b u)
+
+-- ---- "that line cut to its first n units"; "an overlong line counts as n = 0"
+
+unfoldable pub joinUnits : List Text → Text
+joinUnits [] = []
+joinUnits (u ∷ []) = u
+joinUnits (u ∷ v ∷ us) = u ++ code ";" ∷ joinUnits (v ∷ us)
+
+unfoldable pub cutLine : Box → Text
+cutLine b = if b .core .overlong then [] else joinUnits (obeyed (unitsOf (b .core .line)) [] (atNewline b))
+
+unfoldable pub lineRefusal : Box → ℕ
+lineRefusal b = if b .core .overlong then 363 else refusal (unitsOf (b .core .line)) [] (atNewline b)
+
+-- of the bytes received only the first k, and every other event
+unfoldable pub keep : ℕ → List Event → List Event
+keep k [] = []
+keep k (started ∷ es) = started ∷ keep k es
+keep k (received xs ∷ es) = received (L.take k xs) ∷ keep (k - length xs) es
+keep k (take buffer ∷ es) = take buffer ∷ keep k es
+keep k (condition n ∷ es) = condition n ∷ keep k es
+keep k (look ∷ es) = look ∷ keep k es
+
+-- ---- a line in a history: `before` it, its bytes and what else happens `during` it, and its newline
+
+-- an event while a line is under way: no newline, no power-up
+unfoldable pub inLine : Event → Bool
+inLine started = false
+inLine (received xs) = every (λ x. not (eqb x 10)) xs
+inLine (take buffer) = true
+inLine (condition n) = true
+inLine look = true
+
+-- the box as the newline comes
+abbrev pub atEnd : List Event → List Event → Box
+atEnd before during = after powerUp (before ++ during)
+
+abbrev pub asSent : List Event → List Event → List Event
+asSent before during = before ++ during ++ newline ∷ []
+
+abbrev pub asCut : List Event → List Event → List Event
+asCut before during = before ++ keep (length (cutLine (atEnd before during))) during ++ newline ∷ []
+
+-- no byte of a line has come
+abbrev pub Fresh : Core → Type 0
+Fresh c = (c .line ≡ []) × (c .overlong ≡ false)
+
+-- a line begins at power-up and behind every newline
+abbrev pub LinesBegin : Type 0
+LinesBegin = Fresh (powerUp .core) × ((es : List Event) → Fresh (after powerUp (es ++ newline ∷ []) .core))
+
+-- "any line in it that is refused .. by a number other than -430"; of a line that isn't refused nothing is cut
+pub record ALine (before during : List Event) : Type 0 where
+  pub begins : Fresh (after powerUp before .core)
+  pub underWay : every inLine during ≡ true
+  pub other : lineRefusal (atEnd before during) ≡ 430 → ⊥
+
+-- ---- what comes first afterwards: a unit that asks *ESR?, *STB? or SYST:ERR?, or an obeyed *CLS
+
+pub data Watch : Type 0 where
+  neither : Watch
+  asked : Watch
+  cleared : Watch
+
+-- the first that is not neither
+abbrev pub thenWatch : Watch → Watch → Watch
+thenWatch neither w = w
+thenWatch asked w = asked
+thenWatch cleared w = cleared
+
+abbrev pub watchDeed : Deed → Watch
+watchDeed (Change x) = neither
+watchDeed Complete = neither
+watchDeed Clear = cleared
+watchDeed (Query q) = neither
+watchDeed (Inquire q) = asked
+
+-- a unit asks if checks 1 to 8 accept it as such a query, even if -430 then refuses it
+abbrev pub watchRead : Checked Read → Watch
+watchRead (refused n) = neither
+watchRead (passed r) = watchDeed (r .deed)
+
+abbrev pub watchNext : (List Text → Box → Watch) → Checked Obeyed → Watch
+watchNext go (refused n) = neither
+watchNext go (passed o) = go (o .path) (o .box)
+
+unfoldable pub watchUnits : List Text → List Text → Box → Watch
+watchUnits [] path b = neither
+watchUnits (u ∷ us) path b =
+    thenWatch (watchRead (readUnit (b .core .settings) path u)) (watchNext (λ p c. watchUnits us p c) (attempt path b u))
+
+unfoldable pub watchLine : Text → Bool → Box → Watch
+watchLine line overlong b = if overlong then neither else watchUnits (unitsOf line) [] b
+
+unfoldable pub watchByte : Box → ℕ → Watch
+watchByte b x = if eqb x 10 then watchLine (b .core .line) (b .core .overlong) (atNewline b) else neither
+
+unfoldable pub watchPiece : Box → Text → Watch
+watchPiece b [] = neither
+watchPiece b (x ∷ xs) = thenWatch (watchByte b x) (watchPiece (byte b x) xs)
+
+-- a power-up leaves no difference either
+unfoldable pub watchEvent : Box → Event → Watch
+watchEvent b started = cleared
+watchEvent b (received xs) = watchPiece b xs
+watchEvent b (take buffer) = neither
+watchEvent b (condition n) = neither
+watchEvent b look = neither
+
+unfoldable pub watch : Box → List Event → Watch
+watch b [] = neither
+watch b (e ∷ es) = thenWatch (watchEvent b e) (watch (happens b e .box) es)
+
+-- ---- the demand
+
+-- two boxes agree "in all but the error queue and the event status register", from an obeyed *CLS on wholly; nothing is said
+-- once a unit has asked
+abbrev pub Agree : Watch → Box → Box → Type 0
+Agree neither a b = a .core ≡ b .core
+Agree cleared a b = a ≡ b
+Agree asked a b = Unit {0}
+
+abbrev pub AgreeAnswers : Watch → List Result → List Result → Type 0
+AgreeAnswers neither x y = x ≡ y
+AgreeAnswers cleared x y = x ≡ y
+AgreeAnswers asked x y = Unit {0}
+
+-- how many events are no pieces
+unfoldable pub others : List Event → ℕ
+others [] = 0
+others (e ∷ es) = let more = others es in if noPiece e then Prim.Native.Nat.suc more else more
+
+-- h is the history with the line as it was sent, h′ the same with the line cut, each in any pieces
+pub record Demand3 (before during later h h′ : List Event) : Type 0 where
+  -- what comes first afterwards is the same in both
+  pub first : watch (after powerUp (asSent before during)) later ≡ watch (after powerUp (asCut before during)) later
+  -- with nothing `later` it is the state at the line's newline
+  pub state : Agree (watch (after powerUp (asSent before during)) later) (after powerUp h) (after powerUp h′)
+  -- "every answer taken agrees meanwhile"
+  pub taken : AgreeAnswers (watch (after powerUp (asSent before during)) later) (answers powerUp h) (answers powerUp h′)
+  -- "from that *CLS on .. all results agree": those behind the results of the events before it
+  pub results : (meanwhile onward : List Event) → later ≡ meanwhile ++ onward
+      → watch (after powerUp (asSent before during)) meanwhile ≡ cleared
+      → drop (others (before ++ during ++ meanwhile)) (replies powerUp h) ≡ drop (others (before ++ during ++ meanwhile)) (replies powerUp h′)
+
+abbrev pub Statement : Type 0
+Statement =
+    (before during later h h′ : List Event) → ALine before during
+    → Recut h (asSent before during ++ later) → Recut h′ (asCut before during ++ later)
+    → Demand3 before during later h h′

@@ -1,0 +1,59 @@
+-- 01's "Lines to try" that are marked P, as one table: each is run from power-up and compared with what it must leave.
+use mathlib.Core.Path.{_≡_}
+use mathlib.Core.List.{List, [], _∷_, _++_, map}
+use Prim.Native.Nat.{ℕ}
+use Prim.Native.String.{String}
+use lib.ListN.{set}
+use lib.IntN.{ℤ, pos}
+use Rattle.registers.specs.Text.{Text, bytes}
+use Rattle.registers.specs.Settings.{atReset, minus}
+use Rattle.interpreter.specs.Box.{Box, powerUp}
+use Rattle.interpreter.specs.Events.{received, happens}
+
+pub record Example : Type 0 where
+  pub line : String
+  pub answer : String  -- the waiting answer with its newline
+  pub errors : List ℕ  -- the error queue; 222 stands for -222
+  pub sets : List (ℕ × ℤ)  -- settings by their row, in steps; all others are as at *RST
+
+abbrev example : String → String → List ℕ → List (ℕ × ℤ) → Example
+example l a e s = record { line = l; answer = a; errors = e; sets = s }
+
+unfoldable pub examples : List Example
+examples =
+    example "VOLT 5;FREQ 60;VOLT?;FREQ?" "5.0;60.0\n" [] ((4, pos 50) ∷ (6, pos 600) ∷ [])
+    ∷ example "VOLTA 5" "" (113 ∷ []) []
+    ∷ example "volt:level:imm 7.25" "" [] ((4, pos 73) ∷ [])
+    ∷ example "VOLT 12.04" "" [] ((4, pos 120) ∷ [])
+    ∷ example "VOLT 12.05" "" (222 ∷ []) []
+    ∷ example "CURR:LIM:PEAK:LOW -0.45" "" [] ((13, minus 5) ∷ [])
+    ∷ example "CURR:LIM:PEAK:LOW -0.44" "" (222 ∷ []) []
+    ∷ example "CURR:LIM:RMS 1.5;MODE OFF" "" (113 ∷ []) ((7, pos 15) ∷ [])
+    ∷ example "VOLT:RANG R24V;LEV 20;RANG R12V" "" (221 ∷ []) ((4, pos 200) ∷ (5, pos 1) ∷ [])
+    ∷ example "VOLT 5;;FREQ 60" "" (102 ∷ []) ((4, pos 50) ∷ [])
+    ∷ example "VOLT?;*STB?" "0.0;16\n" [] []
+    ∷ []
+
+-- what is compared: the answer, the queue, and every setting
+pub record Outcome : Type 0 where
+  pub answer : Text
+  pub queue : List ℕ
+  pub values : List ℤ
+
+unfoldable pub outcome : Box → Outcome
+outcome b = record { answer = b .core .answer; queue = b .trouble .queue; values = b .core .settings .values }
+
+-- the line with its newline, received in one piece by a box at power-up
+unfoldable pub ran : Example → Outcome
+ran e = outcome (happens powerUp (received (bytes (e .line) ++ 10 ∷ [])) .box)
+
+unfoldable pub allSet : List (ℕ × ℤ) → List ℤ → List ℤ
+allSet [] vs = vs
+allSet (p ∷ ps) vs = allSet ps (set vs (p .0) (p .1))
+
+unfoldable pub expected : Example → Outcome
+expected e = record { answer = bytes (e .answer); queue = e .errors; values = allSet (e .sets) (atReset .values) }
+
+-- every line of the table leaves what 01 says
+abbrev pub AllHold : Type 0
+AllHold = map ran examples ≡ map expected examples

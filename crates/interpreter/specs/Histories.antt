@@ -1,0 +1,65 @@
+-- Histories however their bytes are cut into pieces, and the results that don't depend on the cutting.
+use mathlib.Core.Path.{_≡_}
+use mathlib.Core.Bool.{Bool, true, false}
+use mathlib.Core.List.{List, [], _∷_, _++_, map}
+use Prim.Native.Nat.{ℕ, _+_}
+use Rattle.registers.specs.Text.{if_then_else_}
+use Rattle.interpreter.specs.Box.{Box}
+use Rattle.interpreter.specs.Line.{newlines}
+use Rattle.interpreter.specs.Events.{Event, started, received, take, condition, look, Result, happens}
+
+-- one byte received, and the newline
+abbrev pub single : ℕ → Event
+single x = received (x ∷ [])
+
+abbrev pub newline : Event
+newline = single 10
+
+-- a history with its bytes one at a time
+unfoldable pub moments : List Event → List Event
+moments [] = []
+moments (started ∷ es) = started ∷ moments es
+moments (received xs ∷ es) = map single xs ++ moments es
+moments (take buffer ∷ es) = take buffer ∷ moments es
+moments (condition n ∷ es) = condition n ∷ moments es
+moments (look ∷ es) = look ∷ moments es
+
+-- "however the bytes are cut": h is the history g, its bytes in any other pieces
+abbrev pub Recut : List Event → List Event → Type 0
+Recut h g = moments h ≡ moments g
+
+-- how many lines its pieces end, by their own counts
+unfoldable pub ends : List Event → ℕ
+ends [] = 0
+ends (started ∷ es) = ends es
+ends (received xs ∷ es) = newlines xs + ends es
+ends (take buffer ∷ es) = ends es
+ends (condition n ∷ es) = ends es
+ends (look ∷ es) = ends es
+
+abbrev pub isTake : Event → Bool
+isTake started = false
+isTake (received xs) = false
+isTake (take buffer) = true
+isTake (condition n) = false
+isTake look = false
+
+abbrev pub noPiece : Event → Bool
+noPiece started = true
+noPiece (received xs) = false
+noPiece (take buffer) = true
+noPiece (condition n) = true
+noPiece look = true
+
+-- the results of some of the events
+unfoldable pub resultsOf : (Event → Bool) → Box → List Event → List Result
+resultsOf p b [] = []
+resultsOf p b (e ∷ es) = let more = resultsOf p (happens b e .box) es in if p e then happens b e .result ∷ more else more
+
+-- the answers taken
+abbrev pub answers : Box → List Event → List Result
+answers = resultsOf isTake
+
+-- all results but the pieces' own counts of newlines
+abbrev pub replies : Box → List Event → List Result
+replies = resultsOf noPiece
