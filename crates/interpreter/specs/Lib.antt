@@ -14,3 +14,4 @@ pub mod Events
 pub mod DeedsParts
 pub mod LineParts
 pub mod State
+pub mod Server
