@@ -19,3 +19,4 @@ pub mod Histories
 pub mod Demand1
 pub mod Demand2
 pub mod Demand3
+pub mod Server

@@ -1,0 +1,49 @@
+-- A chunk on a state: refused, or served, and then what could be the box's is left so.
+use mathlib.Core.Path.{_≡_, refl, sym, _∙_, ap}
+use mathlib.Core.Bool.{true, false, false≢true}
+use mathlib.Core.List.{List, [], _∷_}
+use Prim.Native.Nat.{ℕ}
+use lib.Dec.{leb}
+use lib.ListN.{length}
+use Rattle.registers.specs.Text.{Text, empty}
+use Rattle.registers.specs.Settings.{count}
+use Rattle.interpreter.specs.Box.{mostAnswer}
+use Rattle.interpreter.specs.Events.{happens, received, take as takes}
+use Rattle.interpreter.specs.State.{boxOf, possibleState, flowBox}
+use Rattle.interpreter.specs.Server.{linesOf, Service, service, servedLine, serves, Serves, FlowServed}
+use Rattle.interpreter.specs.declared.state.State.{State}
+use Rattle.interpreter.specs.declared.state.Flow.{Flow}
+use Rattle.interpreter.proofs.Choices.{if-elim}
+use Rattle.interpreter.proofs.Possible.{Fit, event-fit, fit-from, fit-to}
+use Rattle.interpreter.proofs.state.Records.{Short, box-from, state-from}
+
+line-fits : (s : Service) (l : Text) → Fit mostAnswer (s .box) → Fit mostAnswer (servedLine s l .box)
+unfolding servedLine
+line-fits s l f =
+    let g = event-fit (s .box) (received l) f in
+    if-elim (λ (v : Service). Fit mostAnswer (v .box)) (empty (happens (s .box) (received l) .box .core .answer))
+    (λ _. g) (λ _. event-fit (happens (s .box) (received l) .box) (takes (s .rest)) g)
+
+serves-fit : (s : Service) (ls : List Text) → Fit mostAnswer (s .box) → Fit mostAnswer (serves s ls .box)
+unfolding serves
+serves-fit s [] f = f
+serves-fit s (l ∷ ls) f =
+    if-elim (λ (v : Service). Fit mostAnswer (v .box)) (leb mostAnswer (length (s .rest)))
+    (λ _. serves-fit (servedLine s l) ls (line-fits s l f)) (λ _. f)
+
+module _ (s : State) (input output : Text) where
+  pub refused-chunk : possibleState s ≡ false → Serves s input output 4 0 0 s output
+  refused-chunk n = record { possible = λ p. absurd (false≢true (sym n ∙ p)); impossible = λ _. (refl, refl, refl, refl, refl) }
+
+  pub served-chunk : length (s .settings .values) ≡ count → possibleState s ≡ true
+      → (f r : Flow) (lines left outputs : Text) (read written : ℕ) → flowBox f (s .line) (s .answer) ≡ boxOf s
+      → FlowServed f (s .line) (s .answer) input output r read written lines left outputs
+      → (t : State) → Short t → flowBox r lines left ≡ boxOf t → Serves s input output 0 read written t outputs
+  served-chunk long p f r lines left outputs read written begun w t short is =
+      let all = rw (is, begun) at (w .service) in
+      let still = serves-fit (service (boxOf s) 0 [] output) (linesOf input) (fit-from (boxOf s) long (box-from s p)) in
+      let box : boxOf t ≡ serves (service (boxOf s) 0 [] output) (linesOf input) .box = ap (λ (v : Service). v .box) all in
+      record {
+        possible = λ _. (state-from t short (rw (← box) at (fit-to _ still)), refl, w .within, all);
+        impossible = λ n. absurd (false≢true (sym n ∙ p));
+      }

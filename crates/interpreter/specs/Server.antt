@@ -1,0 +1,68 @@
+-- A chunk served for a program, in the words of the events: each line is received, and an answer that then waits is taken.
+use mathlib.Core.Path.{_≡_}
+use mathlib.Core.Bool.{true, false}
+use mathlib.Core.List.{List, [], _∷_, _++_}
+use Prim.Native.Nat.{ℕ, _+_, _-_, _≤_, _<_}
+use lib.Dec.{eqb, leb}
+use lib.ListN.{length, take, drop}
+use Rattle.registers.specs.Text.{Text, if_then_else_, empty}
+use Rattle.interpreter.specs.Cuts.{joinFirst}
+use Rattle.interpreter.specs.Box.{Box, mostAnswer}
+use Rattle.interpreter.specs.Events.{Happened, happens, received, take as takes}
+use Rattle.interpreter.specs.State.{boxOf, possibleState, flowBox, FlowFits}
+use Rattle.interpreter.specs.declared.state.State.{State}
+use Rattle.interpreter.specs.declared.state.Flow.{Flow}
+
+-- the bytes cut behind every newline
+unfoldable pub linesOf : Text → List Text
+linesOf [] = []
+linesOf (x ∷ xs) = if eqb x 10 then (x ∷ []) ∷ linesOf xs else joinFirst x (linesOf xs)
+
+-- how far it got: the box, the bytes read, the answers, and the output's bytes behind them
+pub record Service : Type 0 where
+  pub box : Box
+  pub read : ℕ
+  pub answers : Text
+  pub rest : Text
+
+abbrev pub service : Box → ℕ → Text → Text → Service
+service b n answers rest = record { box = b; read = n; answers = answers; rest = rest }
+
+-- what the take left stands behind the answers before it
+abbrev pub tookBehind : ℕ → Text → Happened → Service
+tookBehind n answers h =
+    service (h .box) n (answers ++ take (h .result .value) (h .result .buffer)) (drop (h .result .value) (h .result .buffer))
+
+-- "takes after each line, skips lines without answer without a take"
+unfoldable pub servedLine : Service → Text → Service
+servedLine s line =
+    let b = happens (s .box) (received line) .box in
+    if empty (b .core .answer) then service b (s .read + length line) (s .answers) (s .rest)
+    else tookBehind (s .read + length line) (s .answers) (happens b (takes (s .rest)))
+
+-- while there is room for one answer more
+unfoldable pub serves : Service → List Text → Service
+serves s [] = s
+serves s (line ∷ more) = if leb mostAnswer (length (s .rest)) then serves (servedLine s line) more else s
+
+-- a chunk on a state s: the refusal's number, the bytes read and written, the state t, and the output left
+pub record Serves (s : State) (input output : Text) (number read written : ℕ) (t : State) (left : Text) : Type 0 where
+  pub possible : possibleState s ≡ true
+      → (possibleState t ≡ true)
+      × (number ≡ 0)
+      × (written ≤ length left)
+      × (service (boxOf t) read (take written left) (drop written left) ≡ serves (service (boxOf s) 0 [] output) (linesOf input))
+  pub impossible : possibleState s ≡ false → (t ≡ s) × (number ≡ 4) × (read ≡ 0) × (written ≡ 0) × (left ≡ output)
+
+-- ---- what the functions inside say
+
+pub record LineCut (input : Text) (at end : ℕ) : Type 0 where
+  pub more : at < end
+  pub within : end ≤ length input
+  pub cut : linesOf (drop at input) ≡ take (end - at) (drop at input) ∷ linesOf (drop end input)
+
+pub record FlowServed (f : Flow) (line out input output : Text) (r : Flow) (read written : ℕ) (lines left outputs : Text) : Type 0 where
+  pub fits : FlowFits r
+  pub within : written ≤ length outputs
+  pub service : service (flowBox r lines left) read (take written outputs) (drop written outputs)
+      ≡ serves (service (flowBox f line out) 0 [] output) (linesOf input)
