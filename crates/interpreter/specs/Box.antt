@@ -1,4 +1,5 @@
--- The box in two parts: the trouble, that is the event status register and the error queue, and the core, all else.
+-- "What can happen to the box": the state that events change, in two parts. The trouble is the event status register and the
+-- error queue, the core is all else. And power-up, the first state.
 use mathlib.Core.Bool.{Bool, false}
 use mathlib.Core.List.{[]}
 use Prim.Native.Nat.{ℕ}
@@ -7,10 +8,11 @@ use Rattle.registers.specs.Settings.{atReset}
 use Rattle.registers.specs.Status.{Registers, Trouble, raised, registersOf, troubleOf, atStart}
 use Rattle.registers.specs.declared.settings.Settings.{Settings}
 
--- "A line holds at most 512 bytes", "would pass 1,024 bytes"
+-- "A line holds at most 512 bytes before its newline"
 abbrev pub mostLine : ℕ
 mostLine = 512
 
+-- check 9: an answer of the line with its newline doesn't "pass 1,024 bytes"
 abbrev pub mostAnswer : ℕ
 mostAnswer = 1024
 
@@ -49,7 +51,7 @@ answerIs a b = box (withAnswer a (b .core)) (b .trouble)
 abbrev pub raise : ℕ → Box → Box
 raise n b = box (b .core) (raised n (b .trouble))
 
--- "Power-up: the first state": "settings as *RST .. all else empty"
+-- "Power-up: settings as *RST, event status 128, enables 0, PTR 32,767, NTR 0, condition 0, all else empty"
 unfoldable pub powerUp : Box
 powerUp =
     box (record { settings = atReset; registers = registersOf atStart; line = []; overlong = false; answer = [] })

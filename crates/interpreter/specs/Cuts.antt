@@ -1,4 +1,4 @@
--- How texts are cut: at separators, and at the white space around them.
+-- "Lines and units" and check 2: how a text is cut at every `;`, `:` or `,`, and at the white space around a part.
 use mathlib.Core.Bool.{_&&_}
 use mathlib.Core.List.{List, [], _∷_}
 use Prim.Native.Nat.{ℕ}
@@ -19,7 +19,7 @@ abbrev pub joinFirst : ℕ → List Text → List Text
 joinFirst b [] = (b ∷ []) ∷ []
 joinFirst b (u ∷ us) = (b ∷ u) ∷ us
 
--- a text cut at every separator: one part more than it has separators
+-- "the line is cut at every `;`", "commas part the parameters": one part more than there are separators
 unfoldable pub cutAt : ℕ → Text → List Text
 cutAt s [] = [] ∷ []
 cutAt s (b ∷ bs) = if eqb b s then [] ∷ cutAt s bs else joinFirst b (cutAt s bs)

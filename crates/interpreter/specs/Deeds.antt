@@ -1,4 +1,4 @@
--- What an accepted unit does to the box, with check 9.
+-- "The sixteen settings" and "Registers and queue": what a unit that passed checks 1 to 8 does to the box; and check 9.
 use mathlib.Core.Bool.{Bool, not}
 use mathlib.Core.List.{_∷_, _++_}
 use Prim.Native.Char.{code}
@@ -20,7 +20,7 @@ use Rattle.interpreter.specs.declared.deed.Query.the-variants.{Identity,
 use Rattle.interpreter.specs.declared.deed.Inquiry as inquiries
 use Rattle.interpreter.specs.declared.deed.Inquiry.the-variants.{StandardEvents, StatusByte, NextError}
 
--- ---- changes
+-- ---- changes: a setting, *RST ("the settings only"), a register; *WAI does nothing
 
 unfoldable pub changed : changes.Change → Core → Core
 changed Nothing c = c
@@ -28,7 +28,7 @@ changed (Put i v) c = withSettings (withValue i v (c .settings)) c
 changed Reset c = withSettings atReset c
 changed (Store r n) c = withRegisters (storedIn r n (c .registers)) c
 
--- ---- queries that see the core alone
+-- ---- queries that see the core alone: "*IDN? answers `COURSE,BENCH24,0,4.00`; *TST? `0`; *OPC? `1`", "Register answers are decimal"
 
 unfoldable pub replyTo : queries.Query → Core → Text
 replyTo Identity c = bytes "COURSE,BENCH24,0,4.00"
@@ -40,7 +40,7 @@ replyTo (Stored r) c = decimal (registerIn r (c .registers))
 replyTo Condition c = decimal (c .registers .operation .condition)
 replyTo OperationEvents c = decimal (c .registers .operation .event)
 
--- the operation event register is cleared
+-- "Reading .. the event register clears it"
 abbrev pub operationCleared : Core → Core
 operationCleared c = withRegisters (operationRead (c .registers)) c
 
@@ -54,7 +54,7 @@ afterQuery (Stored r) c = c
 afterQuery Condition c = c
 afterQuery OperationEvents c = operationCleared c
 
--- ---- the three that see the trouble
+-- ---- the three that see the trouble: *ESR? clears what it reads, *STB? changes nothing, SYSTem:ERRor? "removes the oldest"
 
 unfoldable pub inquiryReply : inquiries.Inquiry → Box → Text
 inquiryReply StandardEvents b = decimal (b .trouble .events)
@@ -72,15 +72,15 @@ afterInquiry NextError t = oldestRead t
 unfoldable pub joined : Text → Text → Text
 joined a t = if empty a then t else a ++ code ";" ∷ t
 
--- "the answer with its separator and the final newline would pass 1,024 bytes"
+-- -430 where "the answer with its separator and the final newline would pass 1,024 bytes"
 unfoldable pub fitsAnswer : Text → Text → Bool
 fitsAnswer a t = ltb (length (joined a t)) mostAnswer
 
--- "-430 .. the query isn't performed"
+-- refused, "the query isn't performed": Line.refuse then drops the whole answer
 unfoldable pub reply : Text → Core → Checked Core
 reply t c = check 430 (fitsAnswer (c .answer) t) >> passed (withAnswer (joined (c .answer) t) c)
 
--- ---- the deed
+-- ---- the deed: "*OPC sets event bit 0"; "*CLS clears the event status register, the operation event register and the queue, nothing else"
 
 unfoldable pub perform : Deed → Box → Checked Box
 perform (Change x) b = passed (box (changed x (b .core)) (b .trouble))

@@ -21,9 +21,7 @@ use Rattle.interpreter.specs.Box.{Core, Box, box, mostAnswer}
 use Rattle.interpreter.specs.Deeds.{changed, afterQuery, afterInquiry, perform}
 use Rattle.interpreter.specs.Line.{refuse}
 use Rattle.interpreter.specs.declared.deed.Deed.{Deed}
-use Rattle.interpreter.specs.declared.deed.Deed.the-variants.{Change, Query}
 use Rattle.interpreter.specs.declared.deed.Change as changes
-use Rattle.interpreter.specs.declared.deed.Change.the-variants.{Nothing}
 use Rattle.interpreter.specs.declared.deed.Query as queries
 use Rattle.interpreter.specs.declared.deed.Inquiry as inquiries
 use Rattle.interpreter.specs.declared.deed.Inquiry.the-variants.{StandardEvents, StatusByte, NextError}

@@ -1,4 +1,4 @@
--- "What can happen to the box": the five events, the refusals of 01's table, and histories.
+-- "What can happen to the box": the five events, the four refusals of its table, and histories.
 use mathlib.Core.Bool.{Bool, not, _&&_}
 use mathlib.Core.List.{List, [], _∷_, _++_}
 use Prim.Native.Nat.{ℕ}
@@ -51,11 +51,11 @@ reported n b =
     (box (withRegisters (withOperation (conditionIs n (b .core .registers .operation)) (b .core .registers)) (b .core)) (b .trouble))
     else happened (result 3 0 []) b
 
--- "the status byte, with bit 6"
+-- look: "the status byte, with bit 6 as below. It changes nothing"
 abbrev pub seen : Box → ℕ
 seen b = statusByte (b .core .registers) (b .trouble) (not (empty (b .core .answer)))
 
--- an event on a state that could be the box's
+-- an event on a state that could be the box's: number 4, which is tested first, is in State.Happens
 unfoldable pub happens : Box → Event → Happened
 happens b started = happened (result 0 0 []) powerUp
 happens b (received xs) = happened (result 0 (newlines xs) []) (piece b xs)
@@ -63,7 +63,7 @@ happens b (take buffer) = taken buffer b
 happens b (condition n) = reported n b
 happens b look = happened (result 0 (seen b) []) b
 
--- the buffer that an event lends
+-- the buffer that an event lends; no event but take has one
 abbrev pub lent : Event → Text
 lent started = []
 lent (received xs) = []
@@ -71,7 +71,7 @@ lent (take buffer) = buffer
 lent (condition n) = []
 lent look = []
 
--- ---- number 4: what could be the box's
+-- ---- number 4: the boxes that could be the box's own. State.possibleState says the same of a record
 
 unfoldable pub possibleCore : Core → Bool
 possibleCore c =
@@ -81,7 +81,7 @@ possibleCore c =
 unfoldable pub possible : Box → Bool
 possible b = possibleCore (b .core) && possibleTrouble (b .trouble)
 
--- ---- histories
+-- ---- histories: events one after the other, the box that they leave and their results
 
 unfoldable pub after : Box → List Event → Box
 after b [] = b

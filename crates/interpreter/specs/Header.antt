@@ -1,4 +1,5 @@
--- Headers: how one is written, the names that it stands for, and the path that it leaves.
+-- "Lines and units", its headers, and check 2 on a header: how one is written, the names that it stands for, the path that it
+-- leaves, and when a row spells it.
 use mathlib.Core.Bool.{Bool, true, false, _&&_, _||_}
 use mathlib.Core.List.{List, [], _∷_, _++_}
 use Prim.Native.Char.{code}
@@ -30,7 +31,8 @@ name t = letter (first t) && every wordByte t
 unfoldable pub placed : Place → List Text → Bool → Checked Header
 placed p names q = check 102 (every name names) >> passed (record { place = p; names = names; query = q })
 
--- check 2 on the header: "`*` and one name, or names joined by single colons (one more may lead)"
+-- check 2 on the header: "`*` and one name, or names joined by single colons (one more may lead)". The header of an empty unit is
+-- empty, so that it is refused here too
 unfoldable pub header : Text → Checked Header
 header t =
     let q = asks t in
@@ -57,7 +59,7 @@ isCommon common = true
 isCommon root = false
 isCommon here = false
 
--- ---- when a row spells names: "with its optional nodes kept or left out in any way"
+-- ---- when a row spells names: "Nodes in brackets may be left out", "kept or left out in any way"
 
 unfoldable pub spells : List Node → List Text → Bool
 spells [] names = empty names

@@ -1,4 +1,4 @@
--- Lines: their units left to right, the newline, and bytes as they come in.
+-- "Lines and units": the units of a line left to right, the newline, and bytes as they come in. The event of a piece.
 use mathlib.Core.Bool.{Bool, true, false}
 use mathlib.Core.List.{List, [], _∷_, _++_}
 use Prim.Native.Nat.{ℕ}
@@ -45,7 +45,7 @@ runUnits (u ∷ us) path b = next (λ p c. runUnits us p c) b (attempt path b u)
 unfoldable pub interrupted : Box → Box
 interrupted b = if empty (b .core .answer) then b else raise 410 (answerIs [] b)
 
--- "ended by a newline"
+-- "Answers of one line are joined by `;` and ended by a newline"
 unfoldable pub finished : Box → Box
 finished b = if empty (b .core .answer) then b else answerIs (b .core .answer ++ 10 ∷ []) b
 
@@ -57,7 +57,7 @@ unitsOf line = if every white line then [] else cutAt (code ";") line
 unfoldable pub runLine : Text → Bool → Box → Box
 runLine line overlong b = if overlong then raise 363 b else finished (runUnits (unitsOf line) [] b)
 
--- the box in which the units of the waiting line run
+-- the box in which the units of the waiting line run: its bytes are taken, and -410 comes "also of a blank or overlong line"
 abbrev pub atNewline : Box → Box
 atNewline b = interrupted (box (withLine [] false (b .core)) (b .trouble))
 

@@ -1,4 +1,4 @@
--- Checks 4 to 8: how many parameters, what each is, and the value that it gives.
+-- Checks 4 to 8 on the parameters of a unit: how many, what each is, and the value that it gives. Check 6 is the lower crate's.
 use mathlib.Core.Bool.{Bool, true, false, not, _&&_, _||_}
 use mathlib.Core.List.{List, [], _∷_, map}
 use Prim.Native.Nat.{ℕ, zero, suc}
@@ -25,7 +25,7 @@ use Rattle.interpreter.specs.declared.deed.Role.the-variants.{Setting as
 use Rattle.interpreter.specs.declared.parameter.Given.{Given}
 use Rattle.interpreter.specs.declared.parameter.Given.the-variants.{Word, Figure}
 
--- "commas part the parameters"
+-- check 2: "commas part the parameters"; none where nothing stands behind the header
 unfoldable pub parameters : Text → List Text
 parameters t = if empty t then [] else map trim (cutAt (code ",") t)
 
@@ -78,14 +78,15 @@ takesNumbers bool = true
 takesNumbers (words ws) = false
 takesNumbers (number k low high) = true
 
--- ---- checks 7 and 8
+-- ---- checks 7 and 8: a value is rounded, "and only then compared"
 
 -- MINimum and MAXimum of a row
 abbrev pub limitAt : Settings → ℕ → ℕ → ℤ
 limitAt s i zero = lowest i
 limitAt s i (suc n) = highest s i
 
--- the value that a parameter gives to setting i
+-- the value that a parameter gives to setting i; for a bool "zero is off, any other is on". A number for a row of words, the
+-- fourth line, was refused by check 5
 unfoldable pub valueGiven : Settings → ℕ → Kind → Given → ℤ
 valueGiven s i bool (Word n) = pos n
 valueGiven s i bool (Figure d) = if switchedOn d then pos 1 else pos 0
@@ -100,7 +101,7 @@ settingDeed s i t =
     let v = valueGiven s i (kindOf i) g in
     check 222 (within s i v) >> check 221 (not (conflict s i v)) >> passed (Change (Put i v))
 
--- the query of a number row with MINimum or MAXimum
+-- the query of a number row with MINimum or MAXimum; a number in a query was refused by check 5
 abbrev pub limitGiven : Settings → ℕ → Given → ℤ
 limitGiven s i (Word n) = limitAt s i n
 limitGiven s i (Figure d) = pos 0
@@ -108,7 +109,7 @@ limitGiven s i (Figure d) = pos 0
 unfoldable pub limitDeed : Settings → ℕ → Text → Checked Deed
 limitDeed s i t = parameter limitWords false t >>= λ g. passed (Query (Limit i (limitGiven s i g)))
 
--- "Numbers here use step 1 and no MIN or MAX"
+-- "Numbers here use step 1 and no MIN or MAX"; a word was refused by check 5
 abbrev pub registerGiven : Given → ℤ
 registerGiven (Word n) = pos n
 registerGiven (Figure d) = rounded 1 d

@@ -1,9 +1,9 @@
--- What a state of the code means, and what each of the five events says of it.
+-- "What can happen to the box", for the code: what a State means, and what each of the five events says of it; refusal 4.
 use mathlib.Core.Path.{_≡_}
 use mathlib.Core.Bool.{Bool, true, false, _&&_}
 use Prim.Native.Nat.{ℕ, _+_, _≤_}
 use lib.Dec.{leb}
-use lib.ListN.{length, take}
+use lib.ListN.{take}
 use Rattle.registers.specs.Text.{Text}
 use Rattle.registers.specs.Settings.{possibleSettings}
 use Rattle.registers.specs.Status.{registersOf, troubleOf, possibleStatus}
@@ -46,7 +46,8 @@ possibleParts settings status filled waiting =
 abbrev pub possibleState : State → Bool
 possibleState s = possibleParts (s .settings) (s .status) (s .filled) (s .waiting)
 
--- an event on a state s left the result r and the state t
+-- an event, any but power-up, on a state s left the result r and the state t. "Number 4 is tested first": "state and buffers
+-- unchanged; count, length and status byte 0"
 pub record Happens (s : State) (e : Event) (r : Result) (t : State) : Type 0 where
   pub possible : possibleState s ≡ true → (possibleState t ≡ true) × (happened r (boxOf t) ≡ happens (boxOf s) e)
   pub impossible : possibleState s ≡ false → (t ≡ s) × (r ≡ result 4 0 (lent e))

@@ -17,13 +17,14 @@ pub record Read : Type 0 where
   pub deed : Deed
   pub path : List Text
 
--- "the header runs to the first white space"
+-- check 2: "White space around a unit .. is skipped; the header runs to the first white space"
 abbrev pub headerText : Text → Text
 headerText u = start dark (after white u)
 
 abbrev pub parameterText : Text → Text
 parameterText u = trim (after dark (after white u))
 
+-- the checks in 01's order: 1, 2, 3, 4, then 5 to 8 in deedOf
 unfoldable pub readUnit : Settings → List Text → Text → Checked Read
 readUnit s path u =
     check 101 (every (λ b. white b || printable b) u) >>

@@ -78,7 +78,7 @@ enter-requires c κs =
     let w = root-well (read r) (not-false _ (i .before .before .if1 .left)) (i .before .if2 .left) (i .if3 .taken) in
     let l = names-fit (read r) in
     let p = o .pre .1 .0 in
-    (o .pre .0, (omega arith, (closed-nil, w)))
+    (o .pre .0, (omega arith, (search (needs, closed-nil), w)))
 
 same-length : tie.Need-same-length
 same-length c = search needs
