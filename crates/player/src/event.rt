@@ -1,0 +1,219 @@
+// The events of a script, each played on a state and answered by a report without its newline.
+use crate::field;
+use crate::report;
+use crate::script;
+use bytes::scan;
+use interpreter::state::State;
+use registers::group::Group;
+use registers::settings::Settings;
+use registers::status::Status;
+
+// The state behind an event and the report's length: 0 where the line can't be read.
+pub(crate) struct Played {
+    pub(crate) state: State,
+    pub(crate) length: usize,
+}
+
+// The longest buffer that take is lent, and what each of its bytes is before.
+const BUFFER: usize = 4096;
+
+const UNTOUCHED: u8 = 0xAA;
+
+// The most bytes that a script line spells.
+const PIECE: usize = 8192;
+
+fn unreadable(state: State) -> Played {
+    Played { state, length: 0 }
+}
+
+fn power_up(out: &mut [u8]) -> Played {
+    let length = report::put(out, 0, b'u');
+    let state = State::power_up();
+    Played { state, length }
+}
+
+fn receive(state: State, piece: &[u8], out: &mut [u8]) -> Played {
+    let fed = state.piece(piece);
+    let outcome = fed.outcome;
+    let letter = report::put(out, 0, b'p');
+    let number = report::number(out, letter, outcome.number() as u64);
+    let length = report::number(out, number, fed.count as u64);
+    let after = fed.state;
+    Played {
+        state: after,
+        length,
+    }
+}
+
+// A piece that a text of hex digits spells.
+fn receive_hex(state: State, text: &[u8], out: &mut [u8]) -> Played {
+    let mut bytes = [0u8; PIECE];
+    let n = script::unhex(text, &mut bytes);
+    receive_front(state, &bytes, n, out)
+}
+
+fn receive_front(state: State, bytes: &[u8], n: usize, out: &mut [u8]) -> Played {
+    if n <= bytes.len() {
+        return receive(state, &bytes[0..n], out);
+    }
+    unreadable(state)
+}
+
+fn take_into(state: State, buffer: &mut [u8], out: &mut [u8]) -> Played {
+    let taken = state.take(buffer);
+    let outcome = taken.outcome;
+    let letter = report::put(out, 0, b't');
+    let number = report::number(out, letter, outcome.number() as u64);
+    let answer = report::number(out, number, taken.length as u64);
+    let length = report::hex(out, answer, buffer);
+    let after = taken.state;
+    Played {
+        state: after,
+        length,
+    }
+}
+
+fn take_front(state: State, buffer: &mut [u8], n: u64, out: &mut [u8]) -> Played {
+    if n <= BUFFER as u64 {
+        let end = n as usize;
+        if end <= buffer.len() {
+            return take_into(state, &mut buffer[0..end], out);
+        }
+    }
+    unreadable(state)
+}
+
+fn take(state: State, text: &[u8], out: &mut [u8]) -> Played {
+    let mut buffer = [UNTOUCHED; BUFFER];
+    take_front(state, &mut buffer, script::decimal(text), out)
+}
+
+fn condition(state: State, text: &[u8], out: &mut [u8]) -> Played {
+    let value = script::decimal(text);
+    if 65535 < value {
+        return unreadable(state);
+    }
+    let reported = state.condition(value as u16);
+    let outcome = reported.outcome;
+    let letter = report::put(out, 0, b'c');
+    let length = report::number(out, letter, outcome.number() as u64);
+    let after = reported.state;
+    Played {
+        state: after,
+        length,
+    }
+}
+
+fn look(state: State, out: &mut [u8]) -> Played {
+    let seen = state.look();
+    let outcome = seen.outcome;
+    let letter = report::put(out, 0, b'l');
+    let number = report::number(out, letter, outcome.number() as u64);
+    let length = report::number(out, number, seen.byte as u64);
+    Played { state, length }
+}
+
+fn show_group(group: Group, from: usize, out: &mut [u8]) -> usize {
+    let condition = report::number(out, from, group.condition as u64);
+    let event = report::number(out, condition, group.event as u64);
+    let enable = report::number(out, event, group.enable as u64);
+    let ptr = report::number(out, enable, group.ptr as u64);
+    report::number(out, ptr, group.ntr as u64)
+}
+
+fn show_registers(status: Status, from: usize, out: &mut [u8]) -> usize {
+    let group = status.operation;
+    let events = report::number(out, from, status.events as u64);
+    let ese = report::number(out, events, status.ese as u64);
+    let sre = report::number(out, ese, status.sre as u64);
+    show_group(group, sre, out)
+}
+
+fn show_queue(status: Status, from: usize, out: &mut [u8]) -> usize {
+    let errors = status.errors;
+    report::numbers(out, from, &errors, status.queued)
+}
+
+fn show_line(state: State, from: usize, out: &mut [u8]) -> usize {
+    let line = state.line;
+    let at = report::number(out, from, state.overlong as u64);
+    report::hex_front(out, at, &line, state.filled)
+}
+
+fn show_answer(state: State, from: usize, out: &mut [u8]) -> usize {
+    let answer = state.answer;
+    report::hex_front(out, from, &answer, state.waiting)
+}
+
+fn show_settings(settings: Settings, from: usize, out: &mut [u8]) -> usize {
+    let values = settings.values;
+    report::signed_numbers(out, from, &values)
+}
+
+fn show(state: State, out: &mut [u8]) -> Played {
+    let settings = state.settings;
+    let status = state.status;
+    let letter = report::put(out, 0, b's');
+    let values = show_settings(settings, letter, out);
+    let registers = show_registers(status, values, out);
+    let queue = show_queue(status, registers, out);
+    let line = show_line(state, queue, out);
+    let length = show_answer(state, line, out);
+    Played { state, length }
+}
+
+fn overwrite(state: State, text: &[u8], out: &mut [u8]) -> Played {
+    let end = scan::find(text, 0, text.len(), b' ');
+    if end == text.len() {
+        return unreadable(state);
+    }
+    let overwritten = field::overwrite(state, &text[0..end], &text[end + 1..]);
+    let after = overwritten.state;
+    let readable = overwritten.readable;
+    if readable {
+        let length = report::put(out, 0, b'x');
+        return Played {
+            state: after,
+            length,
+        };
+    }
+    unreadable(after)
+}
+
+// A line of one letter.
+fn play_letter(state: State, letter: u8, out: &mut [u8]) -> Played {
+    match letter {
+        b'u' => power_up(out),
+        b'p' => receive_hex(state, &[], out),
+        b'l' => look(state, out),
+        b's' => show(state, out),
+        _ => unreadable(state),
+    }
+}
+
+// A letter with a text behind it.
+fn play_text(state: State, letter: u8, text: &[u8], out: &mut [u8]) -> Played {
+    match letter {
+        b'p' => receive_hex(state, text, out),
+        b't' => take(state, text, out),
+        b'c' => condition(state, text, out),
+        b'x' => overwrite(state, text, out),
+        _ => unreadable(state),
+    }
+}
+
+// The event that a line names.
+pub(crate) fn play(state: State, text: &[u8], out: &mut [u8]) -> Played {
+    if text.len() == 0 {
+        return unreadable(state);
+    }
+    let letter = text[0];
+    if text.len() == 1 {
+        return play_letter(state, letter, out);
+    }
+    let blank = text[1];
+    if blank != b' ' {
+        return unreadable(state);
+    }
+    play_text(state, letter, &text[2..], out)
+}

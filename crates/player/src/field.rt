@@ -1,0 +1,231 @@
+// The numbers of the raw record that a script can overwrite.
+use crate::script;
+use crate::script::Reading;
+use interpreter::state::State;
+use registers::group::Group;
+use registers::settings::Settings;
+use registers::status::Status;
+ghost use Prim.Native.Nat.{_≤_};
+
+pub(crate) enum Field {
+    Setting(usize),
+    Events,
+    Ese,
+    Sre,
+    Condition,
+    Event,
+    Enable,
+    Ptr,
+    Ntr,
+    Queued,
+    Failure(usize),
+    Line,
+    Answer,
+    Unknown,
+}
+
+// The record with the number overwritten, or as it was where the value can't be read.
+pub(crate) struct Overwritten {
+    pub(crate) state: State,
+    pub(crate) readable: bool,
+}
+
+// The largest value of a register, an error and a length.
+const WIDEST: u64 = 65535;
+
+const PLACES: usize = 16;
+
+// The place from 0 to 15 that a text spells, 16 for any other text.
+fn place(text: &[u8]) -> usize
+    ensures { λ r. ⌜ r ≤ 16 ⌝ }
+{
+    if text.len() == 1 {
+        let b = text[0];
+        if b < 48 {
+            return PLACES;
+        }
+        if b < 58 {
+            return (b - 48) as usize;
+        }
+        return PLACES;
+    }
+    if text.len() == 2 {
+        let tens = text[0];
+        if tens != b'1' {
+            return PLACES;
+        }
+        let b = text[1];
+        if b < 48 {
+            return PLACES;
+        }
+        if b < 54 {
+            return (b - 38) as usize;
+        }
+    }
+    PLACES
+}
+
+// The place in an array that a name spells behind the array's own, 16 for any other name.
+fn place_in(name: &[u8], array: &[u8]) -> usize
+    ensures { λ r. ⌜ r ≤ 16 ⌝ }
+{
+    let n = array.len();
+    if n <= name.len() {
+        if check::same(&name[0..n], array) {
+            return place(&name[n..]);
+        }
+    }
+    PLACES
+}
+
+// The field of one number that a name spells.
+fn single(name: &[u8]) -> Field {
+    if check::same(name, b"esr") {
+        return Field::Events;
+    }
+    if check::same(name, b"ese") {
+        return Field::Ese;
+    }
+    if check::same(name, b"sre") {
+        return Field::Sre;
+    }
+    if check::same(name, b"condition") {
+        return Field::Condition;
+    }
+    if check::same(name, b"event") {
+        return Field::Event;
+    }
+    if check::same(name, b"enable") {
+        return Field::Enable;
+    }
+    if check::same(name, b"ptr") {
+        return Field::Ptr;
+    }
+    if check::same(name, b"ntr") {
+        return Field::Ntr;
+    }
+    if check::same(name, b"queued") {
+        return Field::Queued;
+    }
+    if check::same(name, b"line") {
+        return Field::Line;
+    }
+    if check::same(name, b"answer") {
+        return Field::Answer;
+    }
+    Field::Unknown
+}
+
+// The field that a name spells.
+fn named(name: &[u8]) -> Field {
+    let row = place_in(name, b"setting.");
+    if row < PLACES {
+        return Field::Setting(row);
+    }
+    let item = place_in(name, b"error.");
+    if item < PLACES {
+        return Field::Failure(item);
+    }
+    single(name)
+}
+
+// The parts of the record with a number put in. A field of another part leaves a part as it is.
+fn in_settings(mut settings: Settings, row: usize, value: i32) -> Settings {
+    if row < PLACES {
+        settings.values[row] = value;
+    }
+    settings
+}
+
+fn in_group(mut group: Group, field: Field, n: u16) -> Group {
+    match field {
+        Field::Condition => group.condition = n,
+        Field::Event => group.event = n,
+        Field::Enable => group.enable = n,
+        Field::Ptr => group.ptr = n,
+        Field::Ntr => group.ntr = n,
+        _ => {}
+    }
+    group
+}
+
+fn in_queue(mut status: Status, item: usize, n: u16) -> Status {
+    if item < PLACES {
+        status.errors[item] = n;
+    }
+    status
+}
+
+fn in_status(mut status: Status, field: Field, n: u16) -> Status {
+    let group = status.operation;
+    let next = in_group(group, field, n);
+    status.operation = next;
+    match field {
+        Field::Events => status.events = n,
+        Field::Ese => status.ese = n,
+        Field::Sre => status.sre = n,
+        Field::Queued => status.queued = n as usize,
+        Field::Failure(item) => return in_queue(status, item, n),
+        _ => {}
+    }
+    status
+}
+
+fn in_state(mut state: State, field: Field, n: u16) -> State {
+    let status = state.status;
+    let next = in_status(status, field, n);
+    state.status = next;
+    match field {
+        Field::Line => state.filled = n as usize,
+        Field::Answer => state.waiting = n as usize,
+        _ => {}
+    }
+    state
+}
+
+// A setting takes a signed value, the other fields a whole one.
+fn setting(mut state: State, row: usize, value: &[u8]) -> Overwritten {
+    match script::signed(value) {
+        Reading::Value(v) => {
+            let settings = state.settings;
+            let next = in_settings(settings, row, v);
+            state.settings = next;
+            Overwritten {
+                state,
+                readable: true,
+            }
+        }
+        Reading::Unreadable => Overwritten {
+            state,
+            readable: false,
+        },
+    }
+}
+
+fn number(state: State, field: Field, value: &[u8]) -> Overwritten {
+    let n = script::decimal(value);
+    if WIDEST < n {
+        return Overwritten {
+            state,
+            readable: false,
+        };
+    }
+    let next = in_state(state, field, n as u16);
+    Overwritten {
+        state: next,
+        readable: true,
+    }
+}
+
+// Overwrites the named field by the value that a text spells.
+pub(crate) fn overwrite(state: State, name: &[u8], value: &[u8]) -> Overwritten {
+    let field = named(name);
+    match field {
+        Field::Setting(row) => setting(state, row, value),
+        Field::Unknown => Overwritten {
+            state,
+            readable: false,
+        },
+        _ => number(state, field, value),
+    }
+}
