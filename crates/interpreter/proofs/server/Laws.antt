@@ -6,7 +6,7 @@ use Prim.Native.Nat.{ℕ, suc, _+_, _-_, _≤_, _<_, zero-le}
 use native.Mathlib.Omega.{arith}
 use lib.Dec.{eqb, ltb, leb}
 use lib.ListN.{length, take, drop, length-take, length-drop, length-append, drop-of-length-le}
-use lib.Seq.{take-length, take-all, drop-drop, take-at, drop-at, take-append-seam, drop-append-seam}
+use lib.Seq.{take-length, take-all, drop-drop, take-at, drop-at}
 use native.Mathlib.Nat.{sub-zero}
 use borrow.Rule.Slice.PartMut.{putMid}
 use borrow.Author.Tests.{eqb-true, le-leb, lt-leb, leb-true, ltb-true, ltb-false, leb-false}
@@ -14,7 +14,6 @@ use Rattle.bytes.specs.Bytes.{indexOf, indexAfter, slice}
 use Rattle.registers.specs.Text.{Text, if_then_else_, empty}
 use Rattle.interpreter.specs.Box.{mostLine, mostAnswer}
 use Rattle.interpreter.specs.Events.{happens, taken}
-use Rattle.interpreter.specs.Line.{piece}
 use Rattle.interpreter.specs.State.{flowBox, FlowFits, FlowFed}
 use Rattle.interpreter.specs.Server.{linesOf, Service, service, servedLine, serves, LineCut, FlowServed}
 use Rattle.interpreter.specs.declared.state.Flow.{Flow}
