@@ -17,3 +17,4 @@ pub mod Demand2
 pub mod Demand3
 pub mod Met
 pub mod Dummies
+pub mod Calls

@@ -22,3 +22,4 @@ pub mod Demand1
 pub mod Demand2
 pub mod Demand3
 pub mod Server
+pub mod Calls
