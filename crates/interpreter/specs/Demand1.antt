@@ -1,9 +1,9 @@
 -- Demand 1: each refusal is given exactly when 01 says, carries its number, and changes only what 01 lists for it.
 use mathlib.Core.Path.{_≡_}
-use mathlib.Core.Bool.{Bool, true, false, not, _&&_}
+use mathlib.Core.Bool.{true}
 use mathlib.Core.List.{List, [], _∷_}
 use Prim.Native.Nat.{ℕ}
-use lib.Dec.{ltb}
+use lib.Dec.{ltb, eqb}
 use lib.ListN.{length}
 use Rattle.registers.specs.Text.{Text, if_then_else_, empty}
 use Rattle.registers.specs.Check.{refused}
@@ -11,21 +11,11 @@ use Rattle.registers.specs.Errors.{known}
 use Rattle.registers.specs.Group.{widestGroup}
 use Rattle.interpreter.specs.Box.{Box, raise, answerIs}
 use Rattle.interpreter.specs.Line.{attempt, runUnits}
-use Rattle.interpreter.specs.Events.{Event, started, received, take, condition, look, Happened, happened, result, happens, lent, possible}
+use Rattle.interpreter.specs.Events.{Event, started, received, take, condition, look, Result, result, Happened, happened, lent}
+use Rattle.interpreter.specs.State.{boxOf, possibleState, Happens}
+use Rattle.interpreter.specs.declared.state.State.{State}
 
--- ---- any event on any state: "Number 4 is tested first"; a power-up is never refused
-
-abbrev pub notStart : Event → Bool
-notStart started = false
-notStart (received xs) = true
-notStart (take buffer) = true
-notStart (condition n) = true
-notStart look = true
-
-unfoldable pub event : Box → Event → Happened
-event b e = if notStart e && not (possible b) then happened (result 4 0 (lent e)) b else happens b e
-
--- ---- 01's table: which number is given, 0 for none
+-- ---- 01's table, its column "When": which number is given, 0 for none. A power-up is never refused
 
 unfoldable pub numberFor : Box → Event → ℕ
 numberFor b started = 0
@@ -34,19 +24,24 @@ numberFor b (take buffer) = if empty (b .core .answer) then 2 else (if ltb (leng
 numberFor b (condition n) = if ltb widestGroup n then 3 else 0
 numberFor b look = 0
 
-unfoldable pub refusalOf : Box → Event → ℕ
-refusalOf b e = if notStart e && not (possible b) then 4 else numberFor b e
+-- "Number 4 is tested first", on the record's own numbers
+unfoldable pub refusalOf : State → Event → ℕ
+refusalOf s e = if possibleState s then numberFor (boxOf s) e else 4
 
--- what an event with number n leaves, and its result
-pub record Says (b : Box) (e : Event) (h : Happened) (n : ℕ) : Type 0 where
-  pub number : h .result .number ≡ n
-  pub first : n ≡ 1 → h ≡ happened (result 1 (length (b .core .answer)) (lent e)) b
-  pub second : n ≡ 2 → h ≡ happened (result 2 0 (lent e)) (raise 420 b)
-  pub third : n ≡ 3 → h ≡ happened (result 3 0 (lent e)) b
-  pub fourth : n ≡ 4 → h ≡ happened (result 4 0 (lent e)) b
+-- ---- its column "What it leaves", by the number. 1: "result gives the needed length"; 2: "error -420 raised"; else the state is
+-- unchanged and the count, length or status byte is 0. The lent buffer is never touched
+
+abbrev pub leaves : Box → Event → ℕ → Happened
+leaves b e n = happened (result n (if eqb n 1 then length (b .core .answer) else 0) (lent e)) (if eqb n 2 then raise 420 b else b)
+
+-- a call, known by its promise alone, left the result r and the state t
+pub record Refuses (s : State) (e : Event) (r : Result) (t : State) : Type 0 where
+  pub number : r .number ≡ refusalOf s e
+  pub left : (refusalOf s e ≡ 0 → ⊥) → happened r (boxOf t) ≡ leaves (boxOf s) e (refusalOf s e)
+  pub untouched : refusalOf s e ≡ 4 → t ≡ s
 
 abbrev pub EventRefusals : Type 0
-EventRefusals = (b : Box) (e : Event) → Says b e (event b e) (refusalOf b e)
+EventRefusals = (s t : State) (e : Event) (r : Result) → Happens s e r t → Refuses s e r t
 
 -- ---- "The first refused unit raises one error and changes nothing else (but check 9 drops the answer), and the rest of the
 -- line is dropped"

@@ -1,6 +1,6 @@
 -- Demand 1, proved: the refusals of 01's table, and refused units.
-use mathlib.Core.Path.{_≡_, refl}
-use mathlib.Core.Bool.{Bool, true, false, not, _&&_}
+use mathlib.Core.Path.{_≡_, refl, sym, _∙_, ap}
+use mathlib.Core.Bool.{Bool, true, false, not}
 use mathlib.Core.List.{List}
 use Prim.Native.Nat.{ℕ}
 use native.Mathlib.Omega.{arith}
@@ -10,72 +10,28 @@ use borrow.Author.Tests.{le-leb, lt-leb, ltb-true, ltb-false, eq-eqb, ne-eqb}
 use Rattle.registers.specs.Text.{Text, if_then_else_, empty}
 use Rattle.registers.specs.Group.{widestGroup}
 use Rattle.registers.specs.Errors.{known, queueable}
-use Rattle.interpreter.specs.Box.{Core, Box, raise}
+use Rattle.interpreter.specs.Box.{Core, Box}
 use Rattle.interpreter.specs.Unit.{readUnit}
 use Rattle.interpreter.specs.Deeds.{reply, perform}
 use Rattle.interpreter.specs.Line.{refuse, attempt, runUnits}
-use Rattle.interpreter.specs.Events.{Event, started, received, take, condition, look, Happened, happened, result, taken, reported, happens, lent, possible}
-use Rattle.interpreter.specs.Demand1.{notStart, event, numberFor, refusalOf, Says, EventRefusals, UnitRefusals, Demand1}
+use Rattle.interpreter.specs.Events.{Event, started, received, take, condition, look, Result, Happened, taken, reported, happens}
+use Rattle.interpreter.specs.State.{boxOf, possibleState, Happens}
+use Rattle.interpreter.specs.Demand1.{numberFor, refusalOf, leaves, Refuses, EventRefusals, UnitRefusals, Demand1}
 use Rattle.interpreter.specs.declared.deed.Deed.{Deed}
 use Rattle.interpreter.specs.declared.deed.Deed.the-variants.{Change, Complete, Clear, Query, Inquire}
+use Rattle.interpreter.specs.declared.state.State.{State}
 use Rattle.interpreter.proofs.unit.Checks.{Holds, Any, passes, hold-bind, hold-check, holds-from, at-refused}
 use Rattle.interpreter.proofs.unit.Allowed.{read-known}
-use Rattle.interpreter.proofs.Choices.{if₂, if-opposite}
-
--- ---- one number at a time
-
-module _ (b : Box) (e : Event) where
-  none : (h : Happened) → h .result .number ≡ 0 → Says b e h 0
-  none h q =
-      record {
-        number = q;
-        first = λ z. absurd (omega (arith, z));
-        second = λ z. absurd (omega (arith, z));
-        third = λ z. absurd (omega (arith, z));
-        fourth = λ z. absurd (omega (arith, z));
-      }
-
-  is-first : Says b e (happened (result 1 (length (b .core .answer)) (lent e)) b) 1
-  is-first =
-      record {
-        number = refl;
-        first = λ _. refl;
-        second = λ z. absurd (omega (arith, z));
-        third = λ z. absurd (omega (arith, z));
-        fourth = λ z. absurd (omega (arith, z));
-      }
-
-  is-second : Says b e (happened (result 2 0 (lent e)) (raise 420 b)) 2
-  is-second =
-      record {
-        number = refl;
-        first = λ z. absurd (omega (arith, z));
-        second = λ _. refl;
-        third = λ z. absurd (omega (arith, z));
-        fourth = λ z. absurd (omega (arith, z));
-      }
-
-  is-third : Says b e (happened (result 3 0 (lent e)) b) 3
-  is-third =
-      record {
-        number = refl;
-        first = λ z. absurd (omega (arith, z));
-        second = λ z. absurd (omega (arith, z));
-        third = λ _. refl;
-        fourth = λ z. absurd (omega (arith, z));
-      }
-
-  is-fourth : Says b e (happened (result 4 0 (lent e)) b) 4
-  is-fourth =
-      record {
-        number = refl;
-        first = λ z. absurd (omega (arith, z));
-        second = λ z. absurd (omega (arith, z));
-        third = λ z. absurd (omega (arith, z));
-        fourth = λ _. refl;
-      }
+use Rattle.interpreter.proofs.Choices.{if-elim, if₂, if-opposite}
 
 -- ---- numbers 1 to 3
+
+-- what happened bears number n, and is what the table lists for it
+abbrev Listed : Box → Event → Happened → ℕ → Type 0
+Listed b e h n = (h .result .number ≡ n) × ((n ≡ 0 → ⊥) → h ≡ leaves b e n)
+
+none : (b : Box) (e : Event) (h : Happened) → h .result .number ≡ 0 → Listed b e h 0
+none b e h q = (q, λ z. absurd (z refl))
 
 leb-not : (m n : ℕ) → leb m n ≡ not (ltb n m)
 leb-not m n = go (ltb n m) refl
@@ -84,32 +40,55 @@ leb-not m n = go (ltb n m) refl
     go true q = lt-leb m n (ltb-true n m q)
     go false q = le-leb m n (ltb-false n m q)
 
-take-says : (buffer : Text) (b : Box) → Says b (take buffer) (taken buffer b) (numberFor b (take buffer))
-unfolding taken numberFor
-take-says buffer b =
-    let e = take buffer in
+listed : (b : Box) (e : Event) → Listed b e (happens b e) (numberFor b e)
+unfolding happens numberFor taken reported if_then_else_
+listed b started = none b started _ refl
+listed b (received xs) = none b (received xs) _ refl
+listed b (take buffer) =
     let a = b .core .answer in
-    if₂ (Says b e) (empty a) (is-second b e)
-    (if-opposite (Says b e) (leb (length a) (length buffer)) (ltb (length buffer) (length a)) (leb-not (length a) (length buffer))
-    (none b e _ refl) (is-first b e))
+    let e = take buffer in
+    if₂ (Listed b e) (empty a) (refl, λ _. refl)
+    (if-opposite (Listed b e) (leb (length a) (length buffer)) (ltb (length buffer) (length a)) (leb-not (length a) (length buffer))
+    (none b e _ refl) (refl, λ _. refl))
+listed b (condition n) =
+    if-opposite (Listed b (condition n)) (leb n widestGroup) (ltb widestGroup n) (leb-not n widestGroup)
+    (none b (condition n) _ refl) (refl, λ _. refl)
+listed b look = none b look _ refl
 
-condition-says : (n : ℕ) (b : Box) → Says b (condition n) (reported n b) (numberFor b (condition n))
-unfolding reported numberFor
-condition-says n b =
-    let e = condition n in
-    if-opposite (Says b e) (leb n widestGroup) (ltb widestGroup n) (leb-not n widestGroup) (none b e _ refl) (is-third b e)
+-- ---- number 4 first
 
-happens-says : (b : Box) (e : Event) → Says b e (happens b e) (numberFor b e)
-unfolding happens numberFor
-happens-says b started = none b started _ refl
-happens-says b (received xs) = none b (received xs) _ refl
-happens-says b (take buffer) = take-says buffer b
-happens-says b (condition n) = condition-says n b
-happens-says b look = none b look _ refl
+below-four : (b : Box) (e : Event) → numberFor b e ≡ 4 → ⊥
+unfolding numberFor
+below-four b started z = omega (arith, z)
+below-four b (received xs) z = omega (arith, z)
+below-four b (take buffer) z =
+    if-elim (λ n. n ≡ 4 → ⊥) (empty (b .core .answer)) (λ _ z. omega (arith, z)) (λ _.
+    if-elim (λ n. n ≡ 4 → ⊥) (ltb (length buffer) (length (b .core .answer))) (λ _ z. omega (arith, z)) (λ _ z. omega (arith, z))) z
+below-four b (condition n) z = if-elim (λ n. n ≡ 4 → ⊥) (ltb widestGroup n) (λ _ z. omega (arith, z)) (λ _ z. omega (arith, z)) z
+below-four b look z = omega (arith, z)
 
 event-refusals : EventRefusals
-unfolding event refusalOf
-event-refusals b e = if₂ (Says b e) (notStart e && not (possible b)) (is-fourth b e) (happens-says b e)
+unfolding refusalOf if_then_else_
+event-refusals s t e r h = go (possibleState s) refl
+  where
+    go : (p : Bool) → possibleState s ≡ p → Refuses s e r t
+    go true q =
+        let o = h .possible q .1 in
+        let l = listed (boxOf s) e in
+        let n : refusalOf s e ≡ numberFor (boxOf s) e = rw q refl in
+        record {
+          number = ap (λ (x : Happened). x .result .number) o ∙ l .0 ∙ sym n;
+          left = λ some. rw n (o ∙ l .1 (λ z. some (n ∙ z)));
+          untouched = λ z. absurd (below-four (boxOf s) e (sym n ∙ z));
+        }
+    go false q =
+        let o = h .impossible q in
+        let n : refusalOf s e ≡ 4 = rw q refl in
+        record {
+          number = ap (λ (x : Result). x .number) (o .1) ∙ sym n;
+          left = λ _. rw (n, o .0, o .1);
+          untouched = λ _. o .0;
+        }
 
 -- ---- refused units
 
