@@ -1,6 +1,7 @@
 -- The definitions that the contracts cite, in the words of document 01. A file whose name ends in `Parts` holds only what private
 -- functions say; `Examples` has the worked values.
 pub mod Text
+pub mod TextParts
 pub mod Check
 pub mod Words
 pub mod Answer

@@ -3,6 +3,7 @@ ghost use mathlib.Core.Path.{_≡_};
 ghost use Prim.Native.Nat.{_+_};
 ghost use lib.ListN.{length, drop};
 ghost use Rattle.registers.specs.Text.{white, dark, start, digit, letter, wordByte, capital, first};
+ghost use Rattle.registers.specs.TextParts.{whiteIs};
 
 pub fn is_white(b: u8) -> bool
     ensures { λ r. ⌜ r ≡ white b ⌝ }
@@ -46,13 +47,13 @@ pub fn byte_at(text: &[u8], at: usize) -> u8
     0
 }
 
-// Where the white space that starts at a place ends.
-pub fn white_end(text: &[u8], at: usize) -> usize
-    ensures { λ r. ⌜ r ≡ at + length (start white (drop at (now (text .entry)))) ⌝ }
+// Where the white space, or where the bytes that are none, that starts at a place ends.
+fn run_end(text: &[u8], at: usize, blank: bool) -> usize
+    ensures { λ r. ⌜ r ≡ at + length (start (whiteIs blank) (drop at (now (text .entry)))) ⌝ }
 {
     let mut i = at;
     while i < text.len() {
-        if !is_white(text[i]) {
+        if is_white(text[i]) != blank {
             return i;
         }
         i += 1;
@@ -60,16 +61,16 @@ pub fn white_end(text: &[u8], at: usize) -> usize
     i
 }
 
+// Where the white space that starts at a place ends.
+pub fn white_end(text: &[u8], at: usize) -> usize
+    ensures { λ r. ⌜ r ≡ at + length (start white (drop at (now (text .entry)))) ⌝ }
+{
+    run_end(text, at, true)
+}
+
 // Where the bytes that start at a place and are no white space end.
 pub fn dark_end(text: &[u8], at: usize) -> usize
     ensures { λ r. ⌜ r ≡ at + length (start dark (drop at (now (text .entry)))) ⌝ }
 {
-    let mut i = at;
-    while i < text.len() {
-        if is_white(text[i]) {
-            return i;
-        }
-        i += 1;
-    }
-    i
+    run_end(text, at, false)
 }

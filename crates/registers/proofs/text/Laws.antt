@@ -1,6 +1,6 @@
 -- Laws of a text read from a place on, over any test of a byte: its first byte, the longest start that passes, and what stands after it.
 use mathlib.Core.Path.{_≡_, refl, ap, sym, _∙_}
-use mathlib.Core.Bool.{Bool, true, false, false≢true}
+use mathlib.Core.Bool.{Bool, true, false, not, Bool·beq, false≢true}
 use mathlib.Core.List.{[], _∷_}
 use Prim.Native.Nat.{ℕ, zero, suc, _+_, _≤_, _<_}
 use native.Mathlib.Numerals.{add-one}
@@ -10,7 +10,23 @@ use lib.ListN.{length, getD, drop, length-drop, drop-of-length-le, List·getD-eq
 use lib.Seq.{drop-cons, drop-drop}
 use mir.Facts.{and-yes}
 use borrow.Author.Tests.{ltb-true, ltb-false}
-use Rattle.registers.specs.Text.{Text, if_then_else_, digit, every, empty, first, rest, start, after}
+use Rattle.registers.specs.TextParts.{whiteIs}
+use Rattle.registers.specs.Text.{Text, if_then_else_, white, digit, every, empty, first, rest, start, after}
+
+-- ---- a byte's kind
+
+-- whether a byte is white space or not as is asked for, by the code's test that it differs
+pub kind-told : (blank : Bool) (b : ℕ) (w : Bool) {t : Bool} → w ≡ white b → not (Bool·beq w blank) ≡ t → whiteIs blank b ≡ not t
+kind-told true b w e q = rw (sym e, sym q) (go w)
+  where
+    go : (w : Bool) → w ≡ not (not (Bool·beq w true))
+    go true = refl
+    go false = refl
+kind-told false b w e q = rw (sym e, sym q) (go w)
+  where
+    go : (w : Bool) → not w ≡ not (not (Bool·beq w false))
+    go true = refl
+    go false = refl
 
 -- ---- at a place
 
