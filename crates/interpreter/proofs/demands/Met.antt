@@ -1,13 +1,14 @@
 -- Computed histories that meet the premises of demands 2 and 3, so that neither holds for want of cases.
-use mathlib.Core.Path.{_≡_, refl, sym, _∙_}
+use mathlib.Core.Path.{_≡_, refl, sym, _∙_, ap}
+use mathlib.Core.Bool.{Bool, true, false}
 use mathlib.Core.List.{List, [], _∷_, _++_, map}
-use Prim.Native.Nat.{ℕ}
+use Prim.Native.Nat.{ℕ, zero, suc, _+_, _<_}
 use Prim.Native.String.{String}
 use native.Mathlib.Omega.{arith}
-use lib.ListN.{length, drop, replicate}
-use lib.IntN.{ℤ}
+use lib.ListN as L
+use lib.ListN.{length, getD, replicate}
 use Rattle.registers.specs.Text.{Text, if_then_else_, bytes, same, white, printable, digit, letter, wordByte, small, capital, every}
-use Rattle.registers.specs.Check.{_>>=_, _>>_, check}
+use Rattle.registers.specs.Check.{Checked, passed, _>>=_, _>>_, check}
 use Rattle.registers.specs.Words.{shortForm, longForm, matches}
 use Rattle.registers.specs.Number.{afterSign, fractionOf, afterFraction, exponentOf, afterExponent, lowering, written, numeralFrom, decimalOf, valueOf, remains, number, switchedOn}
 use Rattle.registers.specs.Rounding.{nearest, sizeIn, rounded}
@@ -15,17 +16,21 @@ use Rattle.registers.specs.Answer.{inPlaces, decimal, tenths}
 use Rattle.registers.specs.Errors.{eventBit}
 use Rattle.registers.specs.Settings.{table, settingAt, atReset, wideRange, lowest, highest, within, conflict, answerOf}
 use Rattle.registers.specs.Status.{raised, atStart}
-use Rattle.interpreter.specs.Cuts.{cutAt, trimEnd, trim}
-use Rattle.interpreter.specs.Header.{name, placed, header, spells}
+use Rattle.interpreter.specs.Cuts.{front, cutAt, trimEnd, trim}
+use Rattle.interpreter.specs.Header.{Header, here, name, placed, header, spells}
 use Rattle.interpreter.specs.Rows.{settingRows, otherRows, rows, fitsRow, findRow}
 use Rattle.interpreter.specs.Parameter.{parameters, least, greatest, findWord, parameter, valueGiven, settingDeed, deedOf}
-use Rattle.interpreter.specs.Unit.{readUnit}
+use Rattle.interpreter.specs.Unit.{Read, readUnit}
 use Rattle.interpreter.specs.Box.{powerUp}
 use Rattle.interpreter.specs.Deeds.{changed, replyTo, inquiryReply, joined, fitsAnswer, reply, perform}
 use Rattle.interpreter.specs.Line.{attempt, refuse, runUnits, interrupted, finished, unitsOf, runLine, endLine, held, byte, piece}
 use Rattle.interpreter.specs.Events.{Event, received, take, Result, result, taken, happens, after}
 use Rattle.interpreter.specs.Histories.{moments, Recut, resultsOf, answers}
 use Rattle.interpreter.specs.Demand3.{obeyed, refusal, joinUnits, cutLine, lineRefusal, keep, inLine, atEnd, asSent, asCut, ALine, Watch, neither, asked, cleared, watchUnits, watchLine, watchByte, watchPiece, watchEvent, watch}
+use Rattle.interpreter.specs.declared.deed.Deed.the-variants.{Query}
+use Rattle.interpreter.specs.declared.deed.Query.the-variants.{Value}
+use Rattle.interpreter.specs.declared.deed.Role.{Role}
+use Rattle.interpreter.specs.declared.deed.Role.the-variants.{Setting}
 use Rattle.interpreter.specs.Demand2.{Asks, Took, Sends, queried, sentBack}
 
 abbrev text : String → Event
@@ -64,19 +69,77 @@ trips =
 abbrev buffer : Text
 buffer = replicate 8 0
 
--- asked, taken, and sent back
-unfoldable pub tripOf : String × String → List Event
-tripOf t =
-    received (bytes (t .0) ++ bytes "?\n") ∷ take buffer ∷ received (bytes (t .0) ++ bytes " " ++ bytes (t .1) ++ bytes "\n") ∷ []
+-- the query's line, and the line that sends the answer back
+unfoldable pub asking : String × String → List Event
+asking t = received (bytes (t .0) ++ bytes "?") ∷ []
 
--- the answer that was taken, the error queue and the settings
-unfoldable pub left : String × String → List Result × List ℕ × List ℤ
-left t = let b = after powerUp (tripOf t) in (answers powerUp (tripOf t), b .trouble .queue, b .core .settings .values)
+unfoldable pub sending : String × String → List Event
+sending t = received (bytes (t .0) ++ bytes " " ++ bytes (t .1)) ∷ []
 
-unfoldable pub expected : String × String → List Result × List ℕ × List ℤ
-expected t =
-    let a = bytes (t .1) ++ bytes "\n" in
-    (result 0 (length a) (a ++ drop (length a) buffer) ∷ [], [], atReset .values)
+-- the premises of demand 2's round trip
+pub record Premises (i : ℕ) (a : Text) (before early late : List Event) : Type 0 where
+  pub first : every inLine early ≡ true
+  pub second : every inLine late ≡ true
+  pub asks : Asks i (after powerUp before)
+  pub took : Took a (happens (after powerUp (queried before ++ early)) (take buffer) .result)
+  pub sends : Sends i a (after powerUp (sentBack before early buffer late))
+
+abbrev pub Trip : ℕ → String × String → Type 0
+Trip i t = Premises i (bytes (t .1)) (asking t) [] (sending t)
+
+-- what they speak of
+record Seen : Type 0 where
+  whole : Bool × Bool
+  inLine : Bool
+  asked : Text
+  units : List Text
+  read : Checked Read
+  number : ℕ
+  taken : Text
+  line : Text
+  heading : Checked Header
+  row : Checked Role
+
+unfoldable seenAt : String × String → Seen
+seenAt t =
+    let b = after powerUp (asking t) in
+    let r = happens (after powerUp (queried (asking t) ++ [])) (take buffer) .result in
+    let c = after powerUp (sentBack (asking t) [] buffer (sending t)) in
+    record {
+      whole = (b .core .overlong, c .core .overlong);
+      inLine = every inLine (sending t);
+      asked = b .core .line;
+      units = unitsOf (b .core .line);
+      read = readUnit (b .core .settings) [] (b .core .line);
+      number = r .number;
+      taken = L.take (r .value) (r .buffer);
+      line = c .core .line;
+      heading = header (bytes (t .0));
+      row = findRow false (cutAt 58 (bytes (t .0))) false rows;
+    }
+
+unfoldable expectedAt : ℕ → String × String → Seen
+expectedAt i t =
+    record {
+      whole = (false, false);
+      inLine = true;
+      asked = bytes (t .0) ++ bytes "?";
+      units = (bytes (t .0) ++ bytes "?") ∷ [];
+      read = passed (record { deed = Query (Value i); path = front (cutAt 58 (bytes (t .0))) });
+      number = 0;
+      taken = bytes (t .1) ++ 10 ∷ [];
+      line = bytes (t .0) ++ (bytes " " ++ (bytes (t .1) ++ []));
+      heading = passed (record { place = here; names = cutAt 58 (bytes (t .0)); query = false });
+      row = passed (Setting i);
+    }
+
+-- each expected by its place in the table
+unfoldable numbered : ℕ → List (String × String) → List Seen
+numbered i [] = []
+numbered i (t ∷ ts) = expectedAt i t ∷ numbered (suc i) ts
+
+abbrev pub tripAt : List (String × String) → ℕ → String × String
+tripAt ts i = getD ts i ("", "")
 
 -- the premises of one, with white space, other spellings, a take into no buffer, and the next line's bytes before the take
 abbrev before : List Event
@@ -89,14 +152,18 @@ abbrev late : List Event
 late = text "  0.0 " ∷ []
 
 pub record Met2 : Type 0 where
-  pub every : map left trips ≡ map expected trips
-  pub asks : Asks 4 (after powerUp before)
-  pub took : Took (bytes "0.0") (happens (after powerUp (queried before ++ early)) (take buffer) .result)
-  pub sends : Sends 4 (bytes "0.0") (after powerUp (sentBack before early buffer late))
+  pub everyRow : (i : ℕ) → i < 16 → Trip i (tripAt trips i)
+  pub oneMore : Premises 4 (bytes "0.0") before early late
 
 -- ---- computed
 
-pub met3 : Met3
+record Computed : Type 0 where
+  met3 : Met3
+  seen : map seenAt trips ≡ numbered 0 trips
+  long : length trips ≡ 16
+  oneMore : Premises 4 (bytes "0.0") before early late
+
+computed : Computed
 unfolding if_then_else_ bytes same white printable digit letter wordByte small capital _>>=_ _>>_ check shortForm longForm matches
     afterSign fractionOf afterFraction exponentOf afterExponent lowering written numeralFrom decimalOf valueOf remains number switchedOn
     nearest sizeIn rounded inPlaces decimal tenths eventBit
@@ -106,45 +173,91 @@ unfolding if_then_else_ bytes same white printable digit letter wordByte small c
     changed replyTo inquiryReply joined fitsAnswer reply perform
     attempt refuse runUnits interrupted finished unitsOf runLine endLine held byte piece taken happens after resultsOf moments
     inLine obeyed refusal joinUnits cutLine lineRefusal keep watchUnits watchLine watchByte watchPiece watchEvent watch
-    watched trips tripOf left expected
-met3 =
+    watched trips asking sending seenAt expectedAt numbered
+computed =
     let n : lineRefusal (atEnd [] during) ≡ 113 = refl in
     record {
-      line = record { begins = (refl, refl); underWay = refl; other = λ e. absurd (omega (arith, sym n ∙ e)) };
-      refusedBy = refl;
-      cutTo = refl;
-      comesFirst = refl;
-      inPieces = refl;
-      cutInPieces = refl;
+      met3 = record {
+        line = record { begins = (refl, refl); underWay = refl; other = λ e. absurd (omega (arith, sym n ∙ e)) };
+        refusedBy = refl;
+        cutTo = refl;
+        comesFirst = refl;
+        inPieces = refl;
+        cutInPieces = refl;
+      };
+      seen = refl;
+      long = refl;
+      oneMore = record {
+        first = refl;
+        second = refl;
+        asks = record { whole = refl; alone = refl; path = _; asks = refl };
+        took = record { number = refl; bytes = refl };
+        sends = record {
+          whole = refl;
+          left = bytes "\t";
+          header = bytes ":SOURce:volt:AMPL";
+          gap = bytes "  ";
+          right = bytes " ";
+          line = refl;
+          spelling = record { read = _; reads = refl; sets = refl; row = refl };
+          leftWhite = refl;
+          gapWhite = refl;
+          gapThere = refl;
+          rightWhite = refl;
+        };
+      };
     }
 
-pub met2 : Met2
-unfolding if_then_else_ bytes same white printable digit letter wordByte small capital _>>=_ _>>_ check shortForm longForm matches
-    afterSign fractionOf afterFraction exponentOf afterExponent lowering written numeralFrom decimalOf valueOf remains number switchedOn
-    nearest sizeIn rounded inPlaces decimal tenths eventBit
-    table settingAt atReset wideRange lowest highest within conflict answerOf raised atStart
-    cutAt trimEnd trim name placed header spells settingRows otherRows rows fitsRow findRow
-    parameters least greatest findWord parameter valueGiven settingDeed deedOf readUnit powerUp
-    changed replyTo inquiryReply joined fitsAnswer reply perform
-    attempt refuse runUnits interrupted finished unitsOf runLine endLine held byte piece taken happens after resultsOf moments
-    inLine obeyed refusal joinUnits cutLine lineRefusal keep watchUnits watchLine watchByte watchPiece watchEvent watch
-    watched trips tripOf left expected
-met2 =
+pub met3 : Met3
+met3 = computed .met3
+
+-- ---- the table's places
+
+seen-at : (ts : List (String × String)) (n i : ℕ) → i < length ts → map seenAt ts ≡ numbered n ts → seenAt (tripAt ts i) ≡ expectedAt (n + i) (tripAt ts i)
+unfolding numbered
+seen-at [] n i h e = absurd (omega arith)
+seen-at (t ∷ ts) n zero h e =
+    let z : seenAt t ≡ expectedAt n t = cc in
+    let q : n + 0 ≡ n = omega arith in
+    rw q z
+seen-at (t ∷ ts) n (suc i) h e =
+    let z : map seenAt ts ≡ numbered (suc n) ts = cc in
+    let q : n + suc i ≡ suc n + i = omega arith in
+    rw q (seen-at ts (suc n) i (omega arith) z)
+
+trip-at : (i : ℕ) (t : String × String) → seenAt t ≡ expectedAt i t → Trip i t
+unfolding seenAt expectedAt bytes white
+trip-at i t e =
     record {
-      every = refl;
-      asks = record { whole = refl; alone = refl; path = _; asks = refl };
-      took = record { number = refl; bytes = refl };
+      first = refl;
+      second = ap (λ (x : Seen). x .inLine) e;
+      asks = record {
+        whole = ap (λ (x : Seen). x .whole .0) e;
+        alone = ap (λ (x : Seen). x .units) e ∙ sym (ap (λ (x : Seen). x .asked ∷ []) e);
+        path = front (cutAt 58 (bytes (t .0)));
+        asks = ap (λ (x : Seen). x .read) e;
+      };
+      took = record { number = ap (λ (x : Seen). x .number) e; bytes = ap (λ (x : Seen). x .taken) e };
       sends = record {
-        whole = refl;
-        left = bytes "\t";
-        header = bytes ":SOURce:volt:AMPL";
-        gap = bytes "  ";
-        right = bytes " ";
-        line = refl;
-        spelling = record { read = _; reads = refl; sets = refl; row = refl };
+        whole = ap (λ (x : Seen). x .whole .1) e;
+        left = [];
+        header = bytes (t .0);
+        gap = bytes " ";
+        right = [];
+        line = ap (λ (x : Seen). x .line) e;
+        spelling = record { read = _; reads = ap (λ (x : Seen). x .heading) e; sets = refl; row = ap (λ (x : Seen). x .row) e };
         leftWhite = refl;
         gapWhite = refl;
         gapThere = refl;
         rightWhite = refl;
       };
     }
+
+pub met2 : Met2
+met2 = record { everyRow = at; oneMore = computed .oneMore }
+  where
+    at : (i : ℕ) → i < 16 → Trip i (tripAt trips i)
+    at i h =
+        let l = computed .long in
+        let q : 0 + i ≡ i = omega arith in
+        trip-at i (tripAt trips i) (rw q at (seen-at trips 0 i (omega arith) (computed .seen)))
