@@ -115,13 +115,17 @@ fn left_out(node: u8, at: usize) -> Walk
     }
 }
 
-// Takes a row's node at the name that starts at a place, or leaves it out if it is optional.
+// Takes a row's node at the name that starts at a place, or leaves it out if it is optional. Most
+// names differ from a word in the first letter, so that is compared before the name's end is sought.
 fn take_node(words: &[u8], text: &[u8], at: usize, node: u8) -> Walk
     requires { ⌜ (now words ≡ wordTable) × (at ≤ length (now text)) × (wordIn node < 52) ⌝ }
     ensures { λ r. ⌜ Walked (nodeOf node) (now (text .entry)) at r ⌝ }
 {
     let word = word_in(node);
     if text.len() <= at {
+        return left_out(node, at);
+    }
+    if text::in_capitals(text[at]) != word_cell(words, word, 2) {
         return left_out(node, at);
     }
     let e = name_end(text, at);
