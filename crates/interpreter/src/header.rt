@@ -160,8 +160,8 @@ fn has_form(rows: &[u8], row: usize, bit: u8) -> bool
 }
 
 // The first row that spells the names of a text in the form asked for, or ROWS. At the first node
-// that is missed the inner loop is left and the next row is tried. That row misses too if it begins
-// with the same nodes, and the walk over the nodes before goes on in it if they are all that it shares.
+// that is missed the inner loop is left and the next row is tried. A row that shares this node with
+// the row before misses it too; one that shares just the nodes that were passed goes on behind them.
 fn find(rows: &[u8], words: &[u8], text: &[u8], star: bool, asked: bool) -> usize
     requires { ⌜ (now rows ≡ rowTable) × (now words ≡ wordTable) ⌝ }
     ensures { λ r. ⌜ r ≡ rowOf star (named (now (text .entry))) asked ⌝ }
@@ -189,12 +189,8 @@ fn find(rows: &[u8], words: &[u8], text: &[u8], star: bool, asked: bool) -> usiz
         while passed < n {
             let walk = take_node(words, text, at, row_cell(rows, row, passed + 3));
             match walk {
-                Walk::To(place) => {
-                    at = place;
-                }
-                Walk::Missed => {
-                    continue 'rows;
-                }
+                Walk::To(place) => at = place,
+                Walk::Missed => continue 'rows,
             }
             passed += 1;
         }

@@ -31,6 +31,7 @@ chain = following [] rows
 abbrev wide : Following → Bool
 wide f = eqb (length (rowRow f)) 8
 
+-- how many first nodes a row shares with the row before: both have so many, and they are the same
 abbrev sharedIn : Following → ℕ
 sharedIn f = shared (f .before) (f .row .nodes)
 

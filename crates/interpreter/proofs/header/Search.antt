@@ -56,7 +56,7 @@ module _ {star : Bool} {names : List Text} {asked : Bool} where
     skip-walk : greedy (rowAt r .nodes) names ≡ false → Seeking star names asked (r + 1)
     skip-walk e = skip (fits-is r h star names asked ∙ and-fails (formed r (formBit star asked)) (greedy (rowAt r .nodes) names) e)
 
-    -- no names are spelled by nodes that begin like the row's
+    -- whatever follows the row's first nodes, they don't spell the names
     skip-start : (j : ℕ) → ((more : List Node) → greedy (take j (rowAt r .nodes) ++ more) names ≡ false) → Seeking star names asked (r + 1)
     skip-start j e = skip-walk (ap (λ (ns : List Node). greedy ns names) (sym (take-append-drop j (rowAt r .nodes))) ∙ e (drop j (rowAt r .nodes)))
 
@@ -68,7 +68,7 @@ module _ {star : Bool} {names : List Text} {asked : Bool} where
 
 -- ---- where the walk over a row's nodes stopped
 
--- its first nodes up to j lead to a place, and there is no way past the next; of a row that was not walked j says nothing
+-- its first j nodes lead to a place, and the next is missed there, whatever follows; if it was not walked, j is more than it has
 pub record Stopped (t : Text) (nodes : List Node) (at j : ℕ) : Type 0 where
   pub within : at ≤ length t
   pub on : j ≤ length nodes → (more : List Node) → greedy (take j nodes ++ more) (named t) ≡ greedy more (named (drop at t))
@@ -79,13 +79,12 @@ pub record Searching (star asked : Bool) (t : Text) (r at j : ℕ) : Type 0 wher
   pub seek : Seeking star (named t) asked r
   pub stopped : Stopped t (nodesBefore r) at j
 
+untried : {t : Text} {nodes : List Node} {at : ℕ} → at ≤ length t → length nodes ≤ 5 → Stopped t nodes at 8
+untried h l = record { within = h; on = λ k more. absurd (omega arith); stuck = λ k more. absurd (omega arith) }
+
 module _ {star asked : Bool} {t : Text} where
   pub search-start : Searching star asked t 0 0 8
-  search-start =
-      record {
-        seek = seek-start;
-        stopped = record { within = omega arith; on = λ l more. absurd (omega arith); stuck = λ l more. absurd (omega arith) };
-      }
+  search-start = record { seek = seek-start; stopped = untried (omega arith) (omega arith) }
 
   pub search-end : {r at j : ℕ} → Searching star asked t r at j → 33 ≤ r → 33 ≡ rowOf star (named t) asked
   search-end s h = seek-end (s .seek) h
@@ -94,7 +93,7 @@ module _ {star asked : Bool} {t : Text} where
   search-on r {at} {j} s p = record { seek = s; stopped = subst (λ (i : ℕ). Stopped t (nodesBefore i) at j) (sym (add-one r)) p }
 
   module _ {r at j : ℕ} (h : r < 33) (s : Searching star asked t r at j) where
-    -- the row begins with what the row before begins with
+    -- the nodes that the row shares with the row before lead to where they led there
     alike : (i : ℕ) → i ≤ rowCell r 2 → (more : List Node)
         → greedy (take i (rowAt r .nodes) ++ more) (named t) ≡ greedy (take i (nodesBefore r) ++ more) (named t)
     alike i l more = ap (λ (ns : List Node). greedy (ns ++ more) (named t)) (shared-nodes r h i l)
@@ -102,7 +101,7 @@ module _ {star asked : Bool} {t : Text} where
     resumed : j ≤ rowCell r 2 → (more : List Node) → greedy (take j (rowAt r .nodes) ++ more) (named t) ≡ greedy more (named (drop at t))
     resumed l more = let m = shared-most r h in alike j l more ∙ s .stopped .on (omega arith) more
 
-    -- a row that begins with the node that the row before missed misses it
+    -- a row that shares the node that the row before missed misses it too
     pub skip-shared : {k : ℕ} → k ≡ rowCell r 2 → j < k → Searching star asked t (r + 1) at j
     skip-shared e l =
         let m = shared-most r h in
@@ -112,10 +111,7 @@ module _ {star asked : Bool} {t : Text} where
         (record { within = s .stopped .within; on = λ i. resumed (omega arith); stuck = λ i. stuck })
 
     pub skip-unformed : formed r (formBit star asked) ≡ false → Searching star asked t (r + 1) at 8
-    skip-unformed e =
-        let f = nodes-fit r h in
-        search-on r (skip-form (s .seek) h e)
-        (record { within = s .stopped .within; on = λ l more. absurd (omega arith); stuck = λ l more. absurd (omega arith) })
+    skip-unformed e = search-on r (skip-form (s .seek) h e) (untried (s .stopped .within) (nodes-fit r h))
 
 -- ---- over the nodes of one row
 
@@ -130,21 +126,16 @@ pub record Trying (star asked : Bool) (t : Text) (n row at j : ℕ) : Type 0 whe
 
 module _ {star asked : Bool} {t : Text} {row at j : ℕ} (h : row < 33) (s : Searching star asked t row at j)
     (f : formed row (formBit star asked) ≡ true) {n : ℕ} (e : n ≡ rowCell row 1) where
+  begin : {at j : ℕ} → at ≤ length t → ((more : List Node) → greedy (take j (rowAt row .nodes) ++ more) (named t) ≡ greedy more (named (drop at t)))
+      → Trying star asked t n row at j
+  begin l on = record { known = h; seek = s .seek; form = f; count = e ∙ count-cell row h; within = l; on = on }
+
   pub try-start : Trying star asked t n row 0 0
-  try-start =
-      record { known = h; seek = s .seek; form = f; count = e ∙ count-cell row h; within = omega arith; on = λ more. refl }
+  try-start = begin (omega arith) (λ more. refl)
 
   -- the walk over the row before goes on, if this row begins with just the nodes that were passed
   pub try-resume : {k : ℕ} → k ≡ rowCell row 2 → j ≡ k → Trying star asked t n row at j
-  try-resume q i =
-      record {
-        known = h;
-        seek = s .seek;
-        form = f;
-        count = e ∙ count-cell row h;
-        within = s .stopped .within;
-        on = resumed h s (omega arith);
-      }
+  try-resume q i = begin (s .stopped .within) (resumed h s (omega arith))
 
 module _ {star asked : Bool} {t : Text} {n row at j : ℕ} (w : Trying star asked t n row at j) where
   abbrev nodes : List Node

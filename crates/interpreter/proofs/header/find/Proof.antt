@@ -68,10 +68,12 @@ loop-holds c =
     let o = e .before .before .before .before .before in
     let f = rw (o .before .form-bit .ensures) at (sym (e .before .has-form .ensures) ∙ not-false _ (e .if2 .left)) in
     let h = e .before .before .before .before .rows-test .taken in
+    let n = c .row-cell2 .ensures in
+    let k = e .before .before .before .row-cell .ensures in
     let l = e .before .before .if1 .left in
     ⊎-elim
-    (λ w. rw (w .1, w .2) (try-start h (o .rows .inv) f (c .row-cell2 .ensures)))
-    (λ w. let m = w .0 .left in rw (w .1, w .2) (try-resume h (o .rows .inv) f (c .row-cell2 .ensures) (e .before .before .before .row-cell .ensures) (omega arith)))
+    (λ w. rw (w .1, w .2) (try-start h (o .rows .inv) f n))
+    (λ w. let m = w .0 .left in rw (w .1, w .2) (try-resume h (o .rows .inv) f n k (omega arith)))
     (c .before .if3 .came)
 
 add-row-cell : tie.Need-add-row-cell Inv-loop μ-loop Inv-rows μ-rows
