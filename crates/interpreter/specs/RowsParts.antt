@@ -3,6 +3,7 @@ use mathlib.Core.Bool.{Bool, true, false}
 use mathlib.Core.List.{List, [], _∷_, _++_, map}
 use Prim.Native.Nat.{ℕ, suc, _+_, _-_}
 use Prim.Native.String.{String}
+use lib.Dec.{eqb}
 use lib.ListN.{length, getD, replicate}
 use Rattle.registers.specs.Text.{Text, if_then_else_, bytes, same}
 use Rattle.registers.specs.Words.{Node, must, may, shortForm, longForm}
@@ -60,16 +61,33 @@ formByte r =
     if r .star then bitIf (hasForm false (r .role)) 4 + bitIf (hasForm true (r .role)) 8
     else bitIf (hasForm false (r .role)) 1 + bitIf (hasForm true (r .role)) 2
 
--- 8 bytes to a row: its forms, how many nodes, the nodes, and zeros
-unfoldable pub rowRow : Row → Text
-rowRow r = formByte r ∷ length (r .nodes) ∷ map nodeByte (r .nodes) ++ replicate (6 - length (r .nodes)) 0
+-- how many nodes two rows begin with alike
+unfoldable pub shared : List Node → List Node → ℕ
+shared [] nodes = 0
+shared (x ∷ xs) [] = 0
+shared (x ∷ xs) (y ∷ ys) = let more = suc (shared xs ys) in if eqb (nodeByte x) (nodeByte y) then more else 0
 
-unfoldable pub rowTableOf : List Row → Text
+-- a row and the nodes of the row before it
+pub record Following : Type 0 where
+  pub before : List Node
+  pub row : Row
+
+unfoldable pub following : List Node → List Row → List Following
+following before [] = []
+following before (r ∷ rs) = record { before = before; row = r } ∷ following (r .nodes) rs
+
+-- 8 bytes to a row: its forms, how many nodes, how many of them the row before begins with too, the nodes, and zeros
+unfoldable pub rowRow : Following → Text
+rowRow f =
+    let nodes = f .row .nodes in
+    formByte (f .row) ∷ length nodes ∷ shared (f .before) nodes ∷ map nodeByte nodes ++ replicate (5 - length nodes) 0
+
+unfoldable pub rowTableOf : List Following → Text
 rowTableOf [] = []
-rowTableOf (r ∷ rs) = rowRow r ++ rowTableOf rs
+rowTableOf (f ∷ fs) = rowRow f ++ rowTableOf fs
 
 unfoldable pub rowTable : Text
-rowTable = rowTableOf rows
+rowTable = rowTableOf (following [] rows)
 
 -- ---- the row that a search finds
 

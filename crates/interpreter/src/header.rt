@@ -17,6 +17,9 @@ ghost use Rattle.interpreter.specs.HeaderParts.{named, inName, closed, p
 // How many rows there are.
 pub(crate) const ROWS: usize = 33;
 
+// More nodes than any row has: what is passed of a row that was not walked.
+const UNTRIED: usize = 8;
+
 // Where a walk over a row's nodes goes on.
 enum Walk {
     To(usize),
@@ -115,13 +118,17 @@ fn left_out(node: u8, at: usize) -> Walk
     }
 }
 
-// Takes a row's node at the name that starts at a place, or leaves it out if it is optional.
+// Takes a row's node at the name that starts at a place, or leaves it out if it is optional. Most
+// names differ from a word in the first letter, so that is compared before the name's end is sought.
 fn take_node(words: &[u8], text: &[u8], at: usize, node: u8) -> Walk
     requires { ⌜ (now words ≡ wordTable) × (at ≤ length (now text)) × (wordIn node < 52) ⌝ }
     ensures { λ r. ⌜ Walked (nodeOf node) (now (text .entry)) at r ⌝ }
 {
     let word = word_in(node);
     if text.len() <= at {
+        return left_out(node, at);
+    }
+    if text::in_capitals(text[at]) != word_cell(words, word, 2) {
         return left_out(node, at);
     }
     let e = name_end(text, at);
@@ -153,36 +160,41 @@ fn has_form(rows: &[u8], row: usize, bit: u8) -> bool
 }
 
 // The first row that spells the names of a text in the form asked for, or ROWS. At the first node
-// that is missed the inner loop is left and the next row is tried.
+// that is missed the inner loop is left and the next row is tried. A row that shares this node with
+// the row before misses it too; one that shares just the nodes that were passed goes on behind them.
 fn find(rows: &[u8], words: &[u8], text: &[u8], star: bool, asked: bool) -> usize
     requires { ⌜ (now rows ≡ rowTable) × (now words ≡ wordTable) ⌝ }
     ensures { λ r. ⌜ r ≡ rowOf star (named (now (text .entry))) asked ⌝ }
 {
     let bit = form_bit(star, asked);
-    let mut row: usize = 0;
-    'rows: while row < ROWS {
-        if !has_form(rows, row, bit) {
-            row += 1;
+    let mut at: usize = 0;
+    let mut passed: usize = UNTRIED;
+    let mut next: usize = 0;
+    'rows: while next < ROWS {
+        let row = next;
+        next += 1;
+        let shared = row_cell(rows, row, 2) as usize;
+        if passed < shared {
             continue 'rows;
         }
+        if !has_form(rows, row, bit) {
+            passed = UNTRIED;
+            continue 'rows;
+        }
+        if shared < passed {
+            at = 0;
+            passed = 0;
+        }
         let n = row_cell(rows, row, 1) as usize;
-        let mut at: usize = 0;
-        let mut j: usize = 0;
-        while j < n {
-            let walk = take_node(words, text, at, row_cell(rows, row, j + 2));
+        while passed < n {
+            let walk = take_node(words, text, at, row_cell(rows, row, passed + 3));
             match walk {
-                Walk::To(next) => {
-                    at = next;
-                }
-                Walk::Missed => {
-                    row += 1;
-                    continue 'rows;
-                }
+                Walk::To(place) => at = place,
+                Walk::Missed => continue 'rows,
             }
-            j += 1;
+            passed += 1;
         }
         if at < text.len() {
-            row += 1;
             continue 'rows;
         }
         return row;

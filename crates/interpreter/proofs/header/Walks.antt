@@ -7,14 +7,15 @@ use native.Mathlib.Omega.{arith}
 use lib.Dec.{ltb, eqb}
 use lib.ListN.{length, getD, take, drop, drop-of-length-le}
 use lib.Seq.{drop-cons}
-use Rattle.registers.specs.Text.{Text, if_then_else_, rest, start, after}
+use Rattle.registers.specs.Text.{Text, if_then_else_, capital, rest, start, after}
 use Rattle.registers.specs.Words.{must, may, matches}
 use Rattle.registers.proofs.text.Laws.{rest-at, end-drop}
 use Rattle.interpreter.specs.Cuts.{joinFirst}
 use Rattle.interpreter.specs.RowsParts.{wordAt}
-use Rattle.interpreter.specs.HeaderParts.{named, inName, greedy, nodeOf, wordIn, leftOut, Walked}
+use Rattle.interpreter.specs.HeaderParts.{named, inName, greedy, wordCell, nodeOf, wordIn, leftOut, Walked}
 use Rattle.interpreter.specs.declared.header.Walk.{Walk}
 use Rattle.interpreter.specs.declared.header.Walk.the-variants.{To, Missed}
+use Rattle.interpreter.proofs.header.Words.{first-miss}
 
 -- a text that is not empty has a first name, and the names behind its colon
 pub named-cons : (b : ℕ) (bs : Text) → named (b ∷ bs) ≡ start inName (b ∷ bs) ∷ named (rest (after inName (b ∷ bs)))
@@ -80,6 +81,14 @@ module _ (t : Text) (at node : ℕ) (l : at ≤ length t) where
   pub out-end : length t ≤ at → (r : Walk) → r ≡ leftOut node at → Walked (nodeOf node) t at r
   unfolding named
   out-end h r e = subst (λ (w : Walk). Walked (nodeOf node) t at w) (sym e) (gone node t at (rw (drop-of-length-le t h)) l)
+
+  pub out-first : at < length t → (word : ℕ) → word ≡ wordIn node → word < 52 → (capital (getD t at 0) ≡ wordCell word 2 → ⊥)
+      → (r : Walk) → r ≡ leftOut node at → Walked (nodeOf node) t at r
+  out-first h word w k ne r q =
+      subst (λ (w : Walk). Walked (nodeOf node) t at w) (sym q)
+      (passed-by node t at (start inName (drop at t)) (named (rest (after inName (drop at t))))
+      (rw (drop-cons t at 0 h) (named-cons (getD t at 0) (drop (suc at) t))) l
+      (rw (sym w, drop-cons t at 0 h) (first-miss (getD t at 0) (drop (suc at) t) word k ne)))
 
   module _ (h : at < length t) (e : ℕ) (is : e ≡ at + length (start inName (drop at t))) where
     names : named (drop at t) ≡ start inName (drop at t) ∷ named (drop (e + 1) t)

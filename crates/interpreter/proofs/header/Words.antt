@@ -6,16 +6,16 @@ use Prim.Native.Nat.{ℕ, suc, _+_, _-_, _*_, _≤_, _<_}
 use Prim.Native.String.{String}
 use native.Mathlib.Numerals.{add-one}
 use native.Mathlib.Omega.{arith}
-use lib.Dec.{eqb}
+use lib.Dec.{eqb, ltb}
 use lib.ListN.{length, getD, take, drop, length-append, length-take, length-map, length-replicate, drop-of-length-le, replicate}
 use lib.Seq.{drop-cons, drop-drop, take-append-le, take-append-seam}
-use borrow.Author.Tests.{eq-eqb, ne-eqb, eqb-true, eqb-false}
-use Rattle.registers.specs.Text.{Text, if_then_else_, bytes, small, capital, first, rest, same, every}
+use borrow.Author.Tests.{eq-eqb, ne-eqb, eqb-true, eqb-false, ltb-true}
+use Rattle.registers.specs.Text.{Text, if_then_else_, bytes, small, capital, first, rest, same, every, start}
 use Rattle.registers.specs.Words.{shortForm, longForm, matches}
 use Rattle.registers.proofs.Tests.{and-fails}
 use Rattle.registers.proofs.text.Laws.{first-at, rest-at}
 use Rattle.interpreter.specs.RowsParts.{wordList, wordAt, wordRow, wordTableOf, wordTable}
-use Rattle.interpreter.specs.HeaderParts.{wordCell}
+use Rattle.interpreter.specs.HeaderParts.{inName, wordCell}
 use Rattle.interpreter.proofs.Lists.{every-at, table-at, cell-at, table-length}
 use Rattle.interpreter.proofs.header.Greedy.{same-eq}
 
@@ -52,12 +52,15 @@ form-is t l n h = go (eqb (length t) n) refl
 
 -- ---- the table
 
--- the two tests over all words: each has a row of sixteen bytes, and its long form starts with its short one
+-- the tests over all words: each has a row of sixteen bytes, its long form starts with its short one, and that is not empty
 abbrev wide : String → Bool
 wide w = eqb (length (wordRow w)) 16
 
 abbrev starts : String → Bool
 starts w = same (shortForm w) (take (length (shortForm w)) (longForm w))
+
+abbrev some : String → Bool
+some w = ltb 0 (length (shortForm w))
 
 rows-wide : every wide wordList ≡ true
 unfolding wordList wordRow shortForm longForm bytes small capital if_then_else_
@@ -66,6 +69,10 @@ rows-wide = refl
 short-starts : every starts wordList ≡ true
 unfolding wordList shortForm longForm bytes small capital if_then_else_ same
 short-starts = refl
+
+short-not-empty : every some wordList ≡ true
+unfolding wordList shortForm bytes small if_then_else_
+short-not-empty = refl
 
 words-many : length wordList ≡ 52
 unfolding wordList
@@ -126,6 +133,10 @@ module _ (w : ℕ) (h : w < 52) where
   short-is : short ≡ take (length short) long
   unfolding wordAt
   short-is = same-eq short (take (length short) long) (every-at starts wordList w "" short-starts within)
+
+  short-some : 0 < length short
+  unfolding wordAt
+  short-some = ltb-true 0 (length short) (every-at some wordList w "" short-not-empty within)
 
   short-small : length short ≤ length long
   short-small = let e = ap length short-is ∙ length-take (length short) long in omega arith
@@ -188,6 +199,28 @@ module _ (t : Text) (w : ℕ) (h : w < 52) where
           omega arith
       go false p false q k = absurd (false≢true (sym k))
 
+letter-at : (w i : ℕ) → first (drop i (letters w)) ≡ wordCell w (i + 2)
+unfolding letters wordCell
+letter-at w i =
+    let e : w * 16 + 2 + i ≡ w * 16 + (i + 2) = omega arith in
+    rw (drop-drop i (w * 16 + 2) wordTable, e) (first-at wordTable (w * 16 + (i + 2)))
+
+-- a name that doesn't begin with the word's first letter, or that is empty
+pub first-miss : (b : ℕ) (bs : Text) (w : ℕ) → w < 52 → (capital b ≡ wordCell w 2 → ⊥) → matches (wordAt w) (start inName (b ∷ bs)) ≡ false
+unfolding if_then_else_ agrees
+first-miss b bs w h ne = go (inName b)
+  where
+    go : (e : Bool) → matches (wordAt w) (if e then b ∷ start inName bs else []) ≡ false
+    go true =
+        let n = b ∷ start inName bs in
+        word-is n w h ∙ and-fails (not (neither n w)) (agrees n (letters w)) (rw (letter-at w 0, ne-eqb (capital b) (wordCell w 2) ne))
+    go false =
+        let k = short-some w h in
+        let s = short-small w h in
+        let a = short-cell w h in
+        let b = long-cell w h in
+        word-no [] w h (rw (ne-eqb 0 (wordCell w 0) (λ e. omega arith), ne-eqb 0 (wordCell w 1) (λ e. omega arith)))
+
 -- a name as long as one of the word's forms, compared with the word's letters up to a place
 pub record Spelling (t : Text) (w i : ℕ) : Type 0 where
   pub within : i ≤ length t
@@ -196,12 +229,6 @@ pub record Spelling (t : Text) (w i : ℕ) : Type 0 where
 
 pub spelling-start : (t : Text) (w : ℕ) (h : w < 52) → neither t w ≡ false → Spelling t w 0
 spelling-start t w h e = record { within = omega arith; short = word-short t w h e; same = sym (word-is t w h ∙ rw e) }
-
-letter-at : (w i : ℕ) → first (drop i (letters w)) ≡ wordCell w (i + 2)
-unfolding letters wordCell
-letter-at w i =
-    let e : w * 16 + 2 + i ≡ w * 16 + (i + 2) = omega arith in
-    rw (drop-drop i (w * 16 + 2) wordTable, e) (first-at wordTable (w * 16 + (i + 2)))
 
 module _ {t : Text} {w i : ℕ} (s : Spelling t w i) where
   pub spelling-on : i < length t → capital (getD t i 0) ≡ wordCell w (i + 2) → Spelling t w (i + 1)
