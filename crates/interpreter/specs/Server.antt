@@ -2,7 +2,7 @@
 use mathlib.Core.Path.{_≡_}
 use mathlib.Core.Bool.{true, false}
 use mathlib.Core.List.{List, [], _∷_, _++_}
-use Prim.Native.Nat.{ℕ, _+_, _-_, _≤_, _<_}
+use Prim.Native.Nat.{ℕ, _+_, _≤_}
 use lib.Dec.{eqb, leb}
 use lib.ListN.{length, take, drop}
 use Rattle.registers.specs.Text.{Text, if_then_else_, empty}
@@ -12,6 +12,7 @@ use Rattle.interpreter.specs.Events.{Happened, happens, received, take a
 use Rattle.interpreter.specs.State.{boxOf, possibleState, flowBox, FlowFits}
 use Rattle.interpreter.specs.declared.state.State.{State}
 use Rattle.interpreter.specs.declared.state.Flow.{Flow}
+use Rattle.interpreter.specs.declared.server.Progress.{Progress}
 
 -- the bytes cut behind every newline
 unfoldable pub linesOf : Text → List Text
@@ -56,13 +57,18 @@ pub record Serves (s : State) (input output : Text) (number read written : ℕ) 
 
 -- ---- what the functions inside say
 
-pub record LineCut (input : Text) (at end : ℕ) : Type 0 where
-  pub more : at < end
-  pub within : end ≤ length input
-  pub cut : linesOf (drop at input) ≡ take (end - at) (drop at input) ∷ linesOf (drop end input)
+-- how far the code got means this
+abbrev pub serviceAt : Progress → Text → Text → Text → Service
+serviceAt p line out output = service (flowBox (p .flow) line out) (p .read) (take (p .written) output) (drop (p .written) output)
 
-pub record FlowServed (f : Flow) (line out input output : Text) (r : Flow) (read written : ℕ) (lines left outputs : Text) : Type 0 where
-  pub fits : FlowFits r
-  pub within : written ≤ length outputs
-  pub service : service (flowBox r lines left) read (take written outputs) (drop written outputs)
-      ≡ serves (service (flowBox f line out) 0 [] output) (linesOf input)
+pub record LineServed (p : Progress) (line out bytes output : Text) (r : Progress) (lines left outputs : Text) : Type 0 where
+  pub fits : FlowFits (r .flow)
+  pub none : r .flow .count ≡ 0
+  pub read : r .read ≡ p .read + length bytes
+  pub within : r .written ≤ length outputs
+  pub service : serviceAt r lines left outputs ≡ servedLine (serviceAt p line out output) bytes
+
+pub record FlowServed (f : Flow) (line out input output : Text) (r : Progress) (lines left outputs : Text) : Type 0 where
+  pub fits : FlowFits (r .flow)
+  pub within : r .written ≤ length outputs
+  pub service : serviceAt r lines left outputs ≡ serves (service (flowBox f line out) 0 [] output) (linesOf input)

@@ -4,13 +4,14 @@ use mathlib.Core.Bool.{Bool, true, false, _&&_}
 use Prim.Native.Nat.{ℕ, _+_, _≤_}
 use lib.Dec.{leb}
 use lib.ListN.{take}
+use Rattle.bytes.specs.Bytes.{indexOf}
 use Rattle.registers.specs.Text.{Text}
 use Rattle.registers.specs.Settings.{possibleSettings}
 use Rattle.registers.specs.Status.{registersOf, troubleOf, possibleStatus}
 use Rattle.registers.specs.declared.settings.Settings.{Settings}
 use Rattle.registers.specs.declared.status.Status.{Status}
 use Rattle.interpreter.specs.Box.{Box, box, powerUp, mostLine, mostAnswer}
-use Rattle.interpreter.specs.Line.{byte, piece, newlines}
+use Rattle.interpreter.specs.Line.{piece, newlines}
 use Rattle.interpreter.specs.Events.{Event, Result, result, happened, happens, lent}
 use Rattle.interpreter.specs.LineParts.{boxHolding}
 use Rattle.interpreter.specs.declared.state.State.{State}
@@ -68,12 +69,12 @@ pub record FlowFits (f : Flow) : Type 0 where
   pub waiting : f .waiting ≤ mostAnswer
   pub queued : f .present .status .queued ≤ 16
 
-pub record FlowEnded (f : Flow) (line out : Text) (r : Flow) (left : Text) : Type 0 where
-  pub fits : FlowFits r
-  pub box : flowBox r line left ≡ byte (flowBox f line out) 10
-  pub count : r .count ≡ f .count + 1
+-- the first line of a text with its newline, or all of a text that has none
+unfoldable pub firstLine : Text → Text
+firstLine l = take (indexOf 10 l + 1) l
 
+-- bytes were taken in
 pub record FlowFed (f : Flow) (line out bytes : Text) (r : Flow) (lines left : Text) : Type 0 where
   pub fits : FlowFits r
   pub box : flowBox r lines left ≡ piece (flowBox f line out) bytes
-  pub count : r .count ≡ newlines bytes
+  pub count : r .count ≡ f .count + newlines bytes

@@ -6,7 +6,7 @@ use crate::unit::Reading;
 use registers::error::Error;
 use registers::text;
 ghost use mathlib.Core.Path.{_≡_};
-ghost use mathlib.Core.Bool.{Bool, true};
+ghost use mathlib.Core.Bool.{true};
 ghost use Prim.Native.Nat.{_+_, _≤_, _<_};
 ghost use lib.ListN.{length, take, drop};
 ghost use Rattle.registers.specs.Text.{every, white, start};

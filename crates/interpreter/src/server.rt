@@ -8,12 +8,12 @@ use crate::state::Outcome;
 use crate::state::State;
 use crate::tables;
 ghost use mathlib.Core.Path.{_≡_};
-ghost use Prim.Native.Nat.{_≤_, _<_};
-ghost use lib.ListN.{length};
+ghost use Prim.Native.Nat.{_+_, _≤_};
+ghost use lib.ListN.{length, drop};
 ghost use Rattle.interpreter.specs.Box.{mostLine, mostAnswer};
 ghost use Rattle.interpreter.specs.RowsParts.{rowTable, wordTable};
-ghost use Rattle.interpreter.specs.State.{numberOf};
-ghost use Rattle.interpreter.specs.Server.{Serves, LineCut, FlowServed};
+ghost use Rattle.interpreter.specs.State.{numberOf, FlowFits, firstLine};
+ghost use Rattle.interpreter.specs.Server.{Serves, LineServed, FlowServed};
 
 // How far a chunk was served: bytes read of the input, and written of the output.
 pub struct Served {
@@ -29,17 +29,32 @@ struct Progress {
     written: usize,
 }
 
-// The place behind the line that starts at a place.
-fn line_end(input: &[u8], at: usize) -> usize
-    requires { ⌜ at < length (now input) ⌝ }
-    ensures { λ r. ⌜ LineCut (now (input .entry)) at r ⌝ }
+// Serves the line that starts where the ones before it end: it is received, and an answer that then waits is taken.
+fn serve_line(
+    rows: &[u8],
+    words: &[u8],
+    done: Progress,
+    path: &mut [u8],
+    line: &mut [u8],
+    out: &mut [u8],
+    input: &[u8],
+    output: &mut [u8],
+) -> Progress
+    requires { ⌜ (now rows ≡ rowTable) × (now words ≡ wordTable) ⌝ }
+    requires { ⌜ (length (now path) ≡ mostLine) × (length (now line) ≡ mostLine) × (length (now out) ≡ mostAnswer) ⌝ }
+    requires { ⌜ FlowFits (done .flow) × (done .flow .count ≡ 0) × (done .read ≤ length (now input)) × (done .written + mostAnswer ≤ length (now output)) ⌝ }
+    ensures { λ r. ⌜ LineServed done (now (line .entry)) (now (out .entry)) (firstLine (drop (done .read) (now (input .entry)))) (now (output .entry)) r (now (line .exit)) (now (out .exit)) (now (output .exit)) ⌝ }
 {
-    let n = input.len();
-    let end = bytes::scan::find(input, at, n, 10);
-    if end < n {
-        return end + 1;
+    let fed = state::feed_line(rows, words, done.flow, path, line, out, input, done.read);
+    let mut flow = fed.flow;
+    let written = state::paste(out, flow.waiting, output, done.written);
+    flow.waiting = 0;
+    flow.count = 0;
+    Progress {
+        flow,
+        read: fed.next,
+        written,
     }
-    end
 }
 
 // Serves lines while the output has room for one answer more.
@@ -55,27 +70,18 @@ fn lines(
 ) -> Progress
     requires { ⌜ (now rows ≡ rowTable) × (now words ≡ wordTable) ⌝ }
     requires { ⌜ (length (now path) ≡ mostLine) × (length (now line) ≡ mostLine) × (length (now out) ≡ mostAnswer) ⌝ }
-    requires { ⌜ (start .filled ≤ mostLine) × (start .waiting ≤ mostAnswer) × (start .present .status .queued ≤ 16) × (start .count ≡ 0) ⌝ }
-    ensures { λ r. ⌜ FlowServed start (now (line .entry)) (now (out .entry)) (now (input .entry)) (now (output .entry)) (r .flow) (r .read) (r .written) (now (line .exit)) (now (out .exit)) (now (output .exit)) ⌝ }
+    requires { ⌜ FlowFits start × (start .count ≡ 0) ⌝ }
+    ensures { λ r. ⌜ FlowServed start (now (line .entry)) (now (out .entry)) (now (input .entry)) (now (output .entry)) r (now (line .exit)) (now (out .exit)) (now (output .exit)) ⌝ }
 {
-    let mut flow = start;
-    let mut read: usize = 0;
-    let mut written: usize = 0;
-    while (read < input.len()) & (ANSWER <= output.len() - written) {
-        let end = line_end(input, read);
-        flow = state::feed(rows, words, flow, path, line, out, &input[read..end]);
-        let waiting = flow.waiting;
-        let n = bytes::copy(&out[0..waiting], &mut output[written..]);
-        flow.waiting = 0;
-        flow.count = 0;
-        read = end;
-        written += n;
+    let mut done = Progress {
+        flow: start,
+        read: 0,
+        written: 0,
+    };
+    while (done.read < input.len()) & (ANSWER <= output.len() - done.written) {
+        done = serve_line(rows, words, done, path, line, out, input, output);
     }
-    Progress {
-        flow,
-        read,
-        written,
-    }
+    done
 }
 
 // Feeds the input's lines and takes each answer into the output. It stops before a line for whose answer

@@ -7,14 +7,16 @@ use registers::group::Group;
 use registers::settings::Settings;
 use registers::status::Status;
 ghost use mathlib.Core.Path.{_≡_};
-ghost use mathlib.Core.Bool.{Bool, true, _&&_};
 ghost use mathlib.Core.List.{[], _∷_};
-ghost use Prim.Native.Nat.{_^_, _≤_, _<_};
-ghost use lib.ListN.{length};
+ghost use Prim.Native.Nat.{_+_, _^_, _≤_, _<_, min};
+ghost use lib.ListN.{length, drop};
+ghost use lib.Seq as seq;
+ghost use Rattle.registers.specs.Text.{Text};
 ghost use Rattle.interpreter.specs.Box.{mostLine, mostAnswer};
 ghost use Rattle.interpreter.specs.RowsParts.{rowTable, wordTable};
-ghost use Rattle.interpreter.specs.Events.{received, take, condition, look, started, result};
-ghost use Rattle.interpreter.specs.State.{numberOf, possibleState, possibleParts, Happens, Started, FlowFed, FlowEnded};
+ghost use Rattle.interpreter.specs.Events.{received, take, condition, look, result};
+ghost use Rattle.interpreter.specs.Line.{newlines};
+ghost use Rattle.interpreter.specs.State.{numberOf, possibleParts, Happens, Started, FlowFits, firstLine, FlowFed};
 
 // The room of a line before its newline, and of an answer with its newline.
 pub const LINE: usize = 512;
@@ -74,6 +76,12 @@ pub(crate) struct Flow {
     pub(crate) count: usize,
 }
 
+// What a line taken in leaves, and where the next one starts.
+pub(crate) struct Advance {
+    pub(crate) flow: Flow,
+    pub(crate) next: usize,
+}
+
 impl Outcome {
     // The refusal's number in 01's table, 0 where there is none.
     pub fn number(self) -> u8
@@ -98,6 +106,37 @@ pub(crate) fn possible(settings: Settings, status: Status, filled: usize, waitin
     s & t & (filled <= LINE) & (waiting <= ANSWER)
 }
 
+// The smaller of two numbers.
+fn smaller(a: usize, b: usize) -> usize
+    ensures { λ r. ⌜ r ≡ min a b ⌝ }
+{
+    if a < b {
+        return a;
+    }
+    b
+}
+
+// Lays the first n bytes of a text over another from a place on; the place behind them.
+pub(crate) fn paste(text: &[u8], n: usize, into: &mut [u8], at: usize) -> usize
+    requires { ⌜ (n ≤ length (now text)) × (at + n ≤ length (now into)) ⌝ }
+    ensures { λ r. ⌜ r ≡ at + n ⌝ }
+    ensures { λ _. ⌜ now (into .exit) ≡ seq.paste (now (into .entry)) at (now (text .entry)) n ⌝ }
+{
+    at + bytes::copy(&text[0..n], &mut into[at..])
+}
+
+// Bytes without a newline go behind what the line holds; "further bytes are dropped".
+fn hold(mut flow: Flow, line: &mut [u8], part: &[u8]) -> Flow
+    requires { ⌜ FlowFits flow × (length (now line) ≡ mostLine) × (newlines (now part) ≡ 0) ⌝ }
+    ensures { λ r. ⌜ ((out : Text) → FlowFed flow (now (line .entry)) out (now (part .entry)) r (now (line .exit)) out) ⌝ }
+{
+    let at = flow.filled;
+    let n = smaller(part.len(), LINE - at);
+    flow.filled = paste(part, n, line, at);
+    flow.overlong = flow.overlong | (n < part.len());
+    flow
+}
+
 // A newline: the line that was held is run.
 fn newline(
     rows: &[u8],
@@ -109,8 +148,8 @@ fn newline(
 ) -> Flow
     requires { ⌜ (now rows ≡ rowTable) × (now words ≡ wordTable) ⌝ }
     requires { ⌜ (length (now path) ≡ mostLine) × (length (now line) ≡ mostLine) × (length (now out) ≡ mostAnswer) ⌝ }
-    requires { ⌜ (flow .filled ≤ mostLine) × (flow .present .status .queued ≤ 16) × (flow .count < 2 ^ 63) ⌝ }
-    ensures { λ r. ⌜ FlowEnded flow (now (line .entry)) (now (out .entry)) r (now (out .exit)) ⌝ }
+    requires { ⌜ FlowFits flow × (flow .count < 2 ^ 63) ⌝ }
+    ensures { λ r. ⌜ FlowFed flow (now (line .entry)) (now (out .entry)) (10 ∷ []) r (now (line .entry)) (now (out .exit)) ⌝ }
 {
     let present = flow.present;
     let filled = flow.filled;
@@ -134,7 +173,40 @@ fn newline(
     }
 }
 
-// Takes bytes in, one at a time, with the line and the answer in place.
+// Takes in the line that starts at a place: its bytes up to a newline and with it, or all there are.
+pub(crate) fn feed_line(
+    rows: &[u8],
+    words: &[u8],
+    flow: Flow,
+    path: &mut [u8],
+    line: &mut [u8],
+    out: &mut [u8],
+    bytes: &[u8],
+    at: usize,
+) -> Advance
+    requires { ⌜ (now rows ≡ rowTable) × (now words ≡ wordTable) ⌝ }
+    requires { ⌜ (length (now path) ≡ mostLine) × (length (now line) ≡ mostLine) × (length (now out) ≡ mostAnswer) ⌝ }
+    requires { ⌜ FlowFits flow × (flow .count < 2 ^ 63) × (at ≤ length (now bytes)) ⌝ }
+    ensures { λ r. ⌜ FlowFed flow (now (line .entry)) (now (out .entry)) (firstLine (drop at (now (bytes .entry)))) (r .flow) (now (line .exit)) (now (out .exit)) ⌝ }
+    ensures { λ r. ⌜ r .next ≡ at + length (firstLine (drop at (now (bytes .entry)))) ⌝ }
+{
+    let n = bytes.len();
+    let end = bytes::scan::find(bytes, at, n, 10);
+    let held = hold(flow, line, &bytes[at..end]);
+    if end == n {
+        return Advance {
+            flow: held,
+            next: end,
+        };
+    }
+    let next = newline(rows, words, held, path, line, out);
+    Advance {
+        flow: next,
+        next: end + 1,
+    }
+}
+
+// Takes bytes in, line by line, with the line and the answer in place.
 pub(crate) fn feed(
     rows: &[u8],
     words: &[u8],
@@ -146,25 +218,15 @@ pub(crate) fn feed(
 ) -> Flow
     requires { ⌜ (now rows ≡ rowTable) × (now words ≡ wordTable) ⌝ }
     requires { ⌜ (length (now path) ≡ mostLine) × (length (now line) ≡ mostLine) × (length (now out) ≡ mostAnswer) ⌝ }
-    requires { ⌜ (start .filled ≤ mostLine) × (start .waiting ≤ mostAnswer) × (start .present .status .queued ≤ 16) × (start .count ≡ 0) ⌝ }
+    requires { ⌜ FlowFits start × (start .count ≡ 0) ⌝ }
     ensures { λ r. ⌜ FlowFed start (now (line .entry)) (now (out .entry)) (now (bytes .entry)) r (now (line .exit)) (now (out .exit)) ⌝ }
 {
     let mut flow = start;
-    let mut i: usize = 0;
-    while i < bytes.len() {
-        let b = bytes[i];
-        i += 1;
-        if b == 10 {
-            flow = newline(rows, words, flow, path, line, out);
-            continue;
-        }
-        let at = flow.filled;
-        if at < LINE {
-            line[at] = b;
-            flow.filled = at + 1;
-            continue;
-        }
-        flow.overlong = true;
+    let mut at: usize = 0;
+    while at < bytes.len() {
+        let fed = feed_line(rows, words, flow, path, line, out, bytes, at);
+        flow = fed.flow;
+        at = fed.next;
     }
     flow
 }
@@ -270,7 +332,7 @@ impl State {
             };
         }
         let answer = self.answer;
-        let n = bytes::copy(&answer[0..waiting], buffer);
+        let n = paste(&answer, waiting, buffer, 0);
         self.waiting = 0;
         Taken {
             outcome: Outcome::Done,

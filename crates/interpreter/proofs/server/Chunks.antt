@@ -2,7 +2,6 @@
 use mathlib.Core.Path.{_≡_, refl, sym, _∙_, ap}
 use mathlib.Core.Bool.{true, false, false≢true}
 use mathlib.Core.List.{List, [], _∷_}
-use Prim.Native.Nat.{ℕ}
 use lib.Dec.{leb}
 use lib.ListN.{length}
 use Rattle.registers.specs.Text.{Text, empty}
@@ -13,6 +12,7 @@ use Rattle.interpreter.specs.State.{boxOf, possibleState, flowBox}
 use Rattle.interpreter.specs.Server.{linesOf, Service, service, servedLine, serves, Serves, FlowServed}
 use Rattle.interpreter.specs.declared.state.State.{State}
 use Rattle.interpreter.specs.declared.state.Flow.{Flow}
+use Rattle.interpreter.specs.declared.server.Progress.{Progress}
 use Rattle.interpreter.proofs.Choices.{if-elim}
 use Rattle.interpreter.proofs.Possible.{Fit, event-fit, fit-from, fit-to}
 use Rattle.interpreter.proofs.state.Records.{Short, box-from, state-from}
@@ -36,10 +36,10 @@ module _ (s : State) (input output : Text) where
   refused-chunk n = record { possible = λ p. absurd (false≢true (sym n ∙ p)); impossible = λ _. (refl, refl, refl, refl, refl) }
 
   pub served-chunk : length (s .settings .values) ≡ count → possibleState s ≡ true
-      → (f r : Flow) (lines left outputs : Text) (read written : ℕ) → flowBox f (s .line) (s .answer) ≡ boxOf s
-      → FlowServed f (s .line) (s .answer) input output r read written lines left outputs
-      → (t : State) → Short t → flowBox r lines left ≡ boxOf t → Serves s input output 0 read written t outputs
-  served-chunk long p f r lines left outputs read written begun w t short is =
+      → (f : Flow) (r : Progress) (lines left outputs : Text) → flowBox f (s .line) (s .answer) ≡ boxOf s
+      → FlowServed f (s .line) (s .answer) input output r lines left outputs
+      → (t : State) → Short t → flowBox (r .flow) lines left ≡ boxOf t → Serves s input output 0 (r .read) (r .written) t outputs
+  served-chunk long p f r lines left outputs begun w t short is =
       let all = rw (is, begun) at (w .service) in
       let still = serves-fit (service (boxOf s) 0 [] output) (linesOf input) (fit-from (boxOf s) long (box-from s p)) in
       let box : boxOf t ≡ serves (service (boxOf s) 0 [] output) (linesOf input) .box = ap (λ (v : Service). v .box) all in

@@ -2,12 +2,10 @@
 use mathlib.Core.Path.{_≡_, refl, sym, _∙_}
 use mathlib.Core.Bool.{true, false, not, false≢true}
 use mathlib.Core.List.{[], _++_}
-use Prim.Native.Nat.{ℕ, _-_, _≤_, _<_}
+use Prim.Native.Nat.{ℕ, _≤_, _<_}
 use native.Mathlib.Omega.{arith}
 use lib.Dec.{eqb}
 use lib.ListN.{length, take, drop, length-take}
-use lib.Seq.{take-length}
-use native.Mathlib.Nat.{sub-zero}
 use borrow.Author.Tests.{le-leb, lt-leb, ne-eqb}
 use Rattle.registers.specs.Text.{Text, if_then_else_}
 use Rattle.registers.specs.Group.{widestGroup, possibleGroup}
@@ -18,6 +16,7 @@ use Rattle.registers.proofs.settings.Possible.{reset-possible}
 use Rattle.registers.proofs.status.Laws.{reported-yes}
 use Rattle.registers.proofs.status.Means.{raised-trouble, raised-registers}
 use Rattle.interpreter.specs.Box.{box}
+use Rattle.interpreter.specs.Line.{newlines}
 use Rattle.interpreter.specs.Events.{Event, received, take as takes, condition, look, Result, result, happened, happens, taken, reported, lent}
 use Rattle.interpreter.specs.State.{boxOf, possibleParts, possibleState, Happens, flowBox, FlowFed}
 use Rattle.interpreter.specs.declared.state.State.{State}
@@ -102,15 +101,8 @@ start-possible = rw reset-possible
 
 -- ---- a piece
 
-pub piece-on : (s : State) (bytes : Text) (f r : Flow) (lines left : Text) → flowBox f (s .line) (s .answer) ≡ boxOf s
+pub piece-on : (s : State) (bytes : Text) (f r : Flow) (lines left : Text) → flowBox f (s .line) (s .answer) ≡ boxOf s → f .count ≡ 0
     → FlowFed f (s .line) (s .answer) bytes r lines left
     → happened (result 0 (r .count) []) (flowBox r lines left) ≡ happens (boxOf s) (received bytes)
 unfolding happens
-piece-on s bytes f r lines left e w = rw (w .count, w .box, e)
-
--- the answer's front, copied over the start of a buffer
-pub copied : (answer buffer : Text) (w : ℕ) → w ≤ length answer
-    → take (length (take (w - 0) answer)) (take (w - 0) answer) ++ drop (length (take (w - 0) answer)) buffer ≡ take w answer ++ drop w buffer
-copied answer buffer w h =
-    let n : length (take w answer) ≡ w = rw length-take (omega arith) in
-    rw (sub-zero, take-length (take w answer), n)
+piece-on s bytes f r lines left e z w = let n : r .count ≡ newlines bytes = let c = w .count in omega arith in rw (n, w .box, e)

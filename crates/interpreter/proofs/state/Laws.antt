@@ -1,125 +1,231 @@
--- Laws of the bytes that come in: one byte held, one dropped, a newline, and the loop over a piece.
+-- Laws of the bytes that come in: a text's first newline, bytes without one held at once, and a piece line by line.
 use mathlib.Core.Path.{_≡_, refl, sym, _∙_, ap}
-use mathlib.Core.Bool.{true}
-use mathlib.Core.List.{_∷_}
-use Prim.Native.Nat.{ℕ, suc, _+_, _≤_, _<_}
+use mathlib.Core.Bool.{Bool, true, false, _||_, or-true, or-false}
+use mathlib.Core.List.{[], _∷_, _++_, append-nil, append-assoc}
+use Prim.Native.Nat.{ℕ, zero, suc, _+_, _-_, _≤_, _<_, min}
 use native.Mathlib.Omega.{arith}
-use native.Mathlib.Numerals.{add-one}
-use lib.ListN.{length, take, drop, set, getD, length-take, length-set, drop-of-length-le}
-use lib.Seq.{drop-cons, take-suc-set}
-use borrow.Author.Tests.{ne-eqb, lt-ltb, le-ltb}
+use native.Mathlib.Nat.{sub-zero}
+use native.Mathlib.Numerals.{add-one, unary-clauses}
+use lib.Dec.{eqb, ltb, leb·suc-suc}
+use lib.ListN.{length, take, drop, getD, length-take, length-drop, length-append, drop-of-length-le}
+use lib.Seq.{take-all, take-add, take-suc, take-nil, take-length, length-take-le, drop-drop, paste, take-paste}
+use borrow.Rule.Slice.PartMut.{putMid}
+use borrow.Author.Tests.{lt-ltb, le-ltb, eqb-true, ltb-true, ltb-false}
+use Rattle.bytes.specs.Bytes.{indexOf, indexAfter, slice}
 use Rattle.registers.specs.Text.{Text, if_then_else_}
-use Rattle.interpreter.specs.Box.{Box, box, mostLine, mostAnswer}
+use Rattle.interpreter.specs.Box.{Core, Box, box, withLine, mostLine, mostAnswer}
 use Rattle.interpreter.specs.Line.{held, byte, piece, newlines}
-use Rattle.interpreter.specs.State.{flowBox, FlowFits, FlowEnded, FlowFed}
+use Rattle.interpreter.specs.State.{flowBox, FlowFits, firstLine, FlowFed}
 use Rattle.interpreter.specs.declared.state.Flow.{Flow}
+use Rattle.interpreter.proofs.Lists.{rest-is}
+use Rattle.interpreter.proofs.demands.Pieces.{piece-append, newlines-append}
 
--- ---- one byte that is no newline
+-- ---- a text laid over another
 
-abbrev pub kept : Flow → Flow
-kept f = record { present = f .present; filled = f .filled + 1; overlong = f .overlong; waiting = f .waiting; count = f .count }
+module _ (d : Text) (at : ℕ) (s : Text) (n : ℕ) (has : n ≤ length s) (room : at + n ≤ length d) where
+  pub pasted : (r : ℕ) (ys : Text) → r ≡ length (take (n - 0) s)
+      → ys ≡ take (length (take (n - 0) s)) (take (n - 0) s) ++ drop (length (take (n - 0) s)) (take (length d - at) (drop at d))
+      → (at + r ≡ at + n) × (putMid at (length d - at) d ys ≡ paste d at s n)
+  pasted r ys e is =
+      let l : length (take n s) ≡ n = length-take-le n s has in
+      let e′ : r ≡ length (take n s) = rw sub-zero at e in
+      let all : take (length d - at) (drop at d) ≡ drop at d = rest-is d at (omega arith) in
+      let none : drop (length d - at) (drop at d) ≡ [] = drop-of-length-le (drop at d) {i = length d - at} (rw length-drop (omega arith)) in
+      (omega arith, rw (is, sub-zero, take-length (take n s), l, all, none, append-nil, append-assoc, drop-drop n at d))
 
-abbrev pub lost : Flow → Flow
-lost f = record { present = f .present; filled = f .filled; overlong = true; waiting = f .waiting; count = f .count }
+-- ---- the first newline
 
-module _ (f : Flow) (line out : Text) (x : ℕ) (long : length line ≡ mostLine) (other : x ≡ 10 → ⊥) where
-  byte-kept : f .filled < mostLine → flowBox (kept f) (set line (f .filled) x) out ≡ byte (flowBox f line out) x
-  unfolding byte held if_then_else_
-  byte-kept h =
-      let n : length (take (f .filled) line) < mostLine = rw length-take (omega arith) in
-      rw (ne-eqb x 10 other, lt-ltb (length (take (f .filled) line)) mostLine n, add-one (f .filled), take-suc-set line (f .filled) x (omega arith))
+none-before : (l : Text) → newlines (take (indexOf 10 l) l) ≡ 0
+unfolding newlines indexOf indexAfter if_then_else_
+none-before [] = refl
+none-before (x ∷ l) = go (eqb x 10) refl (none-before l)
+  where
+    go : (t : Bool) → eqb x 10 ≡ t → newlines (take (indexOf 10 l) l) ≡ 0 → newlines (take (indexOf 10 (x ∷ l)) (x ∷ l)) ≡ 0
+    go true e ih = rw e
+    go false e ih = rw e (rw e ih)
 
-  byte-lost : mostLine ≤ f .filled → flowBox (lost f) line out ≡ byte (flowBox f line out) x
-  unfolding byte held if_then_else_
-  byte-lost h =
-      let n : mostLine ≤ length (take (f .filled) line) = rw length-take (omega arith) in
-      rw (ne-eqb x 10 other, le-ltb (length (take (f .filled) line)) mostLine n)
+newline-at : (l : Text) → indexOf 10 l < length l → getD l (indexOf 10 l) 0 ≡ 10
+unfolding indexOf indexAfter
+newline-at [] h = absurd (omega arith)
+newline-at (x ∷ l) h = go (eqb x 10) refl (λ k. newline-at l k)
+  where
+    go : (t : Bool) → eqb x 10 ≡ t → (indexOf 10 l < length l → getD l (indexOf 10 l) 0 ≡ 10) → getD (x ∷ l) (indexOf 10 (x ∷ l)) 0 ≡ 10
+    go true e ih = rw e (eqb-true x 10 e)
+    go false e ih = let k : suc (indexOf 10 l) < suc (length l) = rw e at h in rw e (ih (omega arith))
 
--- ---- the loop over a piece: what is left of it does to the box now what all of it does to the first one
+-- the first line of a text is a front of it
+front-again : (k : ℕ) (l : Text) → take (length (take k l)) l ≡ take k l
+front-again zero l = refl
+front-again (suc k) [] = refl
+front-again (suc k) (x ∷ l) = ap (λ (t : Text). x ∷ t) (front-again k l)
 
-pub record Feeding (start : Box) (bytes path line out : Text) (f : Flow) (i : ℕ) : Type 0 where
-  pub fits : FlowFits f
-  pub paths : length path ≡ mostLine
-  pub lines : length line ≡ mostLine
-  pub outs : length out ≡ mostAnswer
-  pub within : i ≤ length bytes
-  pub few : f .count ≤ i
-  pub left : piece (flowBox f line out) (drop i bytes) ≡ piece start bytes
-  pub count : f .count + newlines (drop i bytes) ≡ newlines bytes
+module _ (l : Text) where
+  pub first-front : take (length (firstLine l)) l ≡ firstLine l
+  unfolding firstLine
+  first-front = front-again (indexOf 10 l + 1) l
 
-pub feed-start : (f : Flow) (bytes path line out : Text) → FlowFits f → f .count ≡ 0
-    → length path ≡ mostLine → length line ≡ mostLine → length out ≡ mostAnswer → Feeding (flowBox f line out) bytes path line out f 0
-feed-start f bytes path line out w z p l o =
-    record { fits = w; paths = p; lines = l; outs = o; within = omega arith; few = omega arith; left = refl; count = rw z (omega arith) }
+  pub first-some : 0 < length l → 0 < length (firstLine l)
+  unfolding firstLine
+  first-some h = rw length-take (omega arith)
 
-module _ (start : Box) (bytes path line out : Text) (f : Flow) (i : ℕ) (g : Feeding start bytes path line out f i) (h : i < length bytes) where
-  -- the next byte was x
-  module _ (x : ℕ) (is : getD bytes i 0 ≡ x) where
-    ahead : drop i bytes ≡ x ∷ drop (i + 1) bytes
-    ahead = drop-cons bytes i 0 h ∙ rw (is, add-one i)
+  pub first-within : length (firstLine l) ≤ length l
+  unfolding firstLine
+  first-within = rw length-take (omega arith)
 
-    next-left : (f′ : Flow) (line′ out′ : Text) → flowBox f′ line′ out′ ≡ byte (flowBox f line out) x
-        → piece (flowBox f′ line′ out′) (drop (i + 1) bytes) ≡ piece start bytes
-    unfolding piece
-    next-left f′ line′ out′ e = rw e (sym (ap (piece (flowBox f line out)) ahead) ∙ g .left)
+-- the line that starts at a place, up to its newline
+module _ (bytes : Text) (at end : ℕ) (is : end ≡ at + indexOf 10 (slice at (length bytes) bytes)) (within : end ≤ length bytes) where
+  place : end - at ≡ indexOf 10 (drop at bytes)
+  unfolding slice
+  place = let e : end ≡ at + indexOf 10 (drop at bytes) = rw (take-length bytes) at is in omega arith
 
-    next-other : (x ≡ 10 → ⊥) → f .count + newlines (drop (i + 1) bytes) ≡ newlines bytes
-    unfolding newlines if_then_else_
-    next-other ne = let e : newlines (drop i bytes) ≡ newlines (drop (i + 1) bytes) = rw (ahead, ne-eqb x 10 ne) in let c = g .count in omega arith
+  pub part-plain : newlines (take (end - at) (drop at bytes)) ≡ 0
+  part-plain = rw place (none-before (drop at bytes))
 
-    pub feed-kept : (x ≡ 10 → ⊥) → f .filled < mostLine → Feeding start bytes path (set line (f .filled) x) out (kept f) (i + 1)
-    feed-kept ne r =
-        let w = g .fits in
-        let few = g .few in
-        record {
-          fits = record { filled = omega arith; waiting = w .waiting; queued = w .queued };
-          paths = g .paths;
-          lines = rw length-set (g .lines);
-          outs = g .outs;
-          within = omega arith;
-          few = omega arith;
-          left = next-left (kept f) (set line (f .filled) x) out (byte-kept f line out x (g .lines) ne r);
-          count = next-other ne;
-        }
+  pub line-open : end ≡ length bytes → firstLine (drop at bytes) ≡ take (end - at) (drop at bytes)
+  unfolding firstLine
+  line-open e =
+      let d = length-drop at bytes in
+      let p = place in
+      take-all (indexOf 10 (drop at bytes) + 1) (drop at bytes) (omega arith) ∙ sym (take-all (end - at) (drop at bytes) (omega arith))
 
-    pub feed-lost : (x ≡ 10 → ⊥) → mostLine ≤ f .filled → Feeding start bytes path line out (lost f) (i + 1)
-    feed-lost ne r =
-        let w = g .fits in
-        let few = g .few in
-        record {
-          fits = record { filled = w .filled; waiting = w .waiting; queued = w .queued };
-          paths = g .paths;
-          lines = g .lines;
-          outs = g .outs;
-          within = omega arith;
-          few = omega arith;
-          left = next-left (lost f) line out (byte-lost f line out x (g .lines) ne r);
-          count = next-other ne;
-        }
+  pub line-ended : (end ≡ length bytes → ⊥) → firstLine (drop at bytes) ≡ take (end - at) (drop at bytes) ++ 10 ∷ []
+  unfolding firstLine
+  line-ended ne =
+      let d = length-drop at bytes in
+      let p = place in
+      let h : indexOf 10 (drop at bytes) < length (drop at bytes) = omega arith in
+      rw (p, add-one (indexOf 10 (drop at bytes)), take-suc (drop at bytes) (indexOf 10 (drop at bytes)) 0 h, newline-at (drop at bytes) h)
 
-  pub feed-newline : getD bytes i 0 ≡ 10 → (r : Flow) (path′ out′ : Text) → FlowEnded f line out r out′
-      → length path′ ≡ length path → length out′ ≡ length out → Feeding start bytes path′ line out′ r (i + 1)
-  unfolding newlines if_then_else_
-  feed-newline e r path′ out′ w p o =
-      let few = g .few in
-      let n = w .count in
-      let c = g .count in
-      let k : newlines (drop i bytes) ≡ suc (newlines (drop (i + 1) bytes)) = rw (ahead 10 e) in
+-- ---- bytes without a newline, one at a time, are held as far as there is room
+
+abbrev filled : Core → Text → Core
+filled c part = withLine (c .line ++ take (mostLine - length (c .line)) part) (c .overlong || ltb (mostLine - length (c .line)) (length part)) c
+
+-- one more, where there is room and where there is none
+held-more : (c : Core) (x : ℕ) (xs : Text) → length (c .line) ≤ mostLine → filled (held x c) xs ≡ filled c (x ∷ xs)
+unfolding held if_then_else_
+held-more c x xs h = go (ltb (length (c .line)) mostLine) refl
+  where
+    go : (t : Bool) → ltb (length (c .line)) mostLine ≡ t → filled (held x c) xs ≡ filled c (x ∷ xs)
+    go true e =
+        let k = ltb-true (length (c .line)) mostLine e in
+        let n : length (c .line ++ x ∷ []) ≡ suc (length (c .line)) = simp (length-append, unary-clauses) in
+        let r : mostLine - length (c .line) ≡ suc (mostLine - suc (length (c .line))) = omega arith in
+        rw (e, n, r, append-assoc (c .line) (x ∷ []) (take (mostLine - suc (length (c .line))) xs), leb·suc-suc (suc (mostLine - suc (length (c .line)))) (length xs))
+    go false e =
+        let k = ltb-false (length (c .line)) mostLine e in
+        let r : mostLine - length (c .line) ≡ 0 = omega arith in
+        rw (e, r, lt-ltb 0 (suc (length xs)) (omega arith), or-true (c .overlong))
+
+held-within : (c : Core) (x : ℕ) → length (c .line) ≤ mostLine → length (held x c .line) ≤ mostLine
+unfolding held if_then_else_
+held-within c x h = go (ltb (length (c .line)) mostLine) refl
+  where
+    go : (t : Bool) → ltb (length (c .line)) mostLine ≡ t → length (held x c .line) ≤ mostLine
+    go true e = let k = ltb-true (length (c .line)) mostLine e in rw (e, length-append) (omega arith)
+    go false e = rw e h
+
+pub piece-held : (part : Text) (b : Box) → newlines part ≡ 0 → length (b .core .line) ≤ mostLine
+    → piece b part ≡ box (filled (b .core) part) (b .trouble)
+unfolding piece byte newlines if_then_else_
+piece-held [] b z h =
+    rw (take-nil (mostLine - length (b .core .line)), append-nil (b .core .line), le-ltb (mostLine - length (b .core .line)) 0 (omega arith), or-false (b .core .overlong))
+piece-held (x ∷ xs) b z h = go (eqb x 10) refl (λ c k l. piece-held xs c k l)
+  where
+    go : (t : Bool) → eqb x 10 ≡ t
+        → ((c : Box) → newlines xs ≡ 0 → length (c .core .line) ≤ mostLine → piece c xs ≡ box (filled (c .core) xs) (c .trouble))
+        → piece b (x ∷ xs) ≡ box (filled (b .core) (x ∷ xs)) (b .trouble)
+    go true e ih = let n : suc (newlines xs) ≡ 0 = rw e at z in absurd (omega arith)
+    go false e ih =
+        let n : newlines xs ≡ 0 = rw e at z in
+        rw (e, ih (box (held x (b .core)) (b .trouble)) n (held-within (b .core) x h), held-more (b .core) x xs h)
+
+-- as many as there is room for, and whether that is all
+min-take : (part : Text) (k n : ℕ) → n ≡ min (length part) k → (take n part ≡ take k part) × (ltb n (length part) ≡ ltb k (length part))
+min-take part k n is = go (ltb k (length part)) refl
+  where
+    go : (t : Bool) → ltb k (length part) ≡ t → (take n part ≡ take k part) × (ltb n (length part) ≡ ltb k (length part))
+    go true e = let h = ltb-true k (length part) e in let m : n ≡ k = omega arith in (rw m, rw m)
+    go false e =
+        let h = ltb-false k (length part) e in
+        (take-all n part (omega arith) ∙ sym (take-all k part (omega arith)), le-ltb n (length part) (omega arith) ∙ sym e)
+
+abbrev pub heldIn : Flow → ℕ → Bool → Flow
+heldIn f at o = record { present = f .present; filled = at; overlong = o; waiting = f .waiting; count = f .count }
+
+module _ (f : Flow) (line part : Text) (w : FlowFits f) (long : length line ≡ mostLine) (plain : newlines part ≡ 0) where
+  pub held-fed : (n at : ℕ) (lines : Text) → n ≡ min (length part) (mostLine - f .filled) → at ≡ f .filled + n → lines ≡ paste line (f .filled) part n
+      → (out : Text) → FlowFed f line out part (heldIn f at (f .overlong || ltb n (length part))) lines out
+  held-fed n at lines is e l out =
+      let h = w .filled in
+      let m = min-take part (mostLine - f .filled) n is in
+      let k : length (take (f .filled) line) ≡ f .filled = length-take-le (f .filled) line (omega arith) in
+      let all = piece-held part (flowBox f line out) plain (rw k h) in
       record {
-        fits = w .fits;
-        paths = p ∙ g .paths;
-        lines = g .lines;
-        outs = o ∙ g .outs;
-        within = omega arith;
-        few = omega arith;
-        left = next-left 10 e r line out′ (w .box);
+        fits = record { filled = omega arith; waiting = w .waiting; queued = w .queued };
+        box = rw (e, l, take-paste line (f .filled) part n (omega arith) (omega arith), m .0, m .1) (sym (rw k at all));
         count = omega arith;
       }
 
-pub feed-end : (f₀ f : Flow) (bytes path line₀ out₀ line out : Text) (i : ℕ) → Feeding (flowBox f₀ line₀ out₀) bytes path line out f i → length bytes ≤ i
-    → FlowFed f₀ line₀ out₀ bytes f line out
+-- ---- bytes taken in, one part behind the other
+
+pub fed-none : (f : Flow) (line out : Text) → FlowFits f → FlowFed f line out [] f line out
 unfolding piece newlines
-feed-end f₀ f bytes path line₀ out₀ line out i g h =
-    let none = drop-of-length-le bytes h in
-    let c : f .count + 0 ≡ newlines bytes = rw none at (g .count) in
-    record { fits = g .fits; box = rw none at (g .left); count = omega arith }
+fed-none f line out w = record { fits = w; box = refl; count = omega arith }
+
+pub fed-then : (f g r : Flow) (line out xs line₁ out₁ ys line₂ out₂ : Text) → FlowFed f line out xs g line₁ out₁ → FlowFed g line₁ out₁ ys r line₂ out₂
+    → FlowFed f line out (xs ++ ys) r line₂ out₂
+fed-then f g r line out xs line₁ out₁ ys line₂ out₂ p q =
+    let n = newlines-append xs ys in
+    let c = p .count in
+    let d = q .count in
+    record { fits = q .fits; box = q .box ∙ ap (λ (b : Box). piece b ys) (p .box) ∙ sym (piece-append _ xs ys); count = omega arith }
+
+newlines-few : (l : Text) → newlines l ≤ length l
+unfolding newlines if_then_else_
+newlines-few [] = omega arith
+newlines-few (x ∷ l) = go (eqb x 10) (newlines-few l)
+  where
+    go : (t : Bool) → newlines l ≤ length l → (if t then suc (newlines l) else newlines l) ≤ suc (length l)
+    go true ih = omega arith
+    go false ih = omega arith
+
+-- ---- a piece line by line
+
+pub record Feeding (f₀ : Flow) (line₀ out₀ bytes path line out : Text) (f : Flow) (at : ℕ) : Type 0 where
+  pub paths : length path ≡ mostLine
+  pub lines : length line ≡ mostLine
+  pub outs : length out ≡ mostAnswer
+  pub within : at ≤ length bytes
+  pub fed : FlowFed f₀ line₀ out₀ (take at bytes) f line out
+
+module _ (f₀ : Flow) (line₀ out₀ bytes path line out : Text) (f : Flow) (at : ℕ) (g : Feeding f₀ line₀ out₀ bytes path line out f at) where
+  pub feed-few : f₀ .count ≡ 0 → f .count ≤ length bytes
+  feed-few z =
+      let c = g .fed .count in
+      let n = newlines-few (take at bytes) in
+      let l = length-take at bytes in
+      omega arith
+
+  module _ (h : at < length bytes) (next : ℕ) (is : next ≡ at + length (firstLine (drop at bytes))) where
+    pub feed-further : at < next
+    feed-further = let d = length-drop at bytes in let s = first-some (drop at bytes) (omega arith) in omega arith
+
+    pub feed-on : (r : Flow) (path′ line′ out′ : Text) → FlowFed f line out (firstLine (drop at bytes)) r line′ out′
+        → length path′ ≡ length path → length line′ ≡ length line → length out′ ≡ length out
+        → Feeding f₀ line₀ out₀ bytes path′ line′ out′ r next
+    feed-on r path′ line′ out′ w p l o =
+        let d = length-drop at bytes in
+        let m = first-within (drop at bytes) in
+        let e : take next bytes ≡ take at bytes ++ firstLine (drop at bytes) =
+        rw (is, take-add at (length (firstLine (drop at bytes))) bytes, first-front (drop at bytes)) in
+        record {
+          paths = p ∙ g .paths;
+          lines = l ∙ g .lines;
+          outs = o ∙ g .outs;
+          within = omega arith;
+          fed = rw e (fed-then f₀ f r line₀ out₀ (take at bytes) line out (firstLine (drop at bytes)) line′ out′ (g .fed) w);
+        }
+
+  pub feed-end : length bytes ≤ at → FlowFed f₀ line₀ out₀ bytes f line out
+  feed-end h = rw (take-all at bytes h) at (g .fed)

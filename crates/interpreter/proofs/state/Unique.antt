@@ -15,7 +15,7 @@ use Rattle.interpreter.specs.State.{numberOf, boxOf, possibleState, Happ
 use Rattle.interpreter.specs.declared.state.State.{State}
 use Rattle.interpreter.specs.declared.state.Outcome.{Outcome}
 use Rattle.interpreter.specs.declared.state.Outcome.the-variants.{Done, BufferTooShort, NoAnswer, ConditionTooWide, ImpossibleState}
-use Rattle.interpreter.proofs.state.Records.{Short, short-from}
+use Rattle.interpreter.proofs.state.Records.{short-from}
 
 -- no two outcomes have the same number
 outcomeOf : ℕ → Outcome

@@ -44,7 +44,7 @@ lines-requires c κs =
     let p = sym (c .before .before .before .before .before .before .before .before .before .possible .ensures) ∙ not-false _ (c .before .before .before .before .before .before .before .before .if1 .left) in
     let w = short-from s p in
     let line : length (s .line) ≡ 512 = length-unmapped _ (s .line) 512 (g .1 .1 .1 .1 .0 .1 .0 .1) in
-    ((c .before .before .before .before .before .before .before .rows .ensures, c .before .before .before .before .before .before .words .ensures), ((refl, line, wide), (w .filled, w .waiting, w .queued, refl)))
+    ((c .before .before .before .before .before .before .before .rows .ensures, c .before .before .before .before .before .before .words .ensures), ((refl, line, wide), (record { filled = w .filled; waiting = w .waiting; queued = w .queued }, refl)))
 
 same-length : tie.Need-same-length
 same-length c = search needs
@@ -57,7 +57,7 @@ returns-2 c =
     let p = sym (c .before .before .before .before .before .before .before .before .before .before .before .before .before .before .before .before .before .before .before .possible .ensures) ∙ not-false _ (c .before .before .before .before .before .before .before .before .before .before .before .before .before .before .before .before .before .before .if1 .left) in
     let served = c .before .before .before .before .before .before .before .before .before .lines in
     let f = served .ensures .fits in
-    served-chunk s _ _ long p _ (served .result .flow) _ _ _ _ _ refl (served .ensures) _ (record { queued = f .queued; filled = f .filled; waiting = f .waiting }) refl
+    served-chunk s _ _ long p _ (served .result) _ _ _ refl (served .ensures) _ (record { queued = f .queued; filled = f .filled; waiting = f .waiting }) refl
 
 pub serve-spec : {M : Type 1} → statement M
 serve-spec =

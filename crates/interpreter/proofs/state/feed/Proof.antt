@@ -1,95 +1,59 @@
-use mathlib.Core.Path.{refl}
-use Prim.Native.Nat.{_-_}
+use Prim.Native.Nat.{_-_, zero-le}
 use native.Mathlib.Omega.{arith}
 use lib.ListN.{length}
-use Rattle.interpreter.specs.State.{flowBox}
-use Rattle.interpreter.proofs.state.Laws.{Feeding, feed-start, feed-kept, feed-lost, feed-newline, feed-end}
-use borrow.Author.Needs.{needs}
+use Rattle.interpreter.proofs.state.Laws.{Feeding, fed-none, feed-few, feed-further, feed-on, feed-end}
 use Rattle.interpreter.proofs.state.feed.Statement.{statement}
 use Rattle.interpreter.proofs.state.feed.Tie as tie
 
 abbrev Inv-loop : tie.InvT-loop
-Inv-loop rows words path₀ line₀ out₀ bytes flow₀ i₀ path line out flow i = Feeding (flowBox flow₀ line₀ out₀) bytes path line out flow i
+Inv-loop rows words path₀ line₀ out₀ bytes flow₀ at₀ path line out flow at = Feeding flow₀ line₀ out₀ bytes path line out flow at
 
 abbrev μ-loop : tie.MeasureT-loop
-μ-loop rows words path₀ line₀ out₀ bytes flow₀ i₀ path line out flow i = length bytes - i
+μ-loop rows words path₀ line₀ out₀ bytes flow₀ at₀ path line out flow at = length bytes - at
 
 loop-holds : tie.Need-loop-holds Inv-loop μ-loop
 loop-holds c =
     let a = c .before .before .before .before .before .before .args in
     let p = c .before .before .before .before .before .before .pre in
-    let q = p .1 .1 in
     let l = p .1 .0 in
-    feed-start (a .start) (a .bytes .now) (a .path .now) (a .line .now) (a .out .now)
-    (record { filled = q .0; waiting = q .1; queued = q .2 }) (q .3) (l .0) (l .1) (l .2)
+    record { paths = l .0; lines = l .1; outs = l .2; within = zero-le; fed = fed-none (a .start) (a .line .now) (a .out .now) (p .1 .1 .0) }
 
-shared-slice-read-b : tie.Need-shared-slice-read-b Inv-loop μ-loop
-shared-slice-read-b c = search needs
-
-add-i : tie.Need-add-i Inv-loop μ-loop
-add-i c = search needs
-
-newline-requires : tie.Need-newline-requires Inv-loop μ-loop
-newline-requires c κs =
-    let p = c .before .before .before .before .before .before .before .before .before .before .before .before .before .pre in
-    let g = c .before .before .before .before .before .before .loop .inv in
-    let w = g .fits in
-    let few = g .few in
-    (p .0, ((g .paths, g .lines, g .outs), (w .filled, w .queued, let big = c .before .before .before .before .before .before .before .before .before .before .before .before .before .good .1 .1 .1 .1 .1 .1 .0 in let on = c .before .before .before .before .before .loop-test .taken in omega arith)))
+feed-line-requires : tie.Need-feed-line-requires Inv-loop μ-loop
+feed-line-requires c κs =
+    let p = c .before .before .before .before .before .before .before .before .before .before .before .pre in
+    let g = c .before .before .before .before .loop .inv in
+    let few = feed-few _ _ _ _ _ _ _ _ _ g (p .1 .1 .1) in
+    let big = c .before .before .before .before .before .before .before .before .before .before .before .good .1 .1 .1 .1 .1 .1 .0 in
+    (p .0, ((g .paths, g .lines, g .outs), (g .fed .fits, omega arith, g .within)))
 
 loop-less : tie.Need-loop-less Inv-loop μ-loop
-loop-less c = search needs
+loop-less c =
+    let r = c .before .before .before .before .before .before .before .feed-line in
+    let more = c .before .before .before .before .before .before .before .before .before .before .before .loop-test .taken in
+    let k = feed-further _ _ _ _ _ _ _ _ _ (c .before .before .before .before .before .before .before .before .before .before .before .before .loop .inv) more (r .result .next) (r .ensures .1) in
+    omega arith
 
 loop-again : tie.Need-loop-again Inv-loop μ-loop
 loop-again c =
-    let g = c .before .before .before .before .before .before .before .before .before .before .before .loop .inv in
-    let r = c .before .before .before .before .newline in
-    let k = r .kept in
-    feed-newline _ _ _ _ _ _ _ g (c .before .before .before .before .before .before .before .before .before .before .loop-test .taken) (c .before .before .before .before .before .before .before .before .if1 .taken) (r .result) _ _ (r .ensures) (let k = r .kept in omega arith) (let k = r .kept in omega arith)
-
-slice-write-line : tie.Need-slice-write-line Inv-loop μ-loop
-slice-write-line c =
-    let g = c .before .before .before .before .loop .inv in
-    let lines = g .lines in
-    omega arith
-
-add-flow : tie.Need-add-flow Inv-loop μ-loop
-add-flow c = search needs
-
-loop-less-2 : tie.Need-loop-less-2 Inv-loop μ-loop
-loop-less-2 c = search needs
-
-loop-again-2 : tie.Need-loop-again-2 Inv-loop μ-loop
-loop-again-2 c =
-    let g = c .before .before .before .before .loop .inv in
-    feed-kept _ _ _ _ _ _ _ g (c .before .before .before .loop-test .taken) _ refl (c .before .if1 .left) (c .if2 .taken)
-
-loop-less-3 : tie.Need-loop-less-3 Inv-loop μ-loop
-loop-less-3 c = search needs
-
-loop-again-3 : tie.Need-loop-again-3 Inv-loop μ-loop
-loop-again-3 c =
-    let g = c .before .before .before .before .loop .inv in
-    feed-lost _ _ _ _ _ _ _ g (c .before .before .before .loop-test .taken) _ refl (c .before .if1 .left) (c .if2 .left)
+    let r = c .before .before .before .before .before .before .before .feed-line in
+    feed-on _ _ _ _ _ _ _ _ _ (c .before .before .before .before .before .before .before .before .before .before .before .before .loop .inv) (c .before .before .before .before .before .before .before .before .before .before .before .loop-test .taken) (r .result .next) (r .ensures .1) (r .result .flow) _ _ _ (r .ensures .0)
+    (let k = r .kept in omega arith) (let k = r .kept in omega arith) (let k = r .kept in omega arith)
 
 same-length : tie.Need-same-length Inv-loop μ-loop
 same-length c =
-    let g = c .before .loop .inv in
-    let now = g .paths in
+    let now = c .before .loop .inv .paths in
     let was = c .before .before .before .before .before .before .before .before .pre .1 .0 .0 in
     omega arith
 
 same-length-2 : tie.Need-same-length-2 Inv-loop μ-loop
 same-length-2 c =
-    let g = c .before .loop .inv in
-    let now = g .lines in
+    let now = c .before .loop .inv .lines in
     let was = c .before .before .before .before .before .before .before .before .pre .1 .0 .1 in
     omega arith
 
 same-length-3 : tie.Need-same-length-3 Inv-loop μ-loop
 same-length-3 c =
-    let g = c .before .loop .inv in
-    let now = g .outs in
+    let now = c .before .loop .inv .outs in
     let was = c .before .before .before .before .before .before .before .before .pre .1 .0 .2 in
     omega arith
 
@@ -103,17 +67,9 @@ feed-spec =
     Inv-loop
     μ-loop
     loop-holds
-    shared-slice-read-b
-    add-i
-    newline-requires
+    feed-line-requires
     loop-less
     loop-again
-    slice-write-line
-    add-flow
-    loop-less-2
-    loop-again-2
-    loop-less-3
-    loop-again-3
     same-length
     same-length-2
     same-length-3

@@ -1,10 +1,10 @@
+use borrow.Author.Needs.{needs}
 use native.Mathlib.Nat.{sub-zero}
-use Rattle.interpreter.specs.Line.{byte}
 use mathlib.Core.Path.{refl}
 use native.Mathlib.Omega.{arith}
 use Rattle.registers.specs.Text.{if_then_else_}
 use Rattle.registers.specs.Errors as errors
-use borrow.Author.Needs.{needs}
+use Rattle.interpreter.specs.Line.{byte, piece, newlines}
 use Rattle.interpreter.proofs.state.newline.Statement.{statement}
 use Rattle.interpreter.proofs.state.newline.Tie as tie
 
@@ -23,7 +23,7 @@ end-requires c κs = search needs
 add-t14 : tie.Need-add-t14
 add-t14 c =
     let p = c .before .before .before .before .before .before .before .before .before .before .before .before .before .before .before .before .pre in
-    let count = p .1 .1 .2 in
+    let count = p .1 .1 .1 in
     omega arith
 
 same-length : tie.Need-same-length
@@ -33,7 +33,7 @@ same-length-2 : tie.Need-same-length-2
 same-length-2 c = search needs
 
 returns : tie.Need-returns
-unfolding byte if_then_else_
+unfolding piece byte newlines if_then_else_
 returns c =
     let w = c .before .before .before .before .before .before .end .ensures in
     record {

@@ -47,7 +47,7 @@ feed-requires c κs =
     let w = short-from s p in
     let in-room = w .waiting in
     let line : length (s .line) ≡ 512 = length-unmapped _ (s .line) 512 (g .1 .1 .1 .1 .0 .1 .0 .1) in
-    ((c .before .before .before .before .before .before .rows .ensures, c .before .before .before .before .before .words .ensures), ((refl, line, wide), (w .filled, w .waiting, w .queued, refl)))
+    ((c .before .before .before .before .before .before .rows .ensures, c .before .before .before .before .before .words .ensures), ((refl, line, wide), (record { filled = w .filled; waiting = w .waiting; queued = w .queued }, refl)))
 
 returns-2 : tie.Need-returns-2
 returns-2 c =
@@ -61,7 +61,7 @@ returns-2 c =
     let fed = c .before .before .before .before .before .before .feed in
     let f = fed .ensures .fits in
     happens-on s (received (c .before .before .before .before .before .before .before .before .before .before .before .before .before .before .before .before .before .before .before .before .before .args .bytes .now)) _ _ long p (λ _. record { queued = f .queued; filled = f .filled; waiting = f .waiting })
-    (piece-on s (c .before .before .before .before .before .before .before .before .before .before .before .before .before .before .before .before .before .before .before .before .before .args .bytes .now) _ (fed .result) _ _ refl (fed .ensures))
+    (piece-on s (c .before .before .before .before .before .before .before .before .before .before .before .before .before .before .before .before .before .before .before .before .before .args .bytes .now) _ (fed .result) _ _ refl refl (fed .ensures))
 
 pub piece-spec : {M : Type 1} → statement M
 piece-spec =

@@ -1,15 +1,13 @@
 use mathlib.Core.Path.{_≡_, sym, _∙_}
-use mathlib.Core.List.{_++_}
-use Prim.Native.Nat.{zero-le, _-_}
+use Prim.Native.Nat.{zero-le, _+_}
 use native.Mathlib.Omega.{arith}
-use native.Mathlib.Nat.{sub-zero}
-use lib.ListN.{length, take, drop, length-take}
+use lib.ListN.{length}
 use borrow.Author.Needs.{length-unmapped, needs}
 use borrow.Author.Tests.{not-true, not-false}
 use Rattle.registers.proofs.status.Means.{raised-queued}
 use Rattle.interpreter.specs.Events.{take as takes}
 use Rattle.interpreter.proofs.state.Records.{short-from}
-use Rattle.interpreter.proofs.state.Events.{refused-4, happens-on, withStatus, withoutAnswer, take-none, take-short, take-all, copied}
+use Rattle.interpreter.proofs.state.Events.{refused-4, happens-on, withStatus, withoutAnswer, take-none, take-short, take-all}
 use Rattle.interpreter.proofs.state.State.take.Statement.{statement}
 use Rattle.interpreter.proofs.state.State.take.Tie as tie
 
@@ -50,45 +48,37 @@ returns-3 c =
     let in-room = w .waiting in
     happens-on s (takes buffer) _ s long p (λ x. x) (take-short s (omega arith) buffer (c .before .if2 .left) (omega arith) (c .if3 .taken))
 
-sub-copy : tie.Need-sub-copy
-sub-copy c = search needs
+slice-aggregate-paste : tie.Need-slice-aggregate-paste
+slice-aggregate-paste c = search needs
 
-part-copy-start : tie.Need-part-copy-start
-part-copy-start c = search needs
-
-part-copy-end : tie.Need-part-copy-end
-part-copy-end c =
-    let s = c .before .before .before .before .before .before .before .before .before .args .self in
-    let g = c .before .before .before .before .before .before .before .before .before .good .0 in
+paste-requires : tie.Need-paste-requires
+paste-requires c κs =
+    let s = c .before .before .before .before .before .before .before .before .before .before .args .self in
+    let g = c .before .before .before .before .before .before .before .before .before .before .good .0 in
     let wide : length (s .answer) ≡ 1024 = length-unmapped _ (s .answer) 1024 (g .1 .1 .1 .1 .1 .1 .1 .0 .1 .0 .1) in
-    let p = sym (c .before .before .before .before .before .possible .ensures) ∙ not-false _ (c .before .before .before .before .if1 .left) in
+    let p = sym (c .before .before .before .before .before .before .possible .ensures) ∙ not-false _ (c .before .before .before .before .before .if1 .left) in
     let w = short-from s p in
     let in-room = w .waiting in
-    omega arith
-
-copy-requires : tie.Need-copy-requires
-copy-requires c κs = search needs
+    let long = c .before .before .before .if3 .left in
+    (omega arith, omega arith)
 
 same-length : tie.Need-same-length
 same-length c = search needs
 
 returns-4 : tie.Need-returns-4
 returns-4 c =
-    let s = c .before .before .before .before .before .before .before .before .before .before .before .before .before .before .args .self in
-    let g = c .before .before .before .before .before .before .before .before .before .before .before .before .before .before .good .0 in
+    let s = c .before .before .before .before .before .before .before .before .before .before .before .before .before .args .self in
+    let g = c .before .before .before .before .before .before .before .before .before .before .before .before .before .good .0 in
     let long : length (s .settings .values) ≡ 16 = length-unmapped _ (s .settings .values) 16 (g .1 .1 .0 .1 .1 .0 .1 .0 .1) in
     let wide : length (s .answer) ≡ 1024 = length-unmapped _ (s .answer) 1024 (g .1 .1 .1 .1 .1 .1 .1 .0 .1 .0 .1) in
-    let p = sym (c .before .before .before .before .before .before .before .before .before .before .possible .ensures) ∙ not-false _ (c .before .before .before .before .before .before .before .before .before .if1 .left) in
+    let p = sym (c .before .before .before .before .before .before .before .before .before .possible .ensures) ∙ not-false _ (c .before .before .before .before .before .before .before .before .if1 .left) in
     let w = short-from s p in
     let in-room = w .waiting in
-    let buffer = c .before .before .before .before .before .before .before .before .before .before .before .before .before .before .args .buffer .now in
-    let all = take-all s (omega arith) buffer (c .before .before .before .before .before .before .before .before .if2 .left) (omega arith) (c .before .before .before .before .before .before .before .if3 .left) in
-    let n : length (take (s .waiting - 0) (s .answer)) ≡ s .waiting = rw (sub-zero, length-take) (omega arith) in
-    let cp = c .before .before .copy in
-    let e0 : cp .result ≡ s .waiting = cp .ensures .0 ∙ n in
-    let e1 : cp .last .1 .0 ≡ take (s .waiting) (s .answer) ++ drop (s .waiting) buffer =
-    cp .ensures .1 ∙ copied (s .answer) buffer (s .waiting) (omega arith) in
-    happens-on s (takes buffer) _ (withoutAnswer s) long p (λ x. record { queued = x .queued; filled = x .filled; waiting = zero-le }) (rw (e0, e1) all)
+    let buffer = c .before .before .before .before .before .before .before .before .before .before .before .before .before .args .buffer .now in
+    let all = take-all s (omega arith) buffer (c .before .before .before .before .before .before .before .if2 .left) (omega arith) (c .before .before .before .before .before .before .if3 .left) in
+    let laid = c .before .before .paste .ensures in
+    let z : 0 + s .waiting ≡ s .waiting = omega arith in
+    happens-on s (takes buffer) _ (withoutAnswer s) long p (λ x. record { queued = x .queued; filled = x .filled; waiting = zero-le }) (rw (laid .0, laid .1, z) all)
 
 pub take-spec : {M : Type 1} → statement M
 take-spec =
@@ -99,9 +89,7 @@ take-spec =
     raise-requires
     returns-2
     returns-3
-    sub-copy
-    part-copy-start
-    part-copy-end
-    copy-requires
+    slice-aggregate-paste
+    paste-requires
     same-length
     returns-4)

@@ -1,0 +1,53 @@
+use borrow.Author.Needs.{needs}
+use Rattle.interpreter.proofs.state.Laws.{pasted}
+use Rattle.interpreter.proofs.state.paste.Statement.{statement}
+use Rattle.interpreter.proofs.state.paste.Tie as tie
+
+sub-copy : tie.Need-sub-copy
+sub-copy c = search needs
+
+part-copy-start : tie.Need-part-copy-start
+part-copy-start c = search needs
+
+part-copy-end : tie.Need-part-copy-end
+part-copy-end c = search needs
+
+sub-copy-2 : tie.Need-sub-copy-2
+sub-copy-2 c = search needs
+
+part-copy-start-2 : tie.Need-part-copy-start-2
+part-copy-start-2 c = search needs
+
+part-copy-end-2 : tie.Need-part-copy-end-2
+part-copy-end-2 c = search needs
+
+copy-requires : tie.Need-copy-requires
+copy-requires c κs = search needs
+
+add-result : tie.Need-add-result
+add-result c = search needs
+
+same-length : tie.Need-same-length
+same-length c = search needs
+
+returns : tie.Need-returns
+returns c =
+    let a = c .before .before .before .before .before .before .before .args in
+    let p = c .before .before .before .before .before .before .before .pre in
+    let copy = c .before .before .copy in
+    pasted (a .into .now) (a .at) (a .text .now) (a .n) (p .0) (p .1) (copy .result) _ (copy .ensures .0) (copy .ensures .1)
+
+pub paste-spec : {M : Type 1} → statement M
+paste-spec =
+    tie.close
+    (tie.spec
+    sub-copy
+    part-copy-start
+    part-copy-end
+    sub-copy-2
+    part-copy-start-2
+    part-copy-end-2
+    copy-requires
+    add-result
+    same-length
+    returns)
