@@ -11,7 +11,7 @@ use Rattle.registers.specs.Check.{refused, passed}
 use Rattle.registers.specs.Answer.{decimal}
 use Rattle.registers.specs.Errors.{numberOf, errorText}
 use Rattle.registers.specs.Settings.{kindOf, wordText}
-use Rattle.registers.specs.Status.{registersOf, troubleOf, raisedIn, statusByte}
+use Rattle.registers.specs.Status.{Registers, registersOf, troubleOf, raisedIn, registerIn, statusByte}
 use Rattle.registers.specs.declared.error.Error.{Error}
 use Rattle.registers.specs.declared.error.Error.the-variants.{QueryDeadlocked}
 use Rattle.registers.specs.declared.settings.Settings.{Settings}
@@ -23,6 +23,7 @@ use Rattle.interpreter.specs.Line.{refuse}
 use Rattle.interpreter.specs.declared.deed.Deed.{Deed}
 use Rattle.interpreter.specs.declared.deed.Change as changes
 use Rattle.interpreter.specs.declared.deed.Query as queries
+use Rattle.interpreter.specs.declared.deed.Query.the-variants.{Identity, SelfTest, Completed, Limit, Value, Stored, Condition, OperationEvents}
 use Rattle.interpreter.specs.declared.deed.Inquiry as inquiries
 use Rattle.interpreter.specs.declared.deed.Inquiry.the-variants.{StandardEvents, StatusByte, NextError}
 use Rattle.interpreter.specs.declared.perform.Present.{Present}
@@ -44,6 +45,17 @@ boxIn p a = box (coreWith (p .settings) (p .status) a) (troubleOf (p .status))
 -- a setting's word by its place
 abbrev pub placeText : ℕ → ℤ → Text
 placeText row v = wordText (wordsOf (kindOf row)) v
+
+-- the number that a query's answer is, of those that answer one
+abbrev pub numberAsked : queries.Query → Registers → ℕ
+numberAsked Identity r = 0
+numberAsked SelfTest r = 0
+numberAsked Completed r = 1
+numberAsked (Limit i v) r = 0
+numberAsked (Value i) r = 0
+numberAsked (Stored x) r = registerIn x r
+numberAsked Condition r = r .operation .condition
+numberAsked OperationEvents r = r .operation .event
 
 abbrev pub inquiryText : inquiries.Inquiry → Status → Bool → Text
 inquiryText StandardEvents s answers = decimal (s .events)

@@ -13,9 +13,10 @@ ghost use Prim.Native.Nat.{_<_};
 ghost use Rattle.registers.specs.Answer.{Laid};
 ghost use Rattle.registers.specs.Words.{shortForm};
 ghost use Rattle.registers.specs.Settings.{kindOf, answerOf};
+ghost use Rattle.registers.specs.Status.{registersOf};
 ghost use Rattle.interpreter.specs.Deeds.{replyTo};
 ghost use Rattle.interpreter.specs.RowsParts.{wordTable, wordAt};
-ghost use Rattle.interpreter.specs.DeedsParts.{coreIn, placeText, inquiryText};
+ghost use Rattle.interpreter.specs.DeedsParts.{coreIn, placeText, numberAsked, inquiryText};
 ghost use Rattle.interpreter.specs.UnitParts.{AllowedQuery};
 
 // A word in its short form.
@@ -53,8 +54,20 @@ fn write_value(words: &[u8], row: usize, value: i32, tail: &mut [u8]) -> usize
     match values {
         Values::Word => write_place(words, row, value, tail),
         Values::Tenths => answer::write_tenths(value, tail),
-        Values::Whole => answer::write_whole(value, tail),
-        Values::Bool => answer::write_whole(value, tail),
+        Values::Whole | Values::Bool => answer::write_whole(value, tail),
+    }
+}
+
+// The number that a query asks for; *TST? asks for 0.
+fn number_asked(status: Status, query: Query) -> u32
+    ensures { λ r. ⌜ r ≡ numberAsked query (registersOf status) ⌝ }
+{
+    match query {
+        Query::Completed => 1,
+        Query::Stored(register) => status.register(register) as u32,
+        Query::Condition => status.operation.condition as u32,
+        Query::OperationEvents => status.operation.event as u32,
+        _ => 0,
     }
 }
 
@@ -71,13 +84,9 @@ pub(crate) fn write_query(
 {
     match query {
         Query::Identity => answer::write_text(b"COURSE,BENCH24,0,4.00", tail),
-        Query::SelfTest => answer::write_text(b"0", tail),
-        Query::Completed => answer::write_text(b"1", tail),
         Query::Limit { row, value } => write_value(words, row, value, tail),
         Query::Value(row) => write_value(words, row, settings.value(row), tail),
-        Query::Stored(register) => answer::write_decimal(status.register(register) as u32, tail),
-        Query::Condition => answer::write_decimal(status.operation.condition as u32, tail),
-        Query::OperationEvents => answer::write_decimal(status.operation.event as u32, tail),
+        _ => answer::write_decimal(number_asked(status, query), tail),
     }
 }
 

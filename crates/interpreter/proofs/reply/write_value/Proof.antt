@@ -1,6 +1,8 @@
+use mathlib.Core.Path.{refl}
 use borrow.Author.Needs.{needs}
 use Rattle.registers.specs.Settings.{kindOf}
-use Rattle.interpreter.proofs.reply.Values.{laid-value}
+use Rattle.interpreter.specs.Parameter.{wordsOf}
+use Rattle.interpreter.proofs.reply.Values.{laid-value, whole-or-bool}
 use Rattle.interpreter.proofs.reply.write_value.Statement.{statement}
 use Rattle.interpreter.proofs.reply.write_value.Tie as tie
 
@@ -19,17 +21,8 @@ enum-told-2 c = search needs
 write-tenths-requires : tie.Need-write-tenths-requires
 write-tenths-requires c κs = search needs
 
-enum-told-3 : tie.Need-enum-told-3
-enum-told-3 c = search needs
-
 write-whole-requires : tie.Need-write-whole-requires
 write-whole-requires c κs = search needs
-
-enum-told-4 : tie.Need-enum-told-4
-enum-told-4 c = search needs
-
-write-whole-requires-2 : tie.Need-write-whole-requires-2
-write-whole-requires-2 c κs = search needs
 
 same-length : tie.Need-same-length
 same-length c = search needs
@@ -57,19 +50,10 @@ same-length-3 c = search needs
 returns-3 : tie.Need-returns-3
 returns-3 c =
     let m = c .before .before .before .before in
-    let s = m .before .before .before .before .before in
-    laid-value (kindOf (s .args .row)) (s .fits .value) (m .before .before .values-of .ensures) (m .enum-told3 .given .1)
-    (c .before .before .write-whole .ensures)
-
-same-length-4 : tie.Need-same-length-4
-same-length-4 c = search needs
-
-returns-4 : tie.Need-returns-4
-returns-4 c =
-    let m = c .before .before .before .before in
-    let s = m .before .before .before .before .before in
-    laid-value (kindOf (s .args .row)) (s .fits .value) (m .before .before .values-of .ensures) (m .enum-told4 .given .1)
-    (c .before .before .write-whole2 .ensures)
+    let s = m .before .before .before .before in
+    let told = m .before .values-of in
+    laid-value (kindOf (s .args .row)) (s .fits .value) (told .ensures) refl
+    (rw (whole-or-bool (told .result) (m .match .keys3) (wordsOf (kindOf (s .args .row))) _) at (c .before .before .write-whole .ensures))
 
 pub write-value-spec : {M : Type 1} → statement M
 write-value-spec =
@@ -80,15 +64,10 @@ write-value-spec =
     write-place-requires
     enum-told-2
     write-tenths-requires
-    enum-told-3
     write-whole-requires
-    enum-told-4
-    write-whole-requires-2
     same-length
     returns
     same-length-2
     returns-2
     same-length-3
-    returns-3
-    same-length-4
-    returns-4)
+    returns-3)
