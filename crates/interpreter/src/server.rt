@@ -1,5 +1,4 @@
 // A chunk of input served for a program: fed line by line, each answer taken behind the one before.
-use crate::perform::Present;
 use crate::state;
 use crate::state::ANSWER;
 use crate::state::Flow;
@@ -89,11 +88,7 @@ fn lines(
 pub fn serve(state: State, input: &[u8], output: &mut [u8]) -> Served
     ensures { λ r. ⌜ Serves state (now (input .entry)) (now (output .entry)) (numberOf (r .outcome)) (r .read) (r .written) (r .state) (now (output .exit)) ⌝ }
 {
-    let settings = state.settings;
-    let status = state.status;
-    let mut line = state.line;
-    let mut answer = state.answer;
-    if !state::possible(settings, status, state.filled, state.waiting) {
+    if !state.possible() {
         return Served {
             outcome: Outcome::ImpossibleState,
             read: 0,
@@ -101,42 +96,22 @@ pub fn serve(state: State, input: &[u8], output: &mut [u8]) -> Served
             state,
         };
     }
-    let rows = tables::rows();
-    let words = tables::words();
-    let mut path = [0u8; LINE];
-    let start = Flow {
-        present: Present { settings, status },
-        filled: state.filled,
-        overlong: state.overlong,
-        waiting: state.waiting,
-        count: 0,
-    };
+    let mut line = state.line;
+    let mut answer = state.answer;
     let done = lines(
-        &rows,
-        &words,
-        start,
-        &mut path,
+        &tables::rows(),
+        &tables::words(),
+        state::flow_of(state),
+        &mut [0u8; LINE],
         &mut line,
         &mut answer,
         input,
         output,
     );
-    let flow = done.flow;
-    let present = flow.present;
-    let next = present.settings;
-    let after = present.status;
     Served {
         outcome: Outcome::Done,
         read: done.read,
         written: done.written,
-        state: State {
-            settings: next,
-            status: after,
-            line,
-            filled: flow.filled,
-            overlong: flow.overlong,
-            answer,
-            waiting: flow.waiting,
-        },
+        state: state::state_of(done.flow, line, answer),
     }
 }

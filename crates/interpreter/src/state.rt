@@ -16,7 +16,7 @@ ghost use Rattle.interpreter.specs.Box.{mostLine, mostAnswer};
 ghost use Rattle.interpreter.specs.RowsParts.{rowTable, wordTable};
 ghost use Rattle.interpreter.specs.Events.{received, take, condition, look, result};
 ghost use Rattle.interpreter.specs.Line.{newlines};
-ghost use Rattle.interpreter.specs.State.{numberOf, possibleParts, Happens, Started, FlowFits, firstLine, FlowFed};
+ghost use Rattle.interpreter.specs.State.{numberOf, Happens, Started, Tested, flowOf, stateOf, FlowFits, firstLine, FlowFed};
 
 // The room of a line before its newline, and of an answer with its newline.
 pub const LINE: usize = 512;
@@ -95,15 +95,6 @@ impl Outcome {
             Outcome::ImpossibleState => 4,
         }
     }
-}
-
-// Refusal 4 on a state's parts.
-pub(crate) fn possible(settings: Settings, status: Status, filled: usize, waiting: usize) -> bool
-    ensures { λ r. ⌜ r ≡ possibleParts settings status filled waiting ⌝ }
-{
-    let s = settings.possible();
-    let t = status.possible();
-    s & t & (filled <= LINE) & (waiting <= ANSWER)
 }
 
 // The smaller of two numbers.
@@ -231,7 +222,51 @@ pub(crate) fn feed(
     flow
 }
 
+// The small part of a state, with no newline counted yet.
+pub(crate) fn flow_of(state: State) -> Flow
+    ensures { λ r. ⌜ r ≡ flowOf state ⌝ }
+{
+    let settings = state.settings;
+    let status = state.status;
+    Flow {
+        present: Present { settings, status },
+        filled: state.filled,
+        overlong: state.overlong,
+        waiting: state.waiting,
+        count: 0,
+    }
+}
+
+// The state whose small part and arrays these are.
+pub(crate) fn state_of(flow: Flow, line: [u8; LINE], answer: [u8; ANSWER]) -> State
+    ensures { λ r. ⌜ r ≡ stateOf flow line answer ⌝ }
+{
+    let present = flow.present;
+    let settings = present.settings;
+    let status = present.status;
+    State {
+        settings,
+        status,
+        line,
+        filled: flow.filled,
+        overlong: flow.overlong,
+        answer,
+        waiting: flow.waiting,
+    }
+}
+
 impl State {
+    // Refusal 4.
+    pub(crate) fn possible(self) -> bool
+        ensures { λ r. ⌜ Tested self r ⌝ }
+    {
+        let settings = self.settings;
+        let status = self.status;
+        let s = settings.possible();
+        let t = status.possible();
+        s & t & (self.filled <= LINE) & (self.waiting <= ANSWER)
+    }
+
     // The first state.
     pub fn power_up() -> State
         ensures { λ r. ⌜ Started r ⌝ }
@@ -253,51 +288,28 @@ impl State {
     pub fn piece(self, bytes: &[u8]) -> Fed
         ensures { λ r. ⌜ Happens self (received (now (bytes .entry))) (result (numberOf (r .outcome)) (r .count) []) (r .state) ⌝ }
     {
-        let settings = self.settings;
-        let status = self.status;
-        let mut line = self.line;
-        let mut answer = self.answer;
-        if !possible(settings, status, self.filled, self.waiting) {
+        if !self.possible() {
             return Fed {
                 outcome: Outcome::ImpossibleState,
                 count: 0,
                 state: self,
             };
         }
-        let rows = tables::rows();
-        let words = tables::words();
-        let mut path = [0u8; LINE];
-        let start = Flow {
-            present: Present { settings, status },
-            filled: self.filled,
-            overlong: self.overlong,
-            waiting: self.waiting,
-            count: 0,
-        };
+        let mut line = self.line;
+        let mut answer = self.answer;
         let flow = feed(
-            &rows,
-            &words,
-            start,
-            &mut path,
+            &tables::rows(),
+            &tables::words(),
+            flow_of(self),
+            &mut [0u8; LINE],
             &mut line,
             &mut answer,
             bytes,
         );
-        let present = flow.present;
-        let next = present.settings;
-        let after = present.status;
         Fed {
             outcome: Outcome::Done,
             count: flow.count,
-            state: State {
-                settings: next,
-                status: after,
-                line,
-                filled: flow.filled,
-                overlong: flow.overlong,
-                answer,
-                waiting: flow.waiting,
-            },
+            state: state_of(flow, line, answer),
         }
     }
 
@@ -305,17 +317,16 @@ impl State {
     pub fn take(mut self, buffer: &mut [u8]) -> Taken
         ensures { λ r. ⌜ Happens self (take (now (buffer .entry))) (result (numberOf (r .outcome)) (r .length) (now (buffer .exit))) (r .state) ⌝ }
     {
-        let settings = self.settings;
-        let status = self.status;
-        let waiting = self.waiting;
-        if !possible(settings, status, self.filled, waiting) {
+        if !self.possible() {
             return Taken {
                 outcome: Outcome::ImpossibleState,
                 length: 0,
                 state: self,
             };
         }
+        let waiting = self.waiting;
         if waiting == 0 {
+            let status = self.status;
             let next = status.raise(Error::QueryUnterminated);
             self.status = next;
             return Taken {
@@ -345,9 +356,7 @@ impl State {
     pub fn condition(mut self, value: u16) -> Reported
         ensures { λ r. ⌜ Happens self (condition value) (result (numberOf (r .outcome)) 0 []) (r .state) ⌝ }
     {
-        let settings = self.settings;
-        let status = self.status;
-        if !possible(settings, status, self.filled, self.waiting) {
+        if !self.possible() {
             return Reported {
                 outcome: Outcome::ImpossibleState,
                 state: self,
@@ -359,6 +368,7 @@ impl State {
                 state: self,
             };
         }
+        let status = self.status;
         let next = status.report(value);
         self.status = next;
         Reported {
@@ -371,16 +381,14 @@ impl State {
     pub fn look(self) -> Seen
         ensures { λ r. ⌜ Happens self look (result (numberOf (r .outcome)) (r .byte) []) self ⌝ }
     {
-        let settings = self.settings;
-        let status = self.status;
-        let waiting = self.waiting;
-        if !possible(settings, status, self.filled, waiting) {
+        if !self.possible() {
             return Seen {
                 outcome: Outcome::ImpossibleState,
                 byte: 0,
             };
         }
-        let byte = status.status_byte(waiting != 0);
+        let status = self.status;
+        let byte = status.status_byte(self.waiting != 0);
         Seen {
             outcome: Outcome::Done,
             byte,

@@ -1,21 +1,19 @@
 -- A chunk on a state: refused, or served, and then what could be the box's is left so.
 use mathlib.Core.Path.{_≡_, refl, sym, _∙_, ap}
-use mathlib.Core.Bool.{true, false, false≢true}
+use mathlib.Core.Bool.{Bool, true, false, not, false≢true}
 use mathlib.Core.List.{List, [], _∷_}
 use lib.Dec.{leb}
 use lib.ListN.{length}
 use Rattle.registers.specs.Text.{Text, empty}
-use Rattle.registers.specs.Settings.{count}
 use Rattle.interpreter.specs.Box.{mostAnswer}
 use Rattle.interpreter.specs.Events.{happens, received, take as takes}
-use Rattle.interpreter.specs.State.{boxOf, possibleState, flowBox}
+use Rattle.interpreter.specs.State.{boxOf, Tested, flowOf, stateOf}
 use Rattle.interpreter.specs.Server.{linesOf, Service, service, servedLine, serves, Serves, FlowServed}
 use Rattle.interpreter.specs.declared.state.State.{State}
-use Rattle.interpreter.specs.declared.state.Flow.{Flow}
 use Rattle.interpreter.specs.declared.server.Progress.{Progress}
 use Rattle.interpreter.proofs.Choices.{if-elim}
 use Rattle.interpreter.proofs.Possible.{Fit, event-fit, fit-from, fit-to}
-use Rattle.interpreter.proofs.state.Records.{Short, box-from, state-from}
+use Rattle.interpreter.proofs.state.Records.{box-from, state-from, could, could-not, short-of}
 
 line-fits : (s : Service) (l : Text) → Fit mostAnswer (s .box) → Fit mostAnswer (servedLine s l .box)
 unfolding servedLine
@@ -31,19 +29,20 @@ serves-fit s (l ∷ ls) f =
     if-elim (λ (v : Service). Fit mostAnswer (v .box)) (leb mostAnswer (length (s .rest)))
     (λ _. serves-fit (servedLine s l) ls (line-fits s l f)) (λ _. f)
 
-module _ (s : State) (input output : Text) where
-  pub refused-chunk : possibleState s ≡ false → Serves s input output 4 0 0 s output
-  refused-chunk n = record { possible = λ p. absurd (false≢true (sym n ∙ p)); impossible = λ _. (refl, refl, refl, refl, refl) }
+module _ (s : State) (t : Bool) (w : Tested s t) (input output : Text) where
+  pub refused-chunk : not t ≡ true → Serves s input output 4 0 0 s output
+  refused-chunk h =
+      record { possible = λ p. absurd (false≢true (sym (could-not s t w h) ∙ p)); impossible = λ _. (refl, refl, refl, refl, refl) }
 
-  pub served-chunk : length (s .settings .values) ≡ count → possibleState s ≡ true
-      → (f : Flow) (r : Progress) (lines left outputs : Text) → flowBox f (s .line) (s .answer) ≡ boxOf s
-      → FlowServed f (s .line) (s .answer) input output r lines left outputs
-      → (t : State) → Short t → flowBox (r .flow) lines left ≡ boxOf t → Serves s input output 0 (r .read) (r .written) t outputs
-  served-chunk long p f r lines left outputs begun w t short is =
-      let all = rw (is, begun) at (w .service) in
-      let still = serves-fit (service (boxOf s) 0 [] output) (linesOf input) (fit-from (boxOf s) long (box-from s p)) in
-      let box : boxOf t ≡ serves (service (boxOf s) 0 [] output) (linesOf input) .box = ap (λ (v : Service). v .box) all in
+  pub served-chunk : not t ≡ false → (r : Progress) (lines left outputs : Text)
+      → FlowServed (flowOf s) (s .line) (s .answer) input output r lines left outputs
+      → Serves s input output 0 (r .read) (r .written) (stateOf (r .flow) lines left) outputs
+  served-chunk h r lines left outputs d =
+      let p = could s t w h in
+      let u = stateOf (r .flow) lines left in
+      let still = serves-fit (service (boxOf s) 0 [] output) (linesOf input) (fit-from (boxOf s) (w .values) (box-from s p)) in
+      let box : boxOf u ≡ serves (service (boxOf s) 0 [] output) (linesOf input) .box = ap (λ (v : Service). v .box) (d .service) in
       record {
-        possible = λ _. (state-from t short (rw (← box) at (fit-to _ still)), refl, w .within, all);
+        possible = λ _. (state-from u (short-of (r .flow) lines left (d .fits)) (rw (← box) at (fit-to _ still)), refl, d .within, d .service);
         impossible = λ n. absurd (false≢true (sym n ∙ p));
       }

@@ -1,6 +1,6 @@
 -- What each event leaves of the record, as the box that it means.
 use mathlib.Core.Path.{_≡_, refl, sym, _∙_}
-use mathlib.Core.Bool.{true, false, not, false≢true}
+use mathlib.Core.Bool.{Bool, true, false, not, false≢true}
 use mathlib.Core.List.{[], _++_}
 use Prim.Native.Nat.{ℕ, _≤_, _<_}
 use native.Mathlib.Omega.{arith}
@@ -18,25 +18,24 @@ use Rattle.registers.proofs.status.Means.{raised-trouble, raised-registers}
 use Rattle.interpreter.specs.Box.{box}
 use Rattle.interpreter.specs.Line.{newlines}
 use Rattle.interpreter.specs.Events.{Event, received, take as takes, condition, look, Result, result, happened, happens, taken, reported, lent}
-use Rattle.interpreter.specs.State.{boxOf, possibleParts, possibleState, Happens, flowBox, FlowFed}
+use Rattle.interpreter.specs.State.{boxOf, possibleParts, Happens, Tested, flowOf, stateOf, FlowFed}
 use Rattle.interpreter.specs.declared.state.State.{State}
 use Rattle.interpreter.specs.declared.state.Flow.{Flow}
 use Rattle.interpreter.proofs.line.Laws.{waits}
-use Rattle.interpreter.proofs.state.Records.{Short, short-from, happens-so}
+use Rattle.interpreter.proofs.state.Records.{Short, short-from, could, could-not, happens-so}
 
--- ---- a state that couldn't be the box's is handed back
+module _ (s : State) (e : Event) (t : Bool) (w : Tested s t) where
+  -- a state that couldn't be the box's is handed back
+  pub refused-4 : not t ≡ true → Happens s e (result 4 0 (lent e)) s
+  refused-4 h = record { possible = λ p. absurd (false≢true (sym (could-not s t w h) ∙ p)); impossible = λ _. (refl, refl) }
 
-pub refused-4 : (s : State) (e : Event) → possibleState s ≡ false → Happens s e (result 4 0 (lent e)) s
-refused-4 s e h = record { possible = λ p. absurd (false≢true (sym h ∙ p)); impossible = λ _. (refl, refl) }
-
--- a state that could be
-pub happens-on : (s : State) (e : Event) (r : Result) (t : State) → length (s .settings .values) ≡ count → possibleState s ≡ true
-    → (Short s → Short t) → happened r (boxOf t) ≡ happens (boxOf s) e → Happens s e r t
-happens-on s e r t long p w h =
-    record {
-      possible = happens-so s e r t long (λ _. (w (short-from s p), h));
-      impossible = λ n. absurd (false≢true (sym n ∙ p));
-    }
+  pub happens-on : not t ≡ false → (r : Result) (u : State) → (Short s → Short u) → happened r (boxOf u) ≡ happens (boxOf s) e → Happens s e r u
+  happens-on h r u k is =
+      let p = could s t w h in
+      record {
+        possible = happens-so s e r u (w .values) (λ _. (k (short-from s p), is));
+        impossible = λ n. absurd (false≢true (sym n ∙ p));
+      }
 
 -- ---- other status in the same record
 
@@ -101,8 +100,7 @@ start-possible = rw reset-possible
 
 -- ---- a piece
 
-pub piece-on : (s : State) (bytes : Text) (f r : Flow) (lines left : Text) → flowBox f (s .line) (s .answer) ≡ boxOf s → f .count ≡ 0
-    → FlowFed f (s .line) (s .answer) bytes r lines left
-    → happened (result 0 (r .count) []) (flowBox r lines left) ≡ happens (boxOf s) (received bytes)
+pub piece-on : (s : State) (bytes : Text) (r : Flow) (lines left : Text) → FlowFed (flowOf s) (s .line) (s .answer) bytes r lines left
+    → happened (result 0 (r .count) []) (boxOf (stateOf r lines left)) ≡ happens (boxOf s) (received bytes)
 unfolding happens
-piece-on s bytes f r lines left e z w = let n : r .count ≡ newlines bytes = let c = w .count in omega arith in rw (n, w .box, e)
+piece-on s bytes r lines left w = let n : r .count ≡ newlines bytes = let c = w .count in omega arith in rw (n, w .box)

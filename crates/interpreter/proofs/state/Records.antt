@@ -1,19 +1,21 @@
 -- Refusal 4 on the record against refusal 4 on the box that it means: the same, beside the record's own three lengths.
 use mathlib.Core.Path.{_≡_}
-use mathlib.Core.Bool.{true}
+use mathlib.Core.Bool.{Bool, true, false, not}
 use mathlib.Core.List.{List}
 use Prim.Native.Nat.{ℕ, _≤_}
 use native.Mathlib.Omega.{arith}
 use lib.Dec.{leb}
 use lib.ListN.{length, take, length-take}
-use borrow.Author.Tests.{leb-true, le-leb}
+use borrow.Author.Tests.{leb-true, le-leb, not-true, not-false}
+use Rattle.registers.specs.Text.{Text}
 use Rattle.registers.specs.Settings.{possibleSettings, count}
 use Rattle.registers.specs.Status.{registersOf, troubleOf, possibleStatus, possibleRegisters, possibleTrouble, most}
 use Rattle.registers.proofs.Tests.{and-both}
 use Rattle.interpreter.specs.Box.{mostLine, mostAnswer}
 use Rattle.interpreter.specs.Events.{Event, possible, possibleCore, happened, Result, happens}
-use Rattle.interpreter.specs.State.{boxOf, possibleParts, possibleState}
+use Rattle.interpreter.specs.State.{boxOf, possibleParts, possibleState, Tested, flowOf, stateOf, FlowFits}
 use Rattle.interpreter.specs.declared.state.State.{State}
+use Rattle.interpreter.specs.declared.state.Flow.{Flow}
 use Rattle.interpreter.proofs.Possible.{still-possible}
 
 -- the record's own lengths
@@ -57,6 +59,21 @@ module _ (s : State) where
       let b = and-both (possibleSettings (s .settings)) _ (a .0) in
       let c = and-both (possibleRegisters (registersOf (s .status))) _ (b .1) in
       rw (b .0, c .0, a .1, le-leb (s .status .queued) most (w .queued), le-leb (s .filled) mostLine (w .filled), le-leb (s .waiting) mostAnswer (w .waiting))
+
+-- ---- what the test of refusal 4 tells, on the two ways on
+
+module _ (s : State) (r : Bool) (w : Tested s r) where
+  pub could-not : not r ≡ true → possibleState s ≡ false
+  could-not h = rw (← w .is) (not-true r h)
+
+  pub could : not r ≡ false → possibleState s ≡ true
+  could h = rw (← w .is) (not-false r h)
+
+  pub flow-fits : not r ≡ false → FlowFits (flowOf s)
+  flow-fits h = let k = short-from s (could h) in record { filled = k .filled; waiting = k .waiting; queued = k .queued }
+
+pub short-of : (f : Flow) (line answer : Text) → FlowFits f → Short (stateOf f line answer)
+short-of f line answer w = record { queued = w .queued; filled = w .filled; waiting = w .waiting }
 
 -- what an event says of its result, from what happened to the box and from the new record's lengths
 pub happens-so : (s : State) (e : Event) (r : Result) (t : State) → length (s .settings .values) ≡ count

@@ -1,5 +1,7 @@
 use native.Mathlib.Omega.{arith}
+use lib.ListN.{drop}
 use Rattle.registers.specs.Errors as errors
+use Rattle.interpreter.specs.State.{firstLine}
 use Rattle.interpreter.proofs.server.Laws.{line-served}
 use borrow.Author.Needs.{needs}
 use Rattle.interpreter.proofs.server.serve_line.Statement.{statement}
@@ -39,7 +41,7 @@ returns c =
     let p = c .before .before .before .before .before .before .before .before .before .before .before .before .before .before .before .before .before .before .before .before .before .before .before .pre in
     let fed = c .before .before .before .before .before .before .before .before .before .before .before .before .feed-line in
     let laid = c .before .before .paste in
-    line-served (a .done) (a .line .now) (a .out .now) _ (a .output .now) (fed .result .flow) _ _ (fed .ensures .0) (let k = fed .kept in let o = p .1 .0 .2 in omega arith) (p .1 .1 .3)
+    line-served (a .done) (a .line .now) (a .out .now) (firstLine (drop (a .done .read) (a .input .now))) (a .output .now) (fed .result .flow) _ _ (fed .ensures .0) (let k = fed .kept in let o = p .1 .0 .2 in omega arith) (p .1 .1 .3)
     (fed .result .next) (laid .result) _ (fed .ensures .1) (laid .ensures .0) (laid .ensures .1)
 
 pub serve-line-spec : {M : Type 1} → statement M

@@ -1,0 +1,27 @@
+use borrow.Author.Needs.{length-unmapped}
+use Rattle.interpreter.specs.State.{possibleParts}
+use borrow.Author.Needs.{needs}
+use Rattle.interpreter.proofs.state.State.possible.Statement.{statement}
+use Rattle.interpreter.proofs.state.State.possible.Tie as tie
+
+possible-requires : tie.Need-possible-requires
+possible-requires c κs = search needs
+
+possible-requires-2 : tie.Need-possible-requires-2
+possible-requires-2 c κs = search needs
+
+returns : tie.Need-returns
+unfolding possibleParts
+returns c =
+    let s = c .before .before .before .before .before .before .args .self in
+    let g = c .before .before .before .before .before .before .good .0 .1 .1 in
+    record {
+      is = rw (c .before .before .before .possible .ensures, c .before .before .possible2 .ensures);
+      values = length-unmapped _ (s .settings .values) 16 (g .0 .1 .1 .0 .1 .0 .1);
+      errors = length-unmapped _ (s .status .errors) 16 (g .1 .0 .1 .1 .1 .1 .1 .1 .1 .0 .1 .0 .1);
+      line = length-unmapped _ (s .line) 512 (g .1 .1 .0 .1 .0 .1);
+      answer = length-unmapped _ (s .answer) 1024 (g .1 .1 .1 .1 .1 .0 .1 .0 .1);
+    }
+
+pub possible-spec : {M : Type 1} → statement M
+possible-spec = tie.close (tie.spec possible-requires possible-requires-2 returns)
