@@ -11,17 +11,17 @@ use Rattle.registers.specs.Check.{refused, passed}
 use Rattle.registers.specs.Answer.{decimal}
 use Rattle.registers.specs.Errors.{numberOf, errorText}
 use Rattle.registers.specs.Settings.{kindOf, wordText}
-use Rattle.registers.specs.Status.{Registers, registersOf, troubleOf, raisedIn, registerIn, statusByte}
+use Rattle.registers.specs.Status.{Registers, registersOf, troubleOf, noTrouble, completed, raisedIn, registerIn, statusByte}
 use Rattle.registers.specs.declared.error.Error.{Error}
 use Rattle.registers.specs.declared.error.Error.the-variants.{QueryDeadlocked}
 use Rattle.registers.specs.declared.settings.Settings.{Settings}
 use Rattle.registers.specs.declared.status.Status.{Status}
 use Rattle.interpreter.specs.Parameter.{wordsOf}
 use Rattle.interpreter.specs.Box.{Core, Box, box, mostAnswer}
-use Rattle.interpreter.specs.Deeds.{changed, afterQuery, afterInquiry, perform}
+use Rattle.interpreter.specs.Deeds.{changed, replyTo, operationCleared, afterQuery, afterInquiry, perform}
 use Rattle.interpreter.specs.Line.{refuse}
 use Rattle.interpreter.specs.declared.deed.Deed.{Deed}
-use Rattle.interpreter.specs.declared.deed.Change as changes
+use Rattle.interpreter.specs.declared.deed.Deed.the-variants.{Change, Complete, Clear, Query, Inquire}
 use Rattle.interpreter.specs.declared.deed.Query as queries
 use Rattle.interpreter.specs.declared.deed.Query.the-variants.{Identity, SelfTest, Completed, Limit, Value, Stored, Condition, OperationEvents}
 use Rattle.interpreter.specs.declared.deed.Inquiry as inquiries
@@ -62,6 +62,14 @@ inquiryText StandardEvents s answers = decimal (s .events)
 inquiryText StatusByte s answers = decimal (statusByte (registersOf s) (troubleOf s) answers)
 inquiryText NextError s answers = errorText (first (troubleOf s .queue))
 
+-- the answer of a deed that has one
+abbrev pub answerText : Deed → Settings → Status → Bool → Text
+answerText (Change x) s t answers = []
+answerText Complete s t answers = []
+answerText Clear s t answers = []
+answerText (Query q) s t answers = replyTo q (coreIn s t)
+answerText (Inquire q) s t answers = inquiryText q t answers
+
 -- ---- what each function leaves
 
 unfoldable pub raisedWith : Error → Present → Present
@@ -76,17 +84,17 @@ startOf n = if eqb n 0 then 0 else n + 1
 unfoldable pub separated : ℕ → Text → Text
 separated n out = if eqb n 0 then out else set out n 59
 
-pub record ChangedTo (x : changes.Change) (p r : Present) : Type 0 where
-  pub is : (a : Text) → boxIn r a ≡ box (changed x (boxIn p a .core)) (boxIn p a .trouble)
-  pub queued : r .status .queued ≡ p .status .queued
+-- what a deed leaves of the box, but for its answer
+abbrev pub leftBy : Deed → Box → Box
+leftBy (Change x) b = box (changed x (b .core)) (b .trouble)
+leftBy Complete b = box (b .core) (completed (b .trouble))
+leftBy Clear b = box (operationCleared (b .core)) noTrouble
+leftBy (Query q) b = box (afterQuery q (b .core)) (b .trouble)
+leftBy (Inquire q) b = box (b .core) (afterInquiry q (b .trouble))
 
-pub record QueriedTo (q : queries.Query) (p r : Present) : Type 0 where
-  pub is : (a : Text) → boxIn r a ≡ box (afterQuery q (boxIn p a .core)) (boxIn p a .trouble)
-  pub queued : r .status .queued ≡ p .status .queued
-
-pub record InquiredTo (q : inquiries.Inquiry) (p r : Present) : Type 0 where
-  pub is : (a : Text) → boxIn r a ≡ box (boxIn p a .core) (afterInquiry q (boxIn p a .trouble))
-  pub queued : r .status .queued ≤ 16
+pub record LeftTo (d : Deed) (p r : Present) : Type 0 where
+  pub is : (a : Text) → boxIn r a ≡ leftBy d (boxIn p a)
+  pub queued : p .status .queued ≤ 16 → r .status .queued ≤ 16
 
 -- check 9 on an answer of n bytes behind those that stand in out: q is what is left if it is given, p what there was before
 pub record SettledTo (p q : Present) (answered n : ℕ) (out : Text) (r : Performed) (left : Text) : Type 0 where

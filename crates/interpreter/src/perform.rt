@@ -13,8 +13,8 @@ ghost use Prim.Native.Nat.{_≤_, _<_};
 ghost use lib.ListN.{length};
 ghost use Rattle.interpreter.specs.Box.{mostAnswer};
 ghost use Rattle.interpreter.specs.RowsParts.{wordTable};
-ghost use Rattle.interpreter.specs.DeedsParts.{raisedWith, droppedWith, startOf, separated, ChangedTo, QueriedTo, InquiredTo, SettledTo, PerformedIn};
-ghost use Rattle.interpreter.specs.UnitParts.{Allowed, AllowedChange, AllowedQuery};
+ghost use Rattle.interpreter.specs.DeedsParts.{raisedWith, droppedWith, startOf, separated, LeftTo, SettledTo, PerformedIn};
+ghost use Rattle.interpreter.specs.UnitParts.{Allowed, AllowedChange};
 
 // What the units of a line change. It is small and goes by value; the arrays are lent beside it.
 pub(crate) struct Present {
@@ -29,49 +29,11 @@ pub(crate) struct Performed {
     pub(crate) obeyed: bool,
 }
 
-// An error is raised.
-pub(crate) fn raise(present: Present, error: Error) -> Present
-    ensures { λ r. ⌜ r ≡ raisedWith error present ⌝ }
+fn with_settings(present: Present, settings: Settings) -> Present
+    ensures { λ r. ⌜ r ≡ record { settings = settings; status = present .status } ⌝ }
 {
-    let settings = present.settings;
     let status = present.status;
-    let next = status.raise(error);
-    Present {
-        settings,
-        status: next,
-    }
-}
-
-fn change(present: Present, change: Change) -> Present
-    requires { ⌜ AllowedChange (present .settings) change ⌝ }
-    ensures { λ r. ⌜ ChangedTo change present r ⌝ }
-{
-    let settings = present.settings;
-    let status = present.status;
-    match change {
-        Change::Nothing => present,
-        Change::Put { row, value } => {
-            let next = settings.store(row, value);
-            Present {
-                settings: next,
-                status,
-            }
-        }
-        Change::Reset => {
-            let next = Settings::reset();
-            Present {
-                settings: next,
-                status,
-            }
-        }
-        Change::Store { register, value } => {
-            let next = status.store(register, value);
-            Present {
-                settings,
-                status: next,
-            }
-        }
-    }
+    Present { settings, status }
 }
 
 fn with_status(present: Present, status: Status) -> Present
@@ -81,9 +43,31 @@ fn with_status(present: Present, status: Status) -> Present
     Present { settings, status }
 }
 
+// An error is raised.
+pub(crate) fn raise(present: Present, error: Error) -> Present
+    ensures { λ r. ⌜ r ≡ raisedWith error present ⌝ }
+{
+    let status = present.status;
+    with_status(present, status.raise(error))
+}
+
+fn change(present: Present, change: Change) -> Present
+    requires { ⌜ AllowedChange (present .settings) change ⌝ }
+    ensures { λ r. ⌜ LeftTo (Deed.Change change) present r ⌝ }
+{
+    let settings = present.settings;
+    let status = present.status;
+    match change {
+        Change::Nothing => present,
+        Change::Put { row, value } => with_settings(present, settings.store(row, value)),
+        Change::Reset => with_settings(present, Settings::reset()),
+        Change::Store { register, value } => with_status(present, status.store(register, value)),
+    }
+}
+
 // Reading the operation event register clears it.
 fn after_query(present: Present, query: Query) -> Present
-    ensures { λ r. ⌜ QueriedTo query present r ⌝ }
+    ensures { λ r. ⌜ LeftTo (Deed.Query query) present r ⌝ }
 {
     let status = present.status;
     match query {
@@ -95,13 +79,28 @@ fn after_query(present: Present, query: Query) -> Present
 // Reading the event status register clears it, and reading an error removes it.
 fn after_inquiry(present: Present, inquiry: Inquiry) -> Present
     requires { ⌜ present .status .queued ≤ 16 ⌝ }
-    ensures { λ r. ⌜ InquiredTo inquiry present r ⌝ }
+    ensures { λ r. ⌜ LeftTo (Deed.Inquire inquiry) present r ⌝ }
 {
     let status = present.status;
     match inquiry {
         Inquiry::StandardEvents => with_status(present, status.read_events()),
         Inquiry::StatusByte => present,
         Inquiry::NextError => with_status(present, status.read_oldest()),
+    }
+}
+
+// What a deed leaves of settings and status.
+fn after(present: Present, deed: Deed) -> Present
+    requires { ⌜ Allowed (present .settings) deed × (present .status .queued ≤ 16) ⌝ }
+    ensures { λ r. ⌜ LeftTo deed present r ⌝ }
+{
+    let status = present.status;
+    match deed {
+        Deed::Change(c) => change(present, c),
+        Deed::Complete => with_status(present, status.complete()),
+        Deed::Clear => with_status(present, status.clear()),
+        Deed::Query(q) => after_query(present, q),
+        Deed::Inquire(q) => after_inquiry(present, q),
     }
 }
 
@@ -156,41 +155,6 @@ fn settle(before: Present, after: Present, out: &mut [u8], answered: usize, n: u
     }
 }
 
-fn query(words: &[u8], present: Present, query: Query, out: &mut [u8], answered: usize) -> Performed
-    requires { ⌜ (now words ≡ wordTable) × AllowedQuery query ⌝ }
-    requires { ⌜ (answered < mostAnswer) × (length (now out) ≡ mostAnswer) × (present .status .queued ≤ 16) ⌝ }
-    ensures { λ r. ⌜ PerformedIn (Deed.Query query) present (now (out .entry)) answered r (now (out .exit)) ⌝ }
-{
-    let start = start_of(answered);
-    let n = reply::write_query(
-        words,
-        present.settings,
-        present.status,
-        query,
-        &mut out[start..],
-    );
-    settle(present, after_query(present, query), out, answered, n)
-}
-
-fn inquire(present: Present, inquiry: Inquiry, out: &mut [u8], answered: usize) -> Performed
-    requires { ⌜ (answered < mostAnswer) × (length (now out) ≡ mostAnswer) × (present .status .queued ≤ 16) ⌝ }
-    ensures { λ r. ⌜ PerformedIn (Deed.Inquire inquiry) present (now (out .entry)) answered r (now (out .exit)) ⌝ }
-{
-    let start = start_of(answered);
-    let n = reply::write_inquiry(present.status, answered != 0, inquiry, &mut out[start..]);
-    settle(present, after_inquiry(present, inquiry), out, answered, n)
-}
-
-fn obeyed(present: Present, answered: usize) -> Performed
-    ensures { λ r. ⌜ r ≡ record { present = present; answered = answered; obeyed = true } ⌝ }
-{
-    Performed {
-        present,
-        answered,
-        obeyed: true,
-    }
-}
-
 // Performs a deed behind what the line's earlier units answered.
 pub(crate) fn perform(
     words: &[u8],
@@ -203,12 +167,24 @@ pub(crate) fn perform(
     requires { ⌜ (answered < mostAnswer) × (length (now out) ≡ mostAnswer) × (present .status .queued ≤ 16) ⌝ }
     ensures { λ r. ⌜ PerformedIn deed present (now (out .entry)) answered r (now (out .exit)) ⌝ }
 {
-    let status = present.status;
+    let next = after(present, deed);
     match deed {
-        Deed::Change(c) => obeyed(change(present, c), answered),
-        Deed::Complete => obeyed(with_status(present, status.complete()), answered),
-        Deed::Clear => obeyed(with_status(present, status.clear()), answered),
-        Deed::Query(q) => query(words, present, q, out, answered),
-        Deed::Inquire(q) => inquire(present, q, out, answered),
+        Deed::Query(_) | Deed::Inquire(_) => {
+            let start = start_of(answered);
+            let n = reply::write_answer(
+                words,
+                present.settings,
+                present.status,
+                answered != 0,
+                deed,
+                &mut out[start..],
+            );
+            settle(present, next, out, answered, n)
+        }
+        _ => Performed {
+            present: next,
+            answered,
+            obeyed: true,
+        },
     }
 }

@@ -1,5 +1,6 @@
 // Answers: what each query writes into the tail that it is lent, behind what earlier units of the
 // line wrote.
+use crate::deed::Deed;
 use crate::deed::Inquiry;
 use crate::deed::Query;
 use crate::parameter;
@@ -16,8 +17,8 @@ ghost use Rattle.registers.specs.Settings.{kindOf, answerOf};
 ghost use Rattle.registers.specs.Status.{registersOf};
 ghost use Rattle.interpreter.specs.Deeds.{replyTo};
 ghost use Rattle.interpreter.specs.RowsParts.{wordTable, wordAt};
-ghost use Rattle.interpreter.specs.DeedsParts.{coreIn, placeText, numberAsked, inquiryText};
-ghost use Rattle.interpreter.specs.UnitParts.{AllowedQuery};
+ghost use Rattle.interpreter.specs.DeedsParts.{coreIn, placeText, numberAsked, inquiryText, answerText};
+ghost use Rattle.interpreter.specs.UnitParts.{Allowed, AllowedQuery};
 
 // A word in its short form.
 fn write_word(words: &[u8], word: usize, tail: &mut [u8]) -> usize
@@ -72,7 +73,7 @@ fn number_asked(status: Status, query: Query) -> u32
 }
 
 // The answer to a query that sees settings and registers alone.
-pub(crate) fn write_query(
+fn write_query(
     words: &[u8],
     settings: Settings,
     status: Status,
@@ -91,17 +92,31 @@ pub(crate) fn write_query(
 }
 
 // The answer to one that sees the event status register or the error queue.
-pub(crate) fn write_inquiry(
-    status: Status,
-    answers: bool,
-    inquiry: Inquiry,
-    tail: &mut [u8],
-) -> usize
+fn write_inquiry(status: Status, answers: bool, inquiry: Inquiry, tail: &mut [u8]) -> usize
     ensures { λ r. ⌜ Laid (inquiryText inquiry status answers) (now (tail .entry)) r (now (tail .exit)) ⌝ }
 {
     match inquiry {
         Inquiry::StandardEvents => answer::write_decimal(status.events as u32, tail),
         Inquiry::StatusByte => answer::write_decimal(status.status_byte(answers) as u32, tail),
         Inquiry::NextError => error::write_error(status.oldest(), tail),
+    }
+}
+
+// The answer of a deed that has one.
+pub(crate) fn write_answer(
+    words: &[u8],
+    settings: Settings,
+    status: Status,
+    answers: bool,
+    deed: Deed,
+    tail: &mut [u8],
+) -> usize
+    requires { ⌜ (now words ≡ wordTable) × Allowed settings deed ⌝ }
+    ensures { λ r. ⌜ Laid (answerText deed settings status answers) (now (tail .entry)) r (now (tail .exit)) ⌝ }
+{
+    match deed {
+        Deed::Query(query) => write_query(words, settings, status, query, tail),
+        Deed::Inquire(inquiry) => write_inquiry(status, answers, inquiry, tail),
+        _ => 0,
     }
 }

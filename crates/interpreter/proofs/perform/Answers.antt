@@ -14,10 +14,9 @@ use borrow.Rule.Slice.PartMut.{midOf, putMid}
 use Rattle.registers.specs.Text.{Text, if_then_else_}
 use Rattle.registers.specs.Check.{refused, passed, _>>=_, _>>_, check}
 use Rattle.registers.specs.Answer.{Laid}
-use Rattle.registers.specs.Status.{Trouble}
 use Rattle.registers.proofs.answer.Laws.{over-start, over-length}
 use Rattle.registers.proofs.status.Means.{raised-trouble, raised-registers, raised-queued}
-use Rattle.interpreter.specs.Box.{Core, box, withAnswer, mostAnswer}
+use Rattle.interpreter.specs.Box.{Core, Box, box, withAnswer, mostAnswer}
 use Rattle.interpreter.specs.Deeds.{joined, fitsAnswer, reply, perform}
 use Rattle.interpreter.specs.Line.{refuse}
 use Rattle.interpreter.specs.DeedsParts.{boxIn, startOf, separated, raisedWith, droppedWith, SettledTo, PerformedIn}
@@ -115,15 +114,15 @@ module _ (out : Text) {tail t : Text} {answered n : ℕ} (room : answered < most
       let long : length t ≤ length tail = rw (laid .bytes, over-length t lent) k in
       rw (laid .long) (stands out tail t (length out - startOf answered) starts long answered (omega arith))
 
--- A deed that answers with text t, after which the core is c but for its answer and the trouble is w, is performed by writing
--- t into that tail and settling it.
-module _ (c : Core) (w : Trouble) {d : Deed} {p q : Present} {out tail left t : Text} {answered n : ℕ} {r : Performed}
+-- A deed that answers with text t, and but for its answer leaves box b, is performed by writing t into that tail and settling it.
+module _ (b : Box) {d : Deed} {p q : Present} {out tail left t : Text} {answered n : ℕ} {r : Performed}
     (room : answered < mostAnswer) (size : length out ≡ mostAnswer)
     (full : length (p .status .errors) ≡ 16) (queue : p .status .queued ≤ 16) (queue′ : q .status .queued ≤ 16)
     (laid : Laid t (midOf (startOf answered) (length out - startOf answered) out) n tail)
     (settled : SettledTo p q answered n (putMid (startOf answered) (length out - startOf answered) out tail) r left)
-    (does : perform d (boxIn p (take answered out)) ≡ (reply t c >>= λ k. passed (box k w)))
-    (before : c .answer ≡ take answered out) (after : (a : Text) → boxIn q a ≡ box (withAnswer a c) w) where
+    (does : perform d (boxIn p (take answered out)) ≡ (reply t (b .core) >>= λ c. passed (box c (b .trouble))))
+    (before : b .core .answer ≡ take answered out)
+    (after : (a : Text) → boxIn q a ≡ box (withAnswer a (b .core)) (b .trouble)) where
   given : startOf answered + n < mostAnswer → PerformedIn d p out answered r left
   unfolding _>>=_
   given h =
@@ -134,7 +133,7 @@ module _ (c : Core) (w : Trouble) {d : Deed} {p q : Present} {out tail left t : 
       (record {
         queued = queue′;
         room = h;
-        done = λ _. rw (does, reply-given c t e, joined-is out room size laid h, before) (ap passed (sym (after all)));
+        done = λ _. rw (does, reply-given (b .core) t e, joined-is out room size laid h, before) (ap passed (sym (after all)));
         dropped = λ z. absurd (false≢true (sym z));
       })
 
@@ -147,7 +146,7 @@ module _ (c : Core) (w : Trouble) {d : Deed} {p q : Present} {out tail left t : 
         queued = raised-queued 430 (p .status) full queue;
         room = omega arith;
         done = λ z. absurd (false≢true z);
-        dropped = λ _. (rw (does, reply-refused c t e), dropped-box p (take answered out) full);
+        dropped = λ _. (rw (does, reply-refused (b .core) t e), dropped-box p (take answered out) full);
       })
 
   pub performed : PerformedIn d p out answered r left

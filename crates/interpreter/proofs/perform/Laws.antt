@@ -6,6 +6,8 @@ use Prim.Native.Nat.{ℕ, zero, suc, _≤_, _<_}
 use native.Mathlib.Omega.{arith}
 use lib.Dec.{eqb}
 use lib.ListN.{length, take}
+use types.Run.{OneOf, miss}
+use denote.Enum.Declared.{tagOf}
 use borrow.Author.Tests.{ne-eqb}
 use Rattle.registers.specs.Text.{Text, empty}
 use Rattle.registers.specs.Check.{passed, _>>=_}
@@ -13,22 +15,38 @@ use Rattle.registers.specs.Status.{troubleOf}
 use Rattle.registers.specs.declared.settings.Settings.{Settings}
 use Rattle.registers.specs.declared.status.Status.{Status}
 use Rattle.interpreter.specs.Box.{Core, box, withAnswer, mostAnswer}
-use Rattle.interpreter.specs.Deeds.{replyTo, afterQuery, inquiryReply, afterInquiry, reply, perform}
-use Rattle.interpreter.specs.DeedsParts.{coreIn, coreWith, boxIn, inquiryText, QueriedTo, PerformedIn}
+use Rattle.interpreter.specs.Deeds.{replyTo, afterQuery, inquiryReply, reply, perform}
+use Rattle.interpreter.specs.DeedsParts.{coreIn, coreWith, boxIn, inquiryText, answerText, leftBy, LeftTo, PerformedIn}
 use Rattle.interpreter.specs.declared.deed.Deed.{Deed}
-use Rattle.interpreter.specs.declared.deed.Deed.the-variants.{Query, Inquire}
+use Rattle.interpreter.specs.declared.deed.Deed.the-variants.{Change, Complete, Clear, Query, Inquire}
 use Rattle.interpreter.specs.declared.deed.Query as queries
 use Rattle.interpreter.specs.declared.deed.Query.the-variants.{Identity, SelfTest, Completed, Limit, Value, Stored, Condition, OperationEvents}
 use Rattle.interpreter.specs.declared.deed.Inquiry as inquiries
 use Rattle.interpreter.specs.declared.deed.Inquiry.the-variants.{StandardEvents, StatusByte, NextError}
 use Rattle.interpreter.specs.declared.perform.Present.{Present}
+use Rattle.interpreter.proofs.deed.Laws.{Silent, Answering}
+use Rattle.interpreter.proofs.deed.Query as asked
 
 -- ---- deeds that answer nothing
 
-pub unanswered : {d : Deed} {p q : Present} {out : Text} {answered : ℕ} → answered < mostAnswer → q .status .queued ≤ 16
-    → perform d (boxIn p (take answered out)) ≡ passed (boxIn q (take answered out))
-    → PerformedIn d p out answered (record { present = q; answered = answered; obeyed = true }) out
-unanswered h k e = record { queued = k; room = h; done = λ _. e; dropped = λ z. absurd (false≢true (sym z)) }
+silent-does : (d : Deed) → Silent d → (p : Present) (a : Text) → perform d (boxIn p a) ≡ passed (leftBy d (boxIn p a))
+unfolding perform
+silent-does (Change x) h p a = refl
+silent-does Complete h p a = refl
+silent-does Clear h p a = refl
+silent-does (Query q) h p a = absurd (miss (0 ∷ 1 ∷ 2 ∷ []) 3 tt h)
+silent-does (Inquire q) h p a = absurd (miss (0 ∷ 1 ∷ 2 ∷ []) 4 tt h)
+
+pub unanswered : {d : Deed} {p q : Present} {out : Text} {answered : ℕ} → Silent d → LeftTo d p q → answered < mostAnswer
+    → p .status .queued ≤ 16 → PerformedIn d p out answered (record { present = q; answered = answered; obeyed = true }) out
+unanswered {d} {p} {q} {out} {answered} h left room k =
+    let a = take answered out in
+    record {
+      queued = left .queued k;
+      room = room;
+      done = λ _. silent-does d h p a ∙ ap passed (sym (left .is a));
+      dropped = λ z. absurd (false≢true (sym z));
+    }
 
 -- ---- queries that see settings and registers alone
 
@@ -49,24 +67,13 @@ apart (Stored x) = record { unseen = λ s t a. refl; kept = λ c a. refl; quiet 
 apart Condition = record { unseen = λ s t a. refl; kept = λ c a. refl; quiet = λ _ c. refl }
 apart OperationEvents = record { unseen = λ s t a. refl; kept = λ c a. refl; quiet = λ ne c. absurd (ne refl) }
 
-pub quiet-after : (q : queries.Query) (p : Present) → (q ≡ OperationEvents → ⊥) → QueriedTo q p p
-quiet-after q p ne =
-    record { is = λ a. ap (λ (c : Core). box c (troubleOf (p .status))) (sym (apart q .quiet ne (boxIn p a .core))); queued = refl }
-
-pub query-answer : (q : queries.Query) (c : Core) → afterQuery q c .answer ≡ c .answer
-query-answer q c = sym (ap (λ (k : Core). k .answer) (apart q .kept c (c .answer)))
-
-pub query-does : (q : queries.Query) (p : Present) (a : Text)
-    → perform (Query q) (boxIn p a)
-    ≡ (reply (replyTo q (coreIn (p .settings) (p .status))) (afterQuery q (boxIn p a .core))
-    >>= λ c. passed (box c (troubleOf (p .status))))
-unfolding perform
-query-does q p a = rw (apart q .unseen (p .settings) (p .status) a)
-
-pub query-after : {q : queries.Query} {p r : Present} → QueriedTo q p r → (a b : Text)
-    → boxIn r b ≡ box (withAnswer b (afterQuery q (boxIn p a .core))) (troubleOf (p .status))
-query-after {q} {p} {r} d a b =
-    d .is b ∙ ap (λ (c : Core). box c (troubleOf (p .status))) (sym (apart q .kept (boxIn p a .core) b))
+pub quiet-after : (q : queries.Query) (p : Present) → OneOf (0 ∷ 1 ∷ 2 ∷ 3 ∷ 4 ∷ 5 ∷ 6 ∷ []) (tagOf asked.the-type q) → LeftTo (Query q) p p
+quiet-after q p h =
+    let ne : q ≡ OperationEvents → ⊥ = λ e. miss (0 ∷ 1 ∷ 2 ∷ 3 ∷ 4 ∷ 5 ∷ 6 ∷ []) 7 tt (rw e at h) in
+    record {
+      is = λ a. ap (λ (c : Core). box c (troubleOf (p .status))) (sym (apart q .quiet ne (boxIn p a .core)));
+      queued = λ k. k;
+    }
 
 -- ---- the three that see the trouble
 
@@ -82,9 +89,27 @@ some-answer out zero h = refl
 some-answer [] (suc n) h = absurd (omega arith)
 some-answer (x ∷ out) (suc n) h = sym (ne-eqb (suc n) 0 (λ e. omega arith))
 
-pub inquiry-does : (q : inquiries.Inquiry) (p : Present) (out : Text) (n : ℕ) → n < length out
-    → perform (Inquire q) (boxIn p (take n out))
-    ≡ (reply (inquiryText q (p .status) (not (eqb n 0))) (boxIn p (take n out) .core)
-    >>= λ c. passed (box c (afterInquiry q (troubleOf (p .status)))))
+-- ---- deeds that answer: check 9 on the answer, and what is left but for it
+
+pub record Answers (d : Deed) (p : Present) (out : Text) (n : ℕ) : Type 0 where
+  pub does : perform d (boxIn p (take n out))
+      ≡ (reply (answerText d (p .settings) (p .status) (not (eqb n 0))) (leftBy d (boxIn p (take n out)) .core)
+      >>= λ c. passed (box c (leftBy d (boxIn p (take n out)) .trouble)))
+  pub before : leftBy d (boxIn p (take n out)) .core .answer ≡ take n out
+  pub after : (a : Text) → leftBy d (boxIn p a) ≡ box (withAnswer a (leftBy d (boxIn p (take n out)) .core)) (leftBy d (boxIn p (take n out)) .trouble)
+
+pub answers-in : (d : Deed) → Answering d → (p : Present) (out : Text) (n : ℕ) → n < length out
+    → Answers d p out n
 unfolding perform
-inquiry-does q p out n h = rw (inquiry-same q p (take n out), some-answer out n h)
+answers-in (Change x) k p out n h = absurd (miss (3 ∷ 4 ∷ []) 0 tt k)
+answers-in Complete k p out n h = absurd (miss (3 ∷ 4 ∷ []) 1 tt k)
+answers-in Clear k p out n h = absurd (miss (3 ∷ 4 ∷ []) 2 tt k)
+answers-in (Query q) k p out n h =
+    let c = boxIn p (take n out) .core in
+    record {
+      does = rw (apart q .unseen (p .settings) (p .status) (take n out));
+      before = sym (ap (λ (x : Core). x .answer) (apart q .kept c (take n out)));
+      after = λ a. ap (λ (x : Core). box x (troubleOf (p .status))) (sym (apart q .kept c a));
+    }
+answers-in (Inquire q) k p out n h =
+    record { does = rw (inquiry-same q p (take n out), some-answer out n h); before = refl; after = λ a. refl }

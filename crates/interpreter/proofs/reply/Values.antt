@@ -21,10 +21,13 @@ use Rattle.registers.specs.declared.settings.Values.the-variants.{Bool as BoolV
 use Rattle.registers.specs.declared.status.Status.{Status}
 use Rattle.registers.proofs.settings.Values as values
 use Rattle.interpreter.specs.Deeds.{replyTo}
-use Rattle.interpreter.specs.DeedsParts.{coreIn, numberAsked}
+use Rattle.interpreter.specs.DeedsParts.{coreIn, numberAsked, answerText}
 use Rattle.interpreter.specs.Parameter.{wordsOf, limitWords}
+use Rattle.interpreter.specs.declared.deed.Deed.{Deed}
+use Rattle.interpreter.specs.declared.deed.Deed.the-variants.{Change, Complete, Clear, Query as Ask, Inquire}
 use Rattle.interpreter.specs.declared.deed.Query.{Query}
 use Rattle.interpreter.specs.declared.deed.Query.the-variants.{Identity, SelfTest, Completed, Limit, Value, Stored, Condition, OperationEvents}
+use Rattle.interpreter.proofs.deed.Laws.{Silent}
 use Rattle.interpreter.proofs.deed.Query as queries
 
 -- ---- a setting
@@ -83,3 +86,12 @@ no-number (Value i) h t = refl
 no-number (Stored x) h t = absurd (miss (0 ∷ 1 ∷ 3 ∷ 4 ∷ []) 5 tt h)
 no-number Condition h t = absurd (miss (0 ∷ 1 ∷ 3 ∷ 4 ∷ []) 6 tt h)
 no-number OperationEvents h t = absurd (miss (0 ∷ 1 ∷ 3 ∷ 4 ∷ []) 7 tt h)
+
+-- ---- a deed without an answer
+
+pub no-answer : (d : Deed) → Silent d → (s : Settings) (t : Status) (answers : Bool) → answerText d s t answers ≡ []
+no-answer (Change x) h s t answers = refl
+no-answer Complete h s t answers = refl
+no-answer Clear h s t answers = refl
+no-answer (Ask q) h s t answers = absurd (miss (0 ∷ 1 ∷ 2 ∷ []) 3 tt h)
+no-answer (Inquire q) h s t answers = absurd (miss (0 ∷ 1 ∷ 2 ∷ []) 4 tt h)

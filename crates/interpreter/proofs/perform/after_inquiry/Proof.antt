@@ -33,14 +33,11 @@ with-status-requires-2 c κs = search needs
 returns : tie.Need-returns
 unfolding eventsIn eventsRead
 returns c =
-    let s = c .before .before .before .before .before in
     rw (c .before .before .enum-told .given .1, c .with-status .ensures, c .before .read-events .ensures)
-    (record { is = λ a. refl; queued = s .pre })
+    (record { is = λ a. refl; queued = λ k. k })
 
 returns-2 : tie.Need-returns-2
-returns-2 c =
-    let s = c .before .before .before in
-    rw (c .enum-told2 .given .1) (record { is = λ a. refl; queued = s .pre })
+returns-2 c = rw (c .enum-told2 .given .1) (record { is = λ a. refl; queued = λ k. k })
 
 returns-3 : tie.Need-returns-3
 returns-3 c =
@@ -49,7 +46,7 @@ returns-3 c =
     rw (c .before .before .enum-told3 .given .1, c .with-status2 .ensures, c .before .read-oldest .ensures)
     (record {
       is = λ a. rw (oldest-registers t (long-at s) (s .pre), oldest-trouble t (long-at s) (s .pre));
-      queued = oldest-queued t (long-at s) (s .pre);
+      queued = λ _. oldest-queued t (long-at s) (s .pre);
     })
 
 pub after-inquiry-spec : {M : Type 1} → statement M

@@ -1,6 +1,4 @@
 use mathlib.Core.Path.{refl}
-use mathlib.Core.List.{[], _∷_}
-use types.Run.{miss}
 use borrow.Author.Needs.{needs}
 use Rattle.interpreter.proofs.perform.Laws.{quiet-after}
 use Rattle.interpreter.proofs.perform.after_query.Statement.{statement}
@@ -16,15 +14,10 @@ with-status-requires : tie.Need-with-status-requires
 with-status-requires c κs = search needs
 
 returns : tie.Need-returns
-returns c =
-    let m = c .before .before in
-    rw (m .enum-told .given .1, c .with-status .ensures, c .before .read-operation .ensures) (record { is = λ a. refl; queued = refl })
+returns c = rw (c .before .before .enum-told .given .1, c .with-status .ensures, c .before .read-operation .ensures) (record { is = λ a. refl; queued = λ k. k })
 
 returns-2 : tie.Need-returns-2
-returns-2 c =
-    let s = c .before .before in
-    quiet-after (s .args .query) (s .args .present)
-    (λ e. miss (0 ∷ 1 ∷ 2 ∷ 3 ∷ 4 ∷ 5 ∷ 6 ∷ []) 7 tt (rw e at (c .match .keys2)))
+returns-2 c = quiet-after (c .before .before .args .query) (c .before .before .args .present) (c .match .keys2)
 
 pub after-query-spec : {M : Type 1} → statement M
 after-query-spec =
