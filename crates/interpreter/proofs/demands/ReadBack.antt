@@ -51,27 +51,23 @@ plainByte b = printable b && (not (eqb b (code ",")) && not (eqb b (code ";")))
 unfoldable pub plainText : Text → Bool
 plainText t = not (empty t) && (every plainByte t && leb (length t) 30)
 
-unfoldable readAs : Kind → ℤ → Text → Bool
-readAs k v t = readTo k v (parameter (wordsOf k) (takesNumbers k) t) && plainText t
-
 unfoldable readsBack : Kind → ℤ → Bool
-readsBack k v = readAs k v (answerOf k v)
+readsBack k v = readTo k v (parameter (wordsOf k) (takesNumbers k) (answerOf k v)) && plainText (answerOf k v)
 
 unfoldable inTable : Kind → ℤ → Bool
 inTable k v = leZ (lowestOf k) v && leZ v (highestOf k)
 
-unfoldable atValue : Kind → ℕ → Bool
-atValue k n = (not (inTable k (pos n)) || readsBack k (pos n)) && (not (inTable k (negsuc n)) || readsBack k (negsuc n))
+unfoldable atValue : ℕ → ℕ → Bool
+atValue i n =
+    (not (inTable (kindOf i) (pos n)) || readsBack (kindOf i) (pos n))
+    && (not (inTable (kindOf i) (negsuc n)) || readsBack (kindOf i) (negsuc n))
 
 -- no value of the kind is larger in size
 unfoldable sizeOf : Kind → ℕ
 sizeOf k = suc (natAbs (highestOf k) + natAbs (lowestOf k))
 
-unfoldable allBack : Kind → Bool
-allBack k = below (sizeOf k) (λ n. atValue k n)
-
-all-read-back : below 16 (λ i. allBack (kindOf i)) ≡ true
-unfolding allBack sizeOf atValue inTable readsBack readAs plainText readTo gives sameZ if_then_else_ bytes same printable white digit letter wordByte small capital
+all-read-back : below 16 (λ i. below (sizeOf (kindOf i)) (λ n. atValue i n)) ≡ true
+unfolding sizeOf atValue inTable readsBack plainText readTo gives sameZ if_then_else_ bytes same printable white digit letter wordByte small capital
     _>>=_ _>>_ check shortForm longForm matches afterSign fractionOf afterFraction exponentOf afterExponent lowering written numeralFrom decimalOf
     valueOf remains readNumber switchedOn nearest sizeIn rounded inPlaces decimal tenths table settingAt answerOf findWord parameter
 all-read-back = refl
@@ -113,11 +109,11 @@ in-size (negsuc l) high (negsuc n) t = let p = leb-true n l (and-both (leb n l) 
 in-size (pos l) high (negsuc n) t = absurd (false≢true t)
 
 reads-back : (i : ℕ) → i < 16 → (v : ℤ) → inTable (kindOf i) v ≡ true → readsBack (kindOf i) v ≡ true
-unfolding inTable allBack atValue sizeOf
+unfolding inTable atValue sizeOf
 reads-back i h v t = go v t
   where
-    at : (n : ℕ) → n < sizeOf (kindOf i) → atValue (kindOf i) n ≡ true
-    at n l = below-at (sizeOf (kindOf i)) (λ n. atValue (kindOf i) n) (below-at 16 (λ i. allBack (kindOf i)) all-read-back i h) n l
+    at : (n : ℕ) → n < sizeOf (kindOf i) → atValue i n ≡ true
+    at n l = below-at (sizeOf (kindOf i)) (λ n. atValue i n) (below-at 16 (λ i. below (sizeOf (kindOf i)) (λ n. atValue i n)) all-read-back i h) n l
 
     go : (v : ℤ) → inTable (kindOf i) v ≡ true → readsBack (kindOf i) v ≡ true
     go (pos n) t =
@@ -154,7 +150,7 @@ under-table s i v w =
 module _ (s : Settings) (i : ℕ) (h : i < 16) (v : ℤ) (w : within s i v ≡ true) where
   both : (readTo (kindOf i) v (parameter (wordsOf (kindOf i)) (takesNumbers (kindOf i)) (answerOf (kindOf i) v)) ≡ true)
       × (plainText (answerOf (kindOf i) v) ≡ true)
-  unfolding readsBack readAs
+  unfolding readsBack
   both = and-both _ (plainText (answerOf (kindOf i) v)) (reads-back i h v (under-table s i v w))
 
   pub answer-sets : conflict s i v ≡ false → settingDeed s i (answerOf (kindOf i) v) ≡ passed (Change (Put i v))
