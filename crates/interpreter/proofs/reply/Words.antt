@@ -16,9 +16,9 @@ use Rattle.registers.specs.Text.{Text, if_then_else_, bytes, small, capital, ev
 use Rattle.registers.specs.Words.{shortForm, longForm}
 use Rattle.registers.specs.Settings.{wordText}
 use Rattle.registers.proofs.Tests.{and-both}
-use Rattle.interpreter.specs.ParameterParts.{spanWords}
+use Rattle.interpreter.specs.ParameterParts.{takenWords}
 use Rattle.interpreter.specs.RowsParts.{wordList, wordAt, wordRow, wordTableOf, wordTable}
-use Rattle.interpreter.specs.declared.parameter.Span.{Span}
+use Rattle.interpreter.specs.declared.parameter.Takes.{Takes}
 
 same-is : (a b : Text) → same a b ≡ true → a ≡ b
 unfolding same
@@ -135,12 +135,12 @@ place-is : (ws : List String) (z : ℤ) → ltZ z (pos 0) ≡ false → wordText
 place-is ws (pos n) e = refl
 place-is ws (negsuc n) e = absurd (false≢true (sym e))
 
--- the words of a span stand together in the table
-module _ (s : Span) (ws : List String) (is : spanWords s ≡ ws) (z : ℤ) (from : ltZ z (pos 0) ≡ false) where
+-- the words that a setting takes stand together in the table
+module _ (s : Takes) (ws : List String) (is : takenWords s ≡ ws) (z : ℤ) (from : ltZ z (pos 0) ≡ false) where
   pub place-none : s .count ≤ natAbs z → wordText ws z ≡ []
   place-none h =
       let l = length-take (s .count) (drop (s .first) wordList) in
-      let none = List·getD-eq-default (spanWords s) "" {n = natAbs z} (omega arith) in
+      let none = List·getD-eq-default (takenWords s) "" {n = natAbs z} (omega arith) in
       rw (place-is ws z from, ← is, none) no-word
 
   pub place-word : natAbs z < s .count → wordText ws z ≡ shortForm (wordAt (s .first + natAbs z))

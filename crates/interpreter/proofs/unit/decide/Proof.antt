@@ -85,7 +85,8 @@ decide-requires : tie.Need-decide-requires
 decide-requires c κs =
     let p = c .before .before .before .before in
     let pre = entry p .pre in
-    (pre .0, rw (p .role-of .ensures) (settled-at (entry p .args .row) (omega arith)))
+    let f = c .before .fewest .ensures in
+    ((pre .0, rw (p .role-of .ensures) (settled-at (entry p .args .row) (omega arith))), (omega arith, few (c .before .before)))
 
 returns-5 : tie.Need-returns-5
 unfolding check _>>_
