@@ -172,3 +172,18 @@ least-set (Setting i) = refl
 least-set (Register r) = refl
 least-set (Order d) = refl
 least-set (Question d) = refl
+
+-- at most one may be given
+limits-one : (k : Kind) → asksLimits k ≤ 1
+limits-one bool = omega arith
+limits-one (words ws) = omega arith
+limits-one (number n low high) = omega arith
+
+pub greatest-one : (r : Role) (asked : Bool) → greatest r asked ≤ 1
+unfolding greatest if_then_else_
+greatest-one (Setting i) true = limits-one (kindOf i)
+greatest-one (Setting i) false = omega arith
+greatest-one (Register x) true = omega arith
+greatest-one (Register x) false = omega arith
+greatest-one (Order d) asked = omega arith
+greatest-one (Question d) asked = omega arith
