@@ -1,5 +1,4 @@
 pub mod Trims
-pub mod Parts
 pub mod Found
 pub mod Laws
 pub mod Whole

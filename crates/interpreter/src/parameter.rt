@@ -17,13 +17,14 @@ use registers::text;
 ghost use mathlib.Core.Path.{_≡_};
 ghost use mathlib.Core.Bool.{true, _||_};
 ghost use Prim.Native.Nat.{_+_, _^_, _≤_, _<_};
-ghost use Rattle.registers.specs.Text.{every, wordByte, digit};
+ghost use lib.ListN.{length};
+ghost use Rattle.registers.specs.Text.{digit};
 ghost use Rattle.registers.specs.Number.{sign, point};
 ghost use Rattle.registers.specs.Rounding.{rounded};
 ghost use Rattle.registers.specs.Settings.{kindOf};
 ghost use Rattle.interpreter.specs.RowsParts.{wordTable};
-ghost use Rattle.interpreter.specs.Parameter.{findWord, parameter, wordsOf, takesNumbers, asksLimits, least, greatest, valueGiven, limitAt, limitGiven, settingDeed, limitDeed, registerDeed, deedOf};
-ghost use Rattle.interpreter.specs.ParameterParts.{CountedIn, spanWords, SpanIn, meantGiven, meantDeed, aWord, aFigure, fitIn, settled, switchedTo, placed, putFit, storeTo, partsOf};
+ghost use Rattle.interpreter.specs.Parameter.{parameter, wordsOf, takesNumbers, least, greatest, valueGiven, limitAt, limitGiven, registerGiven, deedOf};
+ghost use Rattle.interpreter.specs.ParameterParts.{meantGiven, meantDeed, CountedIn, takenWords, TakesOf, aWord, aFigure, isNumber, fitIn, switchedTo, placed, putFit, storeTo, settled, wordsFor, numbersFor, bareDeed, givenDeed, partsOf};
 
 // A parameter: a word of the row by its place in the row's list, or a number.
 pub(crate) enum Given {
@@ -49,13 +50,15 @@ pub(crate) struct Counted {
     pub(crate) full: bool,
 }
 
-// Words that stand together in the table.
-pub(crate) struct Span {
+// What may be given: words that stand together in the table, and numbers or not.
+pub(crate) struct Takes {
     pub(crate) first: usize,
     pub(crate) count: usize,
+    pub(crate) numbers: bool,
 }
 
 // Where each setting's words begin in the table of words, from place 42 on, and how many there are.
+// The first six are those of the settings that take words only.
 const FIRST_WORDS: [u8; 16] = [6, 6, 6, 0, 8, 3, 8, 8, 5, 5, 8, 8, 8, 8, 8, 6];
 
 const WORD_COUNTS: [u8; 16] = [2, 2, 2, 3, 2, 2, 2, 2, 2, 2, 2, 2, 2, 2, 2, 2];
@@ -91,55 +94,43 @@ pub(crate) fn count(text: &[u8]) -> Counted
     }
 }
 
-// The words of a setting.
-pub(crate) fn words_of(row: usize) -> Span
+// What a setting takes.
+pub(crate) fn setting_takes(row: usize) -> Takes
     requires { ⌜ row < 16 ⌝ }
-    ensures { λ r. ⌜ SpanIn (wordsOf (kindOf row)) r ⌝ }
+    ensures { λ r. ⌜ TakesOf (wordsOf (kindOf row)) (takesNumbers (kindOf row)) r ⌝ }
 {
     let firsts = FIRST_WORDS;
     let counts = WORD_COUNTS;
-    Span {
-        first: 42 + firsts[row] as usize,
+    let first = firsts[row] as usize;
+    Takes {
+        first: 42 + first,
         count: counts[row] as usize,
+        numbers: 6 <= first,
     }
 }
 
-fn takes_numbers(row: usize) -> bool
-    ensures { λ r. ⌜ r ≡ takesNumbers (kindOf row) ⌝ }
+// What the parameter of a unit may be: a setting's query takes MINimum and MAXimum, a register numbers.
+fn takes_for(role: Role, asked: bool) -> Takes
+    requires { ⌜ settled role ≡ true ⌝ }
+    ensures { λ r. ⌜ TakesOf (wordsFor role asked) (numbersFor role asked) r ⌝ }
 {
-    let values = Settings::values_of(row);
-    match values {
-        Values::Word => false,
-        Values::Bool => true,
-        Values::Tenths => true,
-        Values::Whole => true,
-    }
-}
-
-// How many parameters the query of a setting may have: one, MINimum or MAXimum, if it is a number.
-fn asks_limits(row: usize) -> usize
-    ensures { λ r. ⌜ r ≡ asksLimits (kindOf row) ⌝ }
-{
-    let values = Settings::values_of(row);
-    match values {
-        Values::Word => 0,
-        Values::Bool => 0,
-        Values::Tenths => 1,
-        Values::Whole => 1,
-    }
-}
-
-fn all_word_bytes(text: &[u8]) -> bool
-    ensures { λ r. ⌜ r ≡ every wordByte (now (text .entry)) ⌝ }
-{
-    let mut i: usize = 0;
-    while i < text.len() {
-        if !text::is_word_byte(text[i]) {
-            return false;
+    match role {
+        Role::Setting(row) => {
+            if asked {
+                return Takes {
+                    first: 50,
+                    count: 2,
+                    numbers: false,
+                };
+            }
+            setting_takes(row)
         }
-        i += 1;
+        _ => Takes {
+            first: 0,
+            count: 0,
+            numbers: true,
+        },
     }
-    true
 }
 
 fn starts_number(b: u8) -> bool
@@ -149,13 +140,14 @@ fn starts_number(b: u8) -> bool
     d | ((b == 43) | (b == 45)) | (b == 46)
 }
 
-// The word of a row that a parameter spells.
-fn find_word(words: &[u8], span: Span, text: &[u8]) -> Parameter
-    requires { ⌜ (now words ≡ wordTable) × (span .first + span .count ≤ 52) ⌝ }
-    ensures { λ r. ⌜ meantGiven r ≡ findWord 0 (spanWords span) (now (text .entry)) ⌝ }
+// Check 5 on a parameter that starts with a letter. A word with other bytes than letters, digits and
+// underscore is none of the table, so the search refuses it by the same number.
+fn find_word(words: &[u8], takes: Takes, text: &[u8]) -> Parameter
+    requires { ⌜ (now words ≡ wordTable) × (takes .first + takes .count ≤ 52) ⌝ }
+    ensures { λ r. ⌜ meantGiven r ≡ aWord (takenWords takes) (now (text .entry)) ⌝ }
 {
-    let first = span.first;
-    let count = span.count;
+    let first = takes.first;
+    let count = takes.count;
     let mut n: usize = 0;
     while n < count {
         if header::is_word(words, text, first + n) {
@@ -166,24 +158,10 @@ fn find_word(words: &[u8], span: Span, text: &[u8]) -> Parameter
     Parameter::Refused(Error::InvalidCharacterData)
 }
 
-// Check 5 on a parameter that starts with a letter.
-fn read_word(words: &[u8], span: Span, text: &[u8]) -> Parameter
-    requires { ⌜ (now words ≡ wordTable) × (span .first + span .count ≤ 52) ⌝ }
-    ensures { λ r. ⌜ meantGiven r ≡ aWord (spanWords span) (now (text .entry)) ⌝ }
+// Check 6.
+fn read_figure(text: &[u8]) -> Parameter
+    ensures { λ r. ⌜ meantGiven r ≡ aFigure (now (text .entry)) ⌝ }
 {
-    if !all_word_bytes(text) {
-        return Parameter::Refused(Error::InvalidCharacterData);
-    }
-    find_word(words, span, text)
-}
-
-// Checks 5 and 6 on a parameter that starts a number.
-fn read_figure(numbers: bool, text: &[u8]) -> Parameter
-    ensures { λ r. ⌜ meantGiven r ≡ aFigure numbers (now (text .entry)) ⌝ }
-{
-    if !numbers {
-        return Parameter::Refused(Error::DataType);
-    }
     let reading = number::read(text);
     match reading {
         Reading::Refused(e) => Parameter::Refused(e),
@@ -192,18 +170,29 @@ fn read_figure(numbers: bool, text: &[u8]) -> Parameter
 }
 
 // Checks 5 and 6.
-fn read_parameter(words: &[u8], span: Span, numbers: bool, text: &[u8]) -> Parameter
-    requires { ⌜ (now words ≡ wordTable) × (span .first + span .count ≤ 52) ⌝ }
-    ensures { λ r. ⌜ meantGiven r ≡ parameter (spanWords span) numbers (now (text .entry)) ⌝ }
+fn read_parameter(words: &[u8], takes: Takes, text: &[u8]) -> Parameter
+    requires { ⌜ (now words ≡ wordTable) × (takes .first + takes .count ≤ 52) ⌝ }
+    ensures { λ r. ⌜ meantGiven r ≡ parameter (takenWords takes) (takes .numbers) (now (text .entry)) ⌝ }
 {
     let b = text::byte_at(text, 0);
     if text::is_letter(b) {
-        return read_word(words, span, text);
+        return find_word(words, takes, text);
     }
-    if starts_number(b) {
-        return read_figure(numbers, text);
+    if takes.numbers & starts_number(b) {
+        return read_figure(text);
     }
     Parameter::Refused(Error::DataType)
+}
+
+// Whether a setting's values are numbers.
+fn is_number(row: usize) -> bool
+    ensures { λ r. ⌜ r ≡ isNumber (kindOf row) ⌝ }
+{
+    let values = Settings::values_of(row);
+    match values {
+        Values::Tenths | Values::Whole => true,
+        Values::Bool | Values::Word => false,
+    }
 }
 
 // A number of which 10 to the power tens steps make one, where it is within the limits of a setting.
@@ -257,13 +246,10 @@ fn word_value(settings: Settings, row: usize, word: usize) -> i32
     requires { ⌜ word < 52 ⌝ }
     ensures { λ r. ⌜ r ≡ valueGiven settings row (kindOf row) (Given.Word word) ⌝ }
 {
-    let values = Settings::values_of(row);
-    match values {
-        Values::Tenths => limit_at(settings, row, word),
-        Values::Whole => limit_at(settings, row, word),
-        Values::Bool => word as i32,
-        Values::Word => word as i32,
+    if is_number(row) {
+        return limit_at(settings, row, word);
     }
+    word as i32
 }
 
 // Check 8 on a value for a setting, where check 7 let one pass.
@@ -283,24 +269,12 @@ fn put(settings: Settings, row: usize, fit: Fit) -> Decision
 
 // The value that a parameter gives to a setting, where it is within the limits.
 fn given_value(settings: Settings, row: usize, given: Given) -> Fit
-    requires { ⌜ placed given ≡ true ⌝ }
+    requires { ⌜ placed 52 given ≡ true ⌝ }
     ensures { λ r. ⌜ r ≡ fitIn settings row (valueGiven settings row (kindOf row) given) ⌝ }
 {
     match given {
         Given::Word(word) => fit_in(settings, row, word_value(settings, row, word)),
         Given::Figure(d) => figure_value(settings, row, d),
-    }
-}
-
-// Checks 5 to 8 on a setting's parameter.
-fn setting_deed(words: &[u8], settings: Settings, row: usize, text: &[u8]) -> Decision
-    requires { ⌜ (now words ≡ wordTable) × (row < 16) ⌝ }
-    ensures { λ r. ⌜ meantDeed r ≡ settingDeed settings row (now (text .entry)) ⌝ }
-{
-    let parameter = read_parameter(words, words_of(row), takes_numbers(row), text);
-    match parameter {
-        Parameter::Refused(e) => Decision::Refused(e),
-        Parameter::Given(given) => put(settings, row, given_value(settings, row, given)),
     }
 }
 
@@ -311,25 +285,6 @@ fn limit_given(settings: Settings, row: usize, given: Given) -> i32
     match given {
         Given::Word(word) => limit_at(settings, row, word),
         Given::Figure(_) => 0,
-    }
-}
-
-// Check 5 on the parameter of a number's query.
-fn limit_deed(words: &[u8], settings: Settings, row: usize, text: &[u8]) -> Decision
-    requires { ⌜ now words ≡ wordTable ⌝ }
-    ensures { λ r. ⌜ meantDeed r ≡ limitDeed settings row (now (text .entry)) ⌝ }
-{
-    let limits = Span {
-        first: 50,
-        count: 2,
-    };
-    let parameter = read_parameter(words, limits, false, text);
-    match parameter {
-        Parameter::Refused(e) => Decision::Refused(e),
-        Parameter::Given(given) => {
-            let value = limit_given(settings, row, given);
-            Decision::Obey(Deed::Query(Query::Limit { row, value }))
-        }
     }
 }
 
@@ -348,19 +303,14 @@ fn store(register: Register, d: Decimal) -> Decision
     }
 }
 
-// Checks 5 to 7 on a register's parameter. A register has no words, so the first arm never comes.
-fn register_deed(words: &[u8], register: Register, text: &[u8]) -> Decision
-    requires { ⌜ now words ≡ wordTable ⌝ }
-    ensures { λ r. ⌜ meantDeed r ≡ registerDeed register (now (text .entry)) ⌝ }
+// A register has no words, so the first arm never comes.
+fn store_given(register: Register, given: Given) -> Decision
+    requires { ⌜ placed 0 given ≡ true ⌝ }
+    ensures { λ r. ⌜ meantDeed r ≡ storeTo register (registerGiven given) ⌝ }
 {
-    let none = Span { first: 0, count: 0 };
-    let parameter = read_parameter(words, none, true, text);
-    match parameter {
-        Parameter::Refused(e) => Decision::Refused(e),
-        Parameter::Given(given) => match given {
-            Given::Word(_) => Decision::Refused(Error::InvalidCharacterData),
-            Given::Figure(d) => store(register, d),
-        },
+    match given {
+        Given::Word(_) => Decision::Refused(Error::InvalidCharacterData),
+        Given::Figure(d) => store(register, d),
     }
 }
 
@@ -370,8 +320,8 @@ pub(crate) fn most(role: Role, asked: bool) -> usize
 {
     match role {
         Role::Setting(row) => {
-            if asked {
-                return asks_limits(row);
+            if asked & !is_number(row) {
+                return 0;
             }
             1
         }
@@ -381,8 +331,7 @@ pub(crate) fn most(role: Role, asked: bool) -> usize
             }
             1
         }
-        Role::Order(_) => 0,
-        Role::Question(_) => 0,
+        Role::Order(_) | Role::Question(_) => 0,
     }
 }
 
@@ -396,7 +345,42 @@ pub(crate) fn fewest(role: Role, asked: bool) -> usize
     most(role, false)
 }
 
-// Checks 5 to 8; a parameter is there where check 4 asked for one.
+fn obey_query(query: Query) -> Decision
+    ensures { λ r. ⌜ r ≡ Decision.Obey (Deed.Query query) ⌝ }
+{
+    Decision::Obey(Deed::Query(query))
+}
+
+// A unit without parameter.
+fn bare_deed(role: Role) -> Decision
+    ensures { λ r. ⌜ r ≡ Decision.Obey (bareDeed role) ⌝ }
+{
+    match role {
+        Role::Setting(row) => obey_query(Query::Value(row)),
+        Role::Register(register) => obey_query(Query::Stored(register)),
+        Role::Order(deed) | Role::Question(deed) => Decision::Obey(deed),
+    }
+}
+
+// Checks 7 and 8 on a parameter. Orders and questions have none.
+fn given_deed(settings: Settings, role: Role, asked: bool, given: Given) -> Decision
+    requires { ⌜ (settled role ≡ true) × (placed (length (wordsFor role asked)) given ≡ true) ⌝ }
+    ensures { λ r. ⌜ meantDeed r ≡ givenDeed settings role asked given ⌝ }
+{
+    match role {
+        Role::Setting(row) => {
+            if asked {
+                let value = limit_given(settings, row, given);
+                return obey_query(Query::Limit { row, value });
+            }
+            put(settings, row, given_value(settings, row, given))
+        }
+        Role::Register(register) => store_given(register, given),
+        _ => bare_deed(role),
+    }
+}
+
+// Checks 5 to 8, where check 4 let the number of parameters pass.
 pub(crate) fn decide(
     words: &[u8],
     settings: Settings,
@@ -406,31 +390,15 @@ pub(crate) fn decide(
     text: &[u8],
 ) -> Decision
     requires { ⌜ (now words ≡ wordTable) × (settled role ≡ true) ⌝ }
+    requires { ⌜ (least role asked ≤ parts) × (parts ≤ greatest role asked) ⌝ }
     ensures { λ r. ⌜ meantDeed r ≡ deedOf settings role asked (partsOf parts (now (text .entry))) ⌝ }
 {
-    match role {
-        Role::Setting(row) => {
-            if asked {
-                if parts == 0 {
-                    return Decision::Obey(Deed::Query(Query::Value(row)));
-                }
-                return limit_deed(words, settings, row, text);
-            }
-            if parts == 0 {
-                return Decision::Refused(Error::MissingParameter);
-            }
-            setting_deed(words, settings, row, text)
-        }
-        Role::Register(register) => {
-            if asked {
-                return Decision::Obey(Deed::Query(Query::Stored(register)));
-            }
-            if parts == 0 {
-                return Decision::Refused(Error::MissingParameter);
-            }
-            register_deed(words, register, text)
-        }
-        Role::Order(deed) => Decision::Obey(deed),
-        Role::Question(deed) => Decision::Obey(deed),
+    if parts == 0 {
+        return bare_deed(role);
+    }
+    let parameter = read_parameter(words, takes_for(role, asked), text);
+    match parameter {
+        Parameter::Refused(e) => Decision::Refused(e),
+        Parameter::Given(given) => given_deed(settings, role, asked, given),
     }
 }

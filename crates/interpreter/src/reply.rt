@@ -35,15 +35,15 @@ fn write_place(words: &[u8], row: usize, value: i32, tail: &mut [u8]) -> usize
     requires { ⌜ (now words ≡ wordTable) × (row < 16) ⌝ }
     ensures { λ r. ⌜ Laid (placeText row value) (now (tail .entry)) r (now (tail .exit)) ⌝ }
 {
-    let span = parameter::words_of(row);
+    let takes = parameter::setting_takes(row);
     if value < 0 {
         return 0;
     }
     let place = value as usize;
-    if span.count <= place {
+    if takes.count <= place {
         return 0;
     }
-    write_word(words, span.first + place, tail)
+    write_word(words, takes.first + place, tail)
 }
 
 // A value of a setting.

@@ -1,8 +1,8 @@
 -- Laws of a text that is cut at separators and trimmed, and of parameters that are none or one: they are the whole text.
-use mathlib.Core.Path.{_≡_, refl, ap, sym, _∙_}
+use mathlib.Core.Path.{_≡_, refl, ap, _∙_}
 use mathlib.Core.Bool.{Bool, true, false, _&&_}
 use mathlib.Core.List.{List, [], _∷_, map}
-use Prim.Native.Nat.{ℕ, zero, suc, _≤_}
+use Prim.Native.Nat.{ℕ, _≤_}
 use Prim.Native.Char.{code}
 use native.Mathlib.Omega.{arith}
 use lib.Dec.{eqb}
@@ -40,49 +40,32 @@ cut-some s (b ∷ bs) = go (eqb b s) (cut-some s bs)
     go false ih = omega (arith, join-length b (cutAt s bs) ih)
 
 -- a text that is one part is that part
-cut-one : (s : ℕ) (t : Text) → length (cutAt s t) ≡ 1 → cutAt s t ≡ t ∷ []
+cut-one : (s : ℕ) (t : Text) → length (cutAt s t) ≤ 1 → cutAt s t ≡ t ∷ []
 unfolding cutAt if_then_else_
 cut-one s [] h = refl
 cut-one s (b ∷ bs) h = go (eqb b s) (cut-some s bs) (cut-one s bs) h
   where
-    go : (w : Bool) → 1 ≤ length (cutAt s bs) → (length (cutAt s bs) ≡ 1 → cutAt s bs ≡ bs ∷ [])
-        → length (if w then [] ∷ cutAt s bs else joinFirst b (cutAt s bs)) ≡ 1
+    go : (w : Bool) → 1 ≤ length (cutAt s bs) → (length (cutAt s bs) ≤ 1 → cutAt s bs ≡ bs ∷ [])
+        → length (if w then [] ∷ cutAt s bs else joinFirst b (cutAt s bs)) ≤ 1
         → (if w then [] ∷ cutAt s bs else joinFirst b (cutAt s bs)) ≡ (b ∷ bs) ∷ []
     go true some ih l = absurd (omega arith)
     go false some ih l = ap (joinFirst b) (ih (omega (arith, join-length b (cutAt s bs) some)))
 
--- ---- parameters that are none or one
+-- ---- the parameters; where they are none or one, they are what checks 5 to 8 are handed
 
 pub parameters-some : (t : Text) → (length t ≡ 0 → ⊥) → parameters t ≡ map trim (cutAt (code ",") t)
 unfolding parameters if_then_else_
 parameters-some [] h = absurd (h refl)
 parameters-some (b ∷ bs) h = refl
 
-pub parameters-none : (t : Text) → length (parameters t) ≡ 0 → parameters t ≡ []
-parameters-none t h = go (parameters t) h
-  where
-    go : (ps : List Text) → length ps ≡ 0 → ps ≡ []
-    go [] h = refl
-    go (p ∷ ps) h = absurd (omega arith)
-
-pub parameters-one : (t : Text) → length (parameters t) ≡ 1 → trim t ≡ t → parameters t ≡ t ∷ []
+pub parts-are : (t : Text) → trim t ≡ t → length (parameters t) ≤ 1 → partsOf (length (parameters t)) t ≡ parameters t
 unfolding parameters if_then_else_
-parameters-one [] h e = absurd (omega arith)
-parameters-one (b ∷ bs) h e =
+parts-are [] e h = refl
+parts-are (b ∷ bs) e h =
     let t = b ∷ bs in
     let n = length-map (cutAt (code ",") t) trim in
     let one : cutAt (code ",") t ≡ t ∷ [] = cut-one (code ",") t (omega arith) in
     rw (one, e)
-
--- what checks 5 to 8 are handed are the parameters
-pub parts-are : (t : Text) → trim t ≡ t → length (parameters t) ≤ 1 → partsOf (length (parameters t)) t ≡ parameters t
-unfolding if_then_else_
-parts-are t e h = go (length (parameters t)) h (parameters-none t) (λ n. parameters-one t n e)
-  where
-    go : (n : ℕ) → n ≤ 1 → (n ≡ 0 → parameters t ≡ []) → (n ≡ 1 → parameters t ≡ t ∷ []) → partsOf n t ≡ parameters t
-    go zero h none one = sym (none refl)
-    go (suc zero) h none one = sym (one refl)
-    go (suc (suc n)) h none one = absurd (omega arith)
 
 -- ---- trimming: nothing is left of white space, and of nothing else
 

@@ -1,20 +1,23 @@
 -- Checks 7 and 8 on a value, and how what checks 5 and 6 say of a parameter is carried on.
 use mathlib.Core.Path.{_≡_, refl, sym, _∙_}
 use mathlib.Core.Bool.{Bool, true, false, not, false≢true}
+use mathlib.Core.List.{[], _∷_}
 use Prim.Native.Nat.{ℕ, _≤_, _<_}
 use native.Mathlib.Omega.{arith}
 use lib.Dec.{T}
+use types.Run.{OneOf, miss}
+use denote.Enum.Declared.{tagOf}
 use lib.IntN.{ℤ, pos, negsuc, natAbs}
 use lib.Signed.{leZ, mag, nonNeg}
 use mir.Syntax.{w16, w32}
 use mir.Val.{Fits, ofZ, toZ}
 use mir.Facts.{toZ-ofZ, toZ-pos}
 use borrow.Author.Tests.{leb-true}
-use Rattle.registers.specs.Text.{if_then_else_}
-use Rattle.registers.specs.Check.{Checked, refused, passed, _>>_, check}
+use Rattle.registers.specs.Text.{Text, if_then_else_}
+use Rattle.registers.specs.Check.{Checked, refused, passed, _>>=_, _>>_, check}
 use Rattle.registers.specs.Errors.{numberOf}
 use Rattle.registers.specs.Rounding.{rounded, fitted}
-use Rattle.registers.specs.Settings.{lowest, highest, within, conflict}
+use Rattle.registers.specs.Settings.{kindOf, lowest, highest, within, conflict}
 use Rattle.registers.specs.Status.{widest}
 use Rattle.registers.specs.declared.error.Error.{Error}
 use Rattle.registers.specs.declared.number.Decimal.{Decimal}
@@ -24,12 +27,16 @@ use Rattle.registers.specs.declared.settings.Settings.{Settings}
 use Rattle.registers.specs.declared.status.Register.{Register}
 use Rattle.registers.specs.declared.status.Register.the-variants.{Ese, Sre, Enable, Ntr, Ptr}
 use Rattle.registers.proofs.rounding.Laws.{rounded-once}
-use Rattle.interpreter.specs.ParameterParts.{meantGiven, fitIn, putFit, storeTo}
+use Rattle.interpreter.specs.Parameter.{parameter, wordsOf, takesNumbers, valueGiven, least, greatest, settingDeed, limitDeed, registerDeed, deedOf}
+use Rattle.interpreter.specs.ParameterParts.{meantGiven, fitIn, putFit, storeTo, wordsFor, numbersFor, bareDeed, givenDeed}
 use Rattle.interpreter.specs.declared.deed.Deed.the-variants.{Change}
 use Rattle.interpreter.specs.declared.deed.Change.the-variants.{Put, Store}
+use Rattle.interpreter.specs.declared.deed.Role.{Role}
+use Rattle.interpreter.specs.declared.deed.Role.the-variants.{Setting, Register as register, Order, Question}
 use Rattle.interpreter.specs.declared.parameter.Given.{Given}
 use Rattle.interpreter.specs.declared.parameter.Parameter.{Parameter}
 use Rattle.interpreter.specs.declared.parameter.Parameter.the-variants.{Refused as noParameter, Given as aParameter}
+use Rattle.interpreter.proofs.deed.Role as roles
 
 -- a signed number of 32 bits comes back from its bits
 pub back : (z : ℤ) → mag z < 2147483648 → toZ w32 (ofZ w32 z) ≡ z
@@ -92,3 +99,43 @@ module _ (x : Register) (d : Decimal) {f : Fit} (is : f ≡ fitted 1 (pos 0) (po
   pub store-outside : f ≡ Outside → refused 222 ≡ storeTo x (rounded 1 d)
   unfolding storeTo check _>>_
   store-outside told = rw (rounded-once 1 (pos 0) (pos (widest x)) d .outside (sym is ∙ told))
+
+-- ---- checks 5 to 8, by what the header is for
+
+-- without a parameter, where none is needed
+pub bare-is : (s : Settings) (r : Role) (asked : Bool) → least r asked ≤ 0 → deedOf s r asked [] ≡ passed (bareDeed r)
+unfolding deedOf least if_then_else_
+bare-is s (Setting i) true h = refl
+bare-is s (Setting i) false h = absurd (omega arith)
+bare-is s (register x) true h = refl
+bare-is s (register x) false h = absurd (omega arith)
+bare-is s (Order d) asked h = refl
+bare-is s (Question d) asked h = refl
+
+-- with one, where one may be
+pub given-is : (s : Settings) (r : Role) (asked : Bool) (t : Text) → 1 ≤ greatest r asked
+    → deedOf s r asked (t ∷ []) ≡ (parameter (wordsFor r asked) (numbersFor r asked) t >>= givenDeed s r asked)
+unfolding deedOf greatest if_then_else_ settingDeed limitDeed registerDeed givenDeed storeTo _>>=_
+given-is s (Setting i) true t h = refl
+given-is s (Setting i) false t h = go (parameter (wordsOf (kindOf i)) (takesNumbers (kindOf i)) t)
+  where
+    go : (m : Checked Given)
+        → (m >>= λ g.
+        let v = valueGiven s i (kindOf i) g in
+        check 222 (within s i v) >> check 221 (not (conflict s i v)) >> passed (Change (Put i v)))
+        ≡ (m >>= givenDeed s (Setting i) false)
+    go (refused n) = refl
+    go (passed g) = sym (fit-put s i (valueGiven s i (kindOf i) g))
+given-is s (register x) true t h = absurd (omega arith)
+given-is s (register x) false t h = refl
+given-is s (Order d) asked t h = absurd (omega arith)
+given-is s (Question d) asked t h = absurd (omega arith)
+
+-- an order and a question have no parameter to look at
+pub given-none : (s : Settings) (r : Role) → OneOf (2 ∷ 3 ∷ []) (tagOf roles.the-type r) → (asked : Bool) (g : Given)
+    → givenDeed s r asked g ≡ passed (bareDeed r)
+unfolding givenDeed
+given-none s (Setting i) h asked g = absurd (miss (2 ∷ 3 ∷ []) 0 tt h)
+given-none s (register x) h asked g = absurd (miss (2 ∷ 3 ∷ []) 1 tt h)
+given-none s (Order d) h asked g = refl
+given-none s (Question d) h asked g = refl

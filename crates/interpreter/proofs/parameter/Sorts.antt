@@ -1,28 +1,32 @@
 -- What a setting's kind says of its parameters, in the four sorts of values that the code tells apart.
 use mathlib.Core.Path.{_≡_, refl, ap, sym, _∙_}
-use mathlib.Core.Bool.{Bool, true, false}
+use mathlib.Core.Bool.{Bool, true, false, not, _&&_, false≢true}
 use mathlib.Core.List.{List, [], _∷_}
 use Prim.Native.Nat.{ℕ, zero, suc, _+_, _≤_, _<_}
 use native.Mathlib.Omega.{arith}
 use lib.Dec.{leb, ltb, eqb}
-use lib.ListN.{getD, take, drop}
+use lib.ListN.{length, getD, take, drop}
 use lib.IntN.{ℤ, pos}
+use types.Run.{OneOf, miss}
+use denote.Enum.Declared.{tagOf}
 use borrow.Author.Tests.{eqb-true, eqb-false, leb-true, ltb-true, ltb-false}
 use Rattle.registers.specs.Text.{if_then_else_}
 use Rattle.registers.specs.Rounding.{rounded}
-use Rattle.registers.specs.Settings.{Kind, bool, table, settingAt, kindOf, valuesIn, highest}
+use Rattle.registers.specs.Settings.{Kind, bool, words, number, table, settingAt, kindOf, valuesIn, highest}
 use Rattle.registers.specs.declared.number.Decimal.{Decimal}
 use Rattle.registers.specs.declared.settings.Settings.{Settings}
 use Rattle.registers.specs.declared.settings.Values.{Values}
 use Rattle.registers.specs.declared.settings.Values.the-variants.{Bool as BoolValue, Word as WordValue, Tenths, Whole}
 use Rattle.registers.proofs.Tests.{below-at}
 use Rattle.registers.proofs.settings.Laws.{behind-is}
+use Rattle.registers.proofs.settings.Values as values
 use Rattle.interpreter.specs.RowsParts.{wordList}
 use Rattle.interpreter.specs.Parameter.{least, greatest, asksLimits, takesNumbers, wordsOf, limitAt, valueGiven}
-use Rattle.interpreter.specs.ParameterParts.{switchedTo}
+use Rattle.interpreter.specs.ParameterParts.{TakesOf, isNumber, switchedTo, wordsFor, numbersFor}
 use Rattle.interpreter.specs.declared.deed.Role.{Role}
 use Rattle.interpreter.specs.declared.deed.Role.the-variants.{Setting, Register, Order, Question}
 use Rattle.interpreter.specs.declared.parameter.Given.the-variants.{Word, Figure}
+use Rattle.interpreter.proofs.deed.Role as roles
 
 -- ---- what two functions say of every row, by computing both for all sixteen
 
@@ -50,24 +54,6 @@ kinds-agree f g e b i = go (ltb i 16) refl
 
 -- ---- by the sort of a row's values
 
-abbrev numbersIn : Values → Bool
-numbersIn BoolValue = true
-numbersIn WordValue = false
-numbersIn Tenths = true
-numbersIn Whole = true
-
-abbrev limitsIn : Values → ℕ
-limitsIn BoolValue = 0
-limitsIn WordValue = 0
-limitsIn Tenths = 1
-limitsIn Whole = 1
-
-abbrev wordIn : Settings → ℕ → ℕ → Values → ℤ
-wordIn s i n BoolValue = pos n
-wordIn s i n WordValue = pos n
-wordIn s i n Tenths = limitAt s i n
-wordIn s i n Whole = limitAt s i n
-
 -- ten steps of step 0.1 make one
 abbrev figureIn : Decimal → Values → ℤ
 figureIn d BoolValue = switchedTo d
@@ -76,24 +62,49 @@ figureIn d Tenths = rounded 10 d
 figureIn d Whole = rounded 1 d
 
 -- where the code has been told the sort
-module _ (i : ℕ) {v told : Values} (is : told ≡ v) (of : told ≡ valuesIn (kindOf i)) where
-  pub numbers-in : numbersIn v ≡ takesNumbers (kindOf i)
-  unfolding listed settingAt table if_then_else_
-  numbers-in = ap numbersIn (sym is ∙ of) ∙ kinds-agree (λ k. numbersIn (valuesIn k)) takesNumbers refl refl i
+pub figure-in : (i : ℕ) {v told : Values} → told ≡ v → told ≡ valuesIn (kindOf i) → (s : Settings) (d : Decimal)
+    → figureIn d v ≡ valueGiven s i (kindOf i) (Figure d)
+unfolding listed settingAt table if_then_else_ valueGiven switchedTo
+figure-in i is of s d =
+    ap (figureIn d) (sym is ∙ of) ∙ kinds-agree (λ k. figureIn d (valuesIn k)) (λ k. valueGiven s i k (Figure d)) refl refl i
 
-  pub limits-in : limitsIn v ≡ asksLimits (kindOf i)
-  unfolding listed settingAt table if_then_else_
-  limits-in = ap limitsIn (sym is ∙ of) ∙ kinds-agree (λ k. limitsIn (valuesIn k)) asksLimits refl refl i
+-- ---- numbers, which are of two sorts
 
-  pub word-in : (s : Settings) (n : ℕ) → wordIn s i n v ≡ valueGiven s i (kindOf i) (Word n)
-  unfolding listed settingAt table if_then_else_ valueGiven
-  word-in s n =
-      ap (wordIn s i n) (sym is ∙ of) ∙ kinds-agree (λ k. wordIn s i n (valuesIn k)) (λ k. valueGiven s i k (Word n)) refl refl i
+module _ (k : Kind) (told : Values) (is : told ≡ valuesIn k) where
+  pub told-number : OneOf (2 ∷ 3 ∷ []) (tagOf values.the-type told) → true ≡ isNumber k
+  told-number h = go k (rw is at h)
+    where
+      go : (k : Kind) → OneOf (2 ∷ 3 ∷ []) (tagOf values.the-type (valuesIn k)) → true ≡ isNumber k
+      go bool h = absurd (miss (2 ∷ 3 ∷ []) 0 tt h)
+      go (words ws) h = absurd (miss (2 ∷ 3 ∷ []) 1 tt h)
+      go (number n low high) h = refl
 
-  pub figure-in : (s : Settings) (d : Decimal) → figureIn d v ≡ valueGiven s i (kindOf i) (Figure d)
-  unfolding listed settingAt table if_then_else_ valueGiven switchedTo
-  figure-in s d =
-      ap (figureIn d) (sym is ∙ of) ∙ kinds-agree (λ k. figureIn d (valuesIn k)) (λ k. valueGiven s i k (Figure d)) refl refl i
+  pub told-other : OneOf (0 ∷ 1 ∷ []) (tagOf values.the-type told) → false ≡ isNumber k
+  unfolding if_then_else_
+  told-other h = go k (rw is at h)
+    where
+      none : (t : Bool) → OneOf (0 ∷ 1 ∷ []) (tagOf values.the-type (if t then Tenths else Whole)) → ⊥
+      none true h = miss (0 ∷ 1 ∷ []) 2 tt h
+      none false h = miss (0 ∷ 1 ∷ []) 3 tt h
+
+      go : (k : Kind) → OneOf (0 ∷ 1 ∷ []) (tagOf values.the-type (valuesIn k)) → false ≡ isNumber k
+      go bool h = refl
+      go (words ws) h = refl
+      go (number n low high) h = absurd (none (eqb n 10) h)
+
+-- a number's words are its limits, any other's are counted
+module _ (s : Settings) (i n : ℕ) where
+  pub word-number : (k : Kind) → isNumber k ≡ true → limitAt s i n ≡ valueGiven s i k (Word n)
+  unfolding valueGiven
+  word-number bool e = absurd (false≢true e)
+  word-number (words ws) e = absurd (false≢true e)
+  word-number (number m low high) e = refl
+
+  pub word-other : (k : Kind) → isNumber k ≡ false → pos n ≡ valueGiven s i k (Word n)
+  unfolding valueGiven
+  word-other bool e = refl
+  word-other (words ws) e = refl
+  word-other (number m low high) e = absurd (false≢true (sym e))
 
 pub limit-other : (s : Settings) (i n : ℕ) → (n ≡ 0 → ⊥) → highest s i ≡ limitAt s i n
 limit-other s i zero h = absurd (h refl)
@@ -107,16 +118,46 @@ firstWords = 6 ∷ 6 ∷ 6 ∷ 0 ∷ 8 ∷ 3 ∷ 8 ∷ 8 ∷ 5 ∷ 5 ∷ 8 ∷ 8
 abbrev wordCounts : List ℕ
 wordCounts = 2 ∷ 2 ∷ 2 ∷ 3 ∷ 2 ∷ 2 ∷ 2 ∷ 2 ∷ 2 ∷ 2 ∷ 2 ∷ 2 ∷ 2 ∷ 2 ∷ 2 ∷ 2 ∷ []
 
-pub span-words : (i : ℕ) → i < 16 → take (getD wordCounts i 0) (drop (42 + getD firstWords i 0) wordList) ≡ wordsOf (kindOf i)
+pub setting-takes : (i : ℕ) → i < 16
+    → TakesOf (wordsOf (kindOf i)) (takesNumbers (kindOf i))
+    (record { first = 42 + getD firstWords i 0; count = getD wordCounts i 0; numbers = leb 6 (getD firstWords i 0) })
 unfolding listed wordList settingAt table
-span-words = agree 16 (λ k. take (getD wordCounts k 0) (drop (42 + getD firstWords k 0) wordList)) (λ k. wordsOf (kindOf k)) refl
+setting-takes i h =
+    record {
+      words = agree 16 (λ k. take (getD wordCounts k 0) (drop (42 + getD firstWords k 0) wordList)) (λ k. wordsOf (kindOf k)) refl i h;
+      numbers = agree 16 (λ k. leb 6 (getD firstWords k 0)) (λ k. takesNumbers (kindOf k)) refl i h;
+      room = leb-true (42 + getD firstWords i 0 + getD wordCounts i 0) 52
+          (below-at 16 (λ k. leb (42 + getD firstWords k 0 + getD wordCounts k 0) 52) refl i h);
+    }
 
-pub span-room : (i : ℕ) → i < 16 → 42 + getD firstWords i 0 + getD wordCounts i 0 ≤ 52
-span-room i h =
-    leb-true (42 + getD firstWords i 0 + getD wordCounts i 0) 52
-    (below-at 16 (λ k. leb (42 + getD firstWords k 0 + getD wordCounts k 0) 52) refl i h)
+pub words-few : (i : ℕ) → i < 16 → length (wordsOf (kindOf i)) ≤ 52
+unfolding settingAt table
+words-few i h = leb-true (length (wordsOf (kindOf i))) 52 (below-at 16 (λ k. leb (length (wordsOf (kindOf k))) 52) refl i h)
 
--- ---- check 4: what sets takes as many parameters as it may have, and a query does without
+-- what is no setting takes no words
+pub takes-none : (r : Role) → OneOf (1 ∷ 2 ∷ 3 ∷ []) (tagOf roles.the-type r) → (asked : Bool)
+    → TakesOf (wordsFor r asked) (numbersFor r asked) (record { first = 0; count = 0; numbers = true })
+takes-none (Setting i) h asked = absurd (miss (1 ∷ 2 ∷ 3 ∷ []) 0 tt h)
+takes-none (Register x) h asked = record { words = refl; numbers = refl; room = omega arith }
+takes-none (Order d) h asked = record { words = refl; numbers = refl; room = omega arith }
+takes-none (Question d) h asked = record { words = refl; numbers = refl; room = omega arith }
+
+-- ---- check 4: a number's query may have one parameter; what sets takes as many as it may have, and a query does without
+
+pub setting-most : (k : Kind) (asked fails : Bool) → (asked && not (isNumber k)) ≡ fails
+    → (if fails then 0 else 1) ≡ (if asked then asksLimits k else 1)
+unfolding if_then_else_
+setting-most k false fails e = rw (← e)
+setting-most bool true fails e = rw (← e)
+setting-most (words ws) true fails e = rw (← e)
+setting-most (number n low high) true fails e = rw (← e)
+
+pub most-none : (r : Role) → OneOf (2 ∷ 3 ∷ []) (tagOf roles.the-type r) → (asked : Bool) → 0 ≡ greatest r asked
+unfolding greatest
+most-none (Setting i) h asked = absurd (miss (2 ∷ 3 ∷ []) 0 tt h)
+most-none (Register x) h asked = absurd (miss (2 ∷ 3 ∷ []) 1 tt h)
+most-none (Order d) h asked = refl
+most-none (Question d) h asked = refl
 
 pub least-asked : (r : Role) → 0 ≡ least r true
 unfolding least if_then_else_
@@ -131,3 +172,18 @@ least-set (Setting i) = refl
 least-set (Register r) = refl
 least-set (Order d) = refl
 least-set (Question d) = refl
+
+-- at most one may be given
+limits-one : (k : Kind) → asksLimits k ≤ 1
+limits-one bool = omega arith
+limits-one (words ws) = omega arith
+limits-one (number n low high) = omega arith
+
+pub greatest-one : (r : Role) (asked : Bool) → greatest r asked ≤ 1
+unfolding greatest if_then_else_
+greatest-one (Setting i) true = limits-one (kindOf i)
+greatest-one (Setting i) false = omega arith
+greatest-one (Register x) true = omega arith
+greatest-one (Register x) false = omega arith
+greatest-one (Order d) asked = omega arith
+greatest-one (Question d) asked = omega arith

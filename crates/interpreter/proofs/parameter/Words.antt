@@ -1,24 +1,27 @@
 -- Check 5 on a word: the search through the words of a row, which stand together in the table, and what a search can find.
-use mathlib.Core.Path.{_≡_, refl}
-use mathlib.Core.Bool.{Bool, true, false, _||_}
-use mathlib.Core.List.{List, [], _∷_}
-use Prim.Native.Nat.{ℕ, suc, _+_, _≤_, _<_}
+use mathlib.Core.Path.{_≡_, refl, sym}
+use mathlib.Core.Bool.{Bool, true, false, _&&_, _||_, false≢true}
+use mathlib.Core.List.{List, [], _∷_, map}
+use Prim.Native.Nat.{ℕ, suc, _+_, _-_, _≤_, _<_}
 use Prim.Native.String.{String}
 use native.Mathlib.Omega.{arith}
 use native.Mathlib.Numerals.{add-one}
 use lib.ListN.{length, take, drop, length-take, length-drop, drop-of-length-le}
 use lib.Seq.{drop-cons, getD-drop, getD-take}
-use borrow.Author.Tests.{lt-ltb}
-use Rattle.registers.specs.Text.{Text, if_then_else_, letter, digit, wordByte, every, first}
+use lib.Dec.{ltb, eqb}
+use borrow.Author.Tests.{lt-ltb, ltb-true, eqb-true}
+use Rattle.registers.specs.Text.{Text, if_then_else_, bytes, between, small, letter, digit, wordByte, capital, every, first, same}
 use Rattle.registers.specs.Check.{Checked, refused, passed, _>>=_, _>>_, check}
-use Rattle.registers.specs.Words.{matches}
+use Rattle.registers.specs.Words.{shortForm, longForm, matches}
 use Rattle.registers.specs.Number.{number, sign, point}
 use Rattle.registers.specs.declared.number.Decimal.{Decimal}
+use Rattle.registers.proofs.Tests.{and-both, and-true}
 use Rattle.interpreter.specs.RowsParts.{wordList, wordAt}
 use Rattle.interpreter.specs.Parameter.{findWord, parameter}
-use Rattle.interpreter.specs.ParameterParts.{aFigure, placed}
+use Rattle.interpreter.specs.ParameterParts.{aWord, aFigure, placed}
 use Rattle.interpreter.specs.declared.parameter.Given.{Given}
 use Rattle.interpreter.specs.declared.parameter.Given.the-variants.{Word, Figure}
+use Rattle.interpreter.proofs.Lists.{every-at}
 
 -- so many words of the table, from a place on
 abbrev from : ℕ → ℕ → List String
@@ -27,6 +30,50 @@ from at count = take count (drop at wordList)
 from-length : (at count : ℕ) → at + count ≤ 52 → length (from at count) ≡ count
 unfolding wordList
 from-length at count room = simp (length-take, length-drop) (omega arith)
+
+-- ---- the words have letters, digits and underscores only, and so has what spells one
+
+abbrev plain : String → Bool
+plain w = every wordByte (shortForm w) && every wordByte (longForm w)
+
+all-plain : every plain wordList ≡ true
+unfolding wordList shortForm longForm bytes small capital letter digit wordByte if_then_else_
+all-plain = refl
+
+capital-in : (b : ℕ) → wordByte (capital b) ≡ true → wordByte b ≡ true
+unfolding capital wordByte letter if_then_else_
+capital-in b h = go (small b) refl h
+  where
+    or-true : (x : Bool) → (x || true) ≡ true
+    or-true true = refl
+    or-true false = refl
+
+    go : (s : Bool) → small b ≡ s → wordByte (if s then b - 32 else b) ≡ true → wordByte b ≡ true
+    go true e h = rw (e, or-true (between 65 90 b))
+    go false e h = h
+
+spelled-in : (t l : Text) → same (map capital t) l ≡ true → every wordByte l ≡ true → every wordByte t ≡ true
+unfolding same
+spelled-in [] l e h = refl
+spelled-in (b ∷ t) [] e h = absurd (false≢true e)
+spelled-in (b ∷ t) (x ∷ l) e h =
+    let p = and-both (eqb (capital b) x) (same (map capital t) l) e in
+    let q = and-both (wordByte x) (every wordByte l) h in
+    and-true (capital-in b (rw (eqb-true (capital b) x (p .0)) (q .0))) (spelled-in t l (p .1) (q .1))
+
+word-bytes : (i : ℕ) (t : Text) → i < 52 → matches (wordAt i) t ≡ true → every wordByte t ≡ true
+unfolding wordAt wordList matches
+word-bytes i t h e = go (same (map capital t) (shortForm w)) refl e
+  where
+    w : String
+    w = wordAt i
+
+    is : (every wordByte (shortForm w) ≡ true) × (every wordByte (longForm w) ≡ true)
+    is = and-both (every wordByte (shortForm w)) (every wordByte (longForm w)) (every-at plain wordList i "" all-plain h)
+
+    go : (s : Bool) → same (map capital t) (shortForm w) ≡ s → (s || same (map capital t) (longForm w)) ≡ true → every wordByte t ≡ true
+    go true q e = spelled-in t (shortForm w) q (is .0)
+    go false q e = spelled-in t (longForm w) e (is .1)
 
 -- ---- the search: what it finds is what is found from the n-th word on
 
@@ -41,19 +88,50 @@ module _ {at count : ℕ} {t : Text} {n : ℕ} (w : Searching at count t n) wher
       let l : n < length (from at count) = omega (arith, from-length at count (w .room)) in
       rw (drop-cons (from at count) n "" l, add-one n, getD-take, getD-drop)
 
-  pub search-hit : n < count → matches (wordAt (at + n)) t ≡ true → passed (Word n) ≡ findWord 0 (from at count) t
-  unfolding findWord if_then_else_
-  search-hit h e = rw (next h, e) at (w .left)
+  pub search-hit : n < count → matches (wordAt (at + n)) t ≡ true → passed (Word n) ≡ aWord (from at count) t
+  unfolding findWord aWord check _>>_ if_then_else_
+  search-hit h e =
+      let room = w .room in
+      rw (word-bytes (at + n) t (omega arith) e) (rw (next h, e) at (w .left))
 
   pub search-miss : n < count → matches (wordAt (at + n)) t ≡ false → Searching at count t (n + 1)
   unfolding findWord if_then_else_
   search-miss h e = record { room = w .room; left = rw (add-one n) (rw (next h, e, add-one n) at (w .left)) }
 
-  pub search-end : count ≤ n → refused 141 ≡ findWord 0 (from at count) t
-  unfolding findWord
+  pub search-end : count ≤ n → refused 141 ≡ aWord (from at count) t
+  unfolding findWord aWord check _>>_
   search-end h =
       let l : length (from at count) ≤ n = omega (arith, from-length at count (w .room)) in
-      rw (drop-of-length-le (from at count) l) at (w .left)
+      rw (← rw (drop-of-length-le (from at count) l) at (w .left)) (go (every wordByte t))
+    where
+      go : (b : Bool) → _≡_ {A = Checked Given} (refused 141) (check 141 b >> refused 141)
+      go true = refl
+      go false = refl
+
+-- ---- check 5 by the first byte
+
+module _ (ws : List String) (numbers : Bool) (t : Text) where
+  abbrev starts : Bool
+  starts = digit (first t) || sign (first t) || point (first t)
+
+  pub starts-word : letter (first t) ≡ true → aWord ws t ≡ parameter ws numbers t
+  unfolding parameter aWord if_then_else_
+  starts-word l = rw l
+
+  pub starts-figure : letter (first t) ≡ false → (numbers && starts) ≡ true → aFigure t ≡ parameter ws numbers t
+  unfolding parameter aFigure check _>>_ if_then_else_
+  starts-figure l e = let p = and-both numbers starts e in rw (l, p .0, p .1)
+
+  pub starts-neither : letter (first t) ≡ false → (numbers && starts) ≡ false → refused 104 ≡ parameter ws numbers t
+  unfolding parameter check _>>_ if_then_else_
+  starts-neither l e = rw l (go numbers starts e)
+    where
+      go : (n d : Bool) → (n && d) ≡ false
+          → refused 104 ≡ (if d then (check 104 n >> number t >>= λ d. passed (Figure d)) else refused 104)
+      go true true e = absurd (false≢true (sym e))
+      go true false e = refl
+      go false true e = refl
+      go false false e = refl
 
 -- ---- what a search finds has a place in the list
 
@@ -71,29 +149,30 @@ found-below i (w ∷ ws) t n e = go (matches w t) (found-below (suc i) ws t n) e
     go false ih e = omega (arith, ih e)
 
 -- a number is no word
-no-word : (numbers : Bool) (t : Text) (n : ℕ) → aFigure numbers t ≡ passed (Word n) → ⊥
-unfolding aFigure check _>>_ _>>=_
-no-word false t n e = never e
-no-word true t n e = go (number t) e
+no-word : (t : Text) (n : ℕ) → aFigure t ≡ passed (Word n) → ⊥
+unfolding aFigure _>>=_
+no-word t n e = go (number t) e
   where
     go : (r : Checked Decimal) → (r >>= λ d. passed (Figure d)) ≡ passed (Word n) → ⊥
     go (refused m) e = never e
     go (passed d) e = let z : _≡_ {A = ℕ} 0 1 = cc in omega arith
 
-pub given-below : (ws : List String) (numbers : Bool) (t : Text) (n : ℕ) → parameter ws numbers t ≡ passed (Word n) → n < length ws
+pub given-placed : (ws : List String) (numbers : Bool) (t : Text) (g : Given) → parameter ws numbers t ≡ passed g
+    → placed (length ws) g ≡ true
 unfolding parameter aFigure check _>>_ if_then_else_
-given-below ws numbers t n e = go (letter (first t)) (every wordByte t) (digit (first t) || sign (first t) || point (first t)) e
+given-placed ws numbers t (Figure d) e = refl
+given-placed ws numbers t (Word n) e =
+    go (letter (first t)) (every wordByte t) (digit (first t) || sign (first t) || point (first t)) numbers e
   where
-    go : (l w d : Bool)
-        → (if l then (check 141 w >> findWord 0 ws t) else (if d then aFigure numbers t else refused 104)) ≡ passed (Word n) → n < length ws
-    go true true d e = omega (arith, found-below 0 ws t n e)
-    go true false d e = absurd (never e)
-    go false w true e = absurd (no-word numbers t n e)
-    go false w false e = absurd (never e)
+    go : (l w d b : Bool)
+        → (if l then (check 141 w >> findWord 0 ws t) else (if d then (check 104 b >> aFigure t) else refused 104)) ≡ passed (Word n)
+        → ltb n (length ws) ≡ true
+    go true true d b e = lt-ltb n (length ws) (omega (arith, found-below 0 ws t n e))
+    go true false d b e = absurd (never e)
+    go false w true true e = absurd (no-word t n e)
+    go false w true false e = absurd (never e)
+    go false w false b e = absurd (never e)
 
-pub given-placed : (at count : ℕ) (numbers : Bool) (t : Text) (g : Given) → at + count ≤ 52
-    → parameter (from at count) numbers t ≡ passed g → placed g ≡ true
-given-placed at count numbers t (Word n) room e =
-    let l = given-below (from at count) numbers t n e in
-    lt-ltb n 52 (omega (arith, from-length at count room))
-given-placed at count numbers t (Figure d) room e = refl
+pub placed-more : (g : Given) {m n : ℕ} → m ≤ n → placed m g ≡ true → placed n g ≡ true
+placed-more (Word k) {m} {n} h e = lt-ltb k n (omega (arith, ltb-true k m e))
+placed-more (Figure d) h e = refl

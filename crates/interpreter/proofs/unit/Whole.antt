@@ -26,7 +26,8 @@ use Rattle.interpreter.specs.declared.header.Looked.the-variants.{Bad, A
 use Rattle.interpreter.specs.declared.parameter.Decision.{Decision}
 use Rattle.interpreter.specs.declared.parameter.Decision.the-variants.{Refused as noDeed, Obey as someDeed}
 use Rattle.interpreter.specs.declared.unit.Reading.the-variants.{Refused, Obey}
-use Rattle.interpreter.proofs.unit.Found.{row-within, found-role}
+use Rattle.interpreter.proofs.header.Laws.{found-most}
+use Rattle.interpreter.proofs.unit.Found.{role-found}
 use Rattle.interpreter.proofs.unit.Trims.{take-start}
 
 -- ---- the header runs from s to e, and the parameters' text stands behind it
@@ -101,7 +102,7 @@ module _ (s : Settings) (path : List Text) (u : Text) where
   good-header ok h is {room} {row} {used} {asked} {buffer} f =
       let t = parameterText u in
       let k : Deed → Checked Read = λ d. passed (record { deed = d; path = named (take used buffer) }) in
-      let role = found-role (isCommon (h .place)) (fullNames (h .place) path (h .names)) (h .query) in
+      let role = role-found (isCommon (h .place)) (fullNames (h .place) path (h .names)) (h .query) in
       let e : readUnit s path u ≡ behindWith s asked (parameters t) (roleFound row) k = rw (ok, is, f .query, f .at, f .left, role) in
       e ∙ sym (decided-then s row asked t k)
 
@@ -127,7 +128,7 @@ module _ (s : Settings) (path u : Text) {row used : ℕ} {asked : Bool} {buffer 
       let f = g .2 in
       let w = f .short in
       record {
-        within = rw (f .at) (row-within (isCommon (h .place)) (fullNames (h .place) (named path) (h .names)) (h .query));
+        within = rw (f .at) (found-most (isCommon (h .place)) (fullNames (h .place) (named path) (h .names)) (h .query));
         is = good-header s (named path) u ok h (ap header (sym e) ∙ g .1) f;
         shut = f .shut;
         short = omega arith;

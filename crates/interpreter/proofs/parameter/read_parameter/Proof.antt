@@ -1,10 +1,23 @@
-use mathlib.Core.Path.{sym, _∙_}
+use mathlib.Core.Path.{_≡_, sym, _∙_}
+use mathlib.Core.Bool.{false, _||_}
 use borrow.Author.Needs.{needs}
-use Rattle.registers.specs.Text.{if_then_else_}
-use Rattle.interpreter.specs.Parameter.{parameter}
-use Rattle.interpreter.specs.ParameterParts.{aWord, aFigure}
+use Rattle.registers.specs.Text.{letter, digit, first}
+use Rattle.registers.specs.Number.{sign, point}
+use Rattle.interpreter.specs.ParameterParts.{takenWords}
+use Rattle.interpreter.proofs.parameter.Words.{starts-word, starts-figure, starts-neither}
 use Rattle.interpreter.proofs.parameter.read_parameter.Statement.{statement}
 use Rattle.interpreter.proofs.parameter.read_parameter.Tie as tie
+
+-- a first byte that is no letter: the parameter, and whether it starts a number that is taken
+abbrev entry : tie.Else1 → tie.Start
+entry l = l .before .before .before .before .before
+
+no-letter : (l : tie.Else1) → letter (first (entry l .args .text .now)) ≡ false
+no-letter l = sym (rw (l .before .before .byte-at .ensures) at (l .before .is-letter .ensures)) ∙ l .if1 .left
+
+starts : (n : tie.After-starts-number) → let t = entry (n .before) .args .text .now in
+    n .starts-number .result ≡ (digit (first t) || sign (first t) || point (first t))
+starts n = rw (n .before .before .before .byte-at .ensures) at (n .starts-number .ensures)
 
 byte-at-requires : tie.Need-byte-at-requires
 byte-at-requires c κs = search needs
@@ -12,14 +25,15 @@ byte-at-requires c κs = search needs
 is-letter-requires : tie.Need-is-letter-requires
 is-letter-requires c κs = search needs
 
-read-word-requires : tie.Need-read-word-requires
-read-word-requires c κs = search needs
+find-word-requires : tie.Need-find-word-requires
+find-word-requires c κs = search needs
 
 returns : tie.Need-returns
-unfolding parameter aWord if_then_else_
 returns c =
+    let a = c .before .before .before .before .before .before .args in
     let b = c .before .before .before .byte-at .ensures in
-    rw (sym (rw b at (c .before .before .is-letter .ensures)) ∙ c .before .if1 .taken) (c .read-word .ensures)
+    let letter = sym (rw b at (c .before .before .is-letter .ensures)) ∙ c .before .if1 .taken in
+    c .find-word .ensures ∙ starts-word (takenWords (a .takes)) (a .takes .numbers) (a .text .now) letter
 
 starts-number-requires : tie.Need-starts-number-requires
 starts-number-requires c κs = search needs
@@ -28,20 +42,18 @@ read-figure-requires : tie.Need-read-figure-requires
 read-figure-requires c κs = search needs
 
 returns-2 : tie.Need-returns-2
-unfolding parameter aFigure if_then_else_
 returns-2 c =
-    let b = c .before .before .before .before .before .byte-at .ensures in
-    let letter = sym (rw b at (c .before .before .before .before .is-letter .ensures)) ∙ c .before .before .before .if1 .left in
-    let starts = sym (rw b at (c .before .before .starts-number .ensures)) ∙ c .before .if2 .taken in
-    rw (letter, starts) (c .read-figure .ensures)
+    let n = c .before .before .before in
+    let a = entry (n .before) .args in
+    let taken = rw (starts n) at (c .before .if2 .taken) in
+    c .read-figure .ensures ∙ starts-figure (takenWords (a .takes)) (a .takes .numbers) (a .text .now) (no-letter (n .before)) taken
 
 returns-3 : tie.Need-returns-3
-unfolding parameter if_then_else_
 returns-3 c =
-    let b = c .before .before .before .before .byte-at .ensures in
-    let letter = sym (rw b at (c .before .before .before .is-letter .ensures)) ∙ c .before .before .if1 .left in
-    let starts = sym (rw b at (c .before .starts-number .ensures)) ∙ c .if2 .left in
-    rw (letter, starts)
+    let n = c .before .before in
+    let a = entry (n .before) .args in
+    let left = rw (starts n) at (c .if2 .left) in
+    starts-neither (takenWords (a .takes)) (a .takes .numbers) (a .text .now) (no-letter (n .before)) left
 
 pub read-parameter-spec : {M : Type 1} → statement M
 read-parameter-spec =
@@ -49,7 +61,7 @@ read-parameter-spec =
     (tie.spec
     byte-at-requires
     is-letter-requires
-    read-word-requires
+    find-word-requires
     returns
     starts-number-requires
     read-figure-requires

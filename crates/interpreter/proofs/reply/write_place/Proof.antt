@@ -9,8 +9,8 @@ use Rattle.interpreter.proofs.reply.Words.{place-minus, place-none, pla
 use Rattle.interpreter.proofs.reply.write_place.Statement.{statement}
 use Rattle.interpreter.proofs.reply.write_place.Tie as tie
 
-words-of-requires : tie.Need-words-of-requires
-words-of-requires c κs = search needs
+setting-takes-requires : tie.Need-setting-takes-requires
+setting-takes-requires c κs = search needs
 
 returns : tie.Need-returns
 returns c =
@@ -28,11 +28,11 @@ returns-2 : tie.Need-returns-2
 returns-2 c =
     let s = c .before .before .before .before .before .before in
     let k = toZ-ofZ {w = w32} (s .fits .value) in
-    let span = c .before .before .before .words-of in
+    let takes = c .before .before .before .setting-takes in
     let from = rw k at (c .before .before .if1 .left) in
     let h = rw k at (c .if2 .taken) in
     let ws = wordsOf (kindOf (s .args .row)) in
-    rw (place-none (span .result) ws (span .ensures .words) (s .args .value) from h)
+    rw (place-none (takes .result) ws (takes .ensures .words) (s .args .value) from h)
     (laid-whole (laid-none 0 (s .args .tail .now)))
 
 add-write-word : tie.Need-add-write-word
@@ -49,18 +49,18 @@ returns-3 c =
     let i = c .before .before .before .before .before in
     let s = i .before .before .before .before .before .before in
     let k = toZ-ofZ {w = w32} (s .fits .value) in
-    let span = i .before .before .before .words-of in
+    let takes = i .before .before .before .setting-takes in
     let from = rw k at (i .before .before .if1 .left) in
     let h = rw k at (i .if2 .left) in
     let ws = wordsOf (kindOf (s .args .row)) in
-    rw (place-word (span .result) ws (span .ensures .words) (s .args .value) from h)
+    rw (place-word (takes .result) ws (takes .ensures .words) (s .args .value) from h)
     (rw k at (c .before .before .write-word .ensures))
 
 pub write-place-spec : {M : Type 1} → statement M
 write-place-spec =
     tie.close
     (tie.spec
-    words-of-requires
+    setting-takes-requires
     returns
     cast-place
     returns-2

@@ -5,7 +5,8 @@ use lib.ListN.{length, getD}
 use borrow.Author.Needs.{needs}
 use Rattle.registers.specs.Words.{shortForm}
 use Rattle.interpreter.specs.RowsParts.{wordAt}
-use Rattle.interpreter.proofs.reply.Words.{words-length, word-length, word-read, word-fits}
+use Rattle.interpreter.proofs.header.Words.{words-long}
+use Rattle.interpreter.proofs.reply.Words.{word-length, word-read, word-fits}
 use Rattle.interpreter.proofs.reply.write_word.Statement.{statement}
 use Rattle.interpreter.proofs.reply.write_word.Tie as tie
 
@@ -21,7 +22,7 @@ mul-end c = search needs
 shared-slice-read-end : tie.Need-shared-slice-read-end
 shared-slice-read-end c =
     let p = c .before .before .before .pre in
-    rw (p .0, words-length) (omega arith)
+    rw (p .0, words-long) (omega arith)
 
 cast-end : tie.Need-cast-end
 cast-end c = let s = c .before .before .before in omega (arith, c .shared-slice-known2 .given (s .args .word * 16))
@@ -40,7 +41,7 @@ part-write-text-end c =
     let s = c .before .before .before in
     let e : getD (s .args .words .now) (s .args .word * 16) 0 ≡ length (shortForm (wordAt (s .args .word))) =
     rw (s .pre .0) (word-length (s .args .word) (s .pre .1)) in
-    let l = ap length (s .pre .0) ∙ words-length in
+    let l = ap length (s .pre .0) ∙ words-long in
     let f = word-fits (s .args .word) (s .pre .1) in
     omega arith
 

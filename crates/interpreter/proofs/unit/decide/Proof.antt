@@ -6,9 +6,10 @@ use borrow.Author.Tests.{not-true, not-false, le-leb, lt-leb}
 use Rattle.registers.specs.Check.{check, _>>_}
 use Rattle.interpreter.specs.Parameter.{parameters, least, greatest}
 use Rattle.interpreter.specs.UnitParts.{decided}
+use Rattle.interpreter.proofs.parameter.Cuts.{parts-are}
+use Rattle.interpreter.proofs.parameter.Sorts.{greatest-one}
 use Rattle.interpreter.proofs.unit.Found.{settled-at}
 use Rattle.interpreter.proofs.unit.Laws.{checked, has-empty, not-found, found}
-use Rattle.interpreter.proofs.unit.Parts.{parts-are, greatest-one}
 use Rattle.interpreter.proofs.unit.decide.Statement.{statement}
 use Rattle.interpreter.proofs.unit.decide.Tie as tie
 
@@ -85,7 +86,8 @@ decide-requires : tie.Need-decide-requires
 decide-requires c κs =
     let p = c .before .before .before .before in
     let pre = entry p .pre in
-    (pre .0, rw (p .role-of .ensures) (settled-at (entry p .args .row) (omega arith)))
+    let f = c .before .fewest .ensures in
+    ((pre .0, rw (p .role-of .ensures) (settled-at (entry p .args .row) (omega arith))), (omega arith, few (c .before .before)))
 
 returns-5 : tie.Need-returns-5
 unfolding check _>>_
@@ -96,8 +98,9 @@ returns-5 c =
     let r = p .role-of .result in
     let f = c .before .before .fewest .ensures in
     let m = few (c .before .before .before) in
-    let one = parts-are (a .text .now) (entry p .pre .2) (n .result) (n .ensures) (omega (arith, greatest-one r (a .asked))) in
-    (rw one at (c .decide .ensures))
+    let parts = n .ensures .parts in
+    let one = parts-are (a .text .now) (entry p .pre .2) (omega (arith, greatest-one r (a .asked))) in
+    (rw (parts, one) at (c .decide .ensures))
     ∙ sym (says p ∙ rw (le-leb (parts-of p) (most-of p) m, le-leb (fewest-of p) (parts-of p) (omega arith)))
 
 pub decide-spec : {M : Type 1} → statement M
