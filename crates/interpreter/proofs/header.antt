@@ -1,6 +1,7 @@
 pub mod Greedy
 pub mod Grammar
 pub mod Words
+pub mod Names
 pub mod Rows
 pub mod Walks
 pub mod Search

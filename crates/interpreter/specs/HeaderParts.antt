@@ -2,11 +2,11 @@
 use mathlib.Core.Path.{_≡_}
 use mathlib.Core.Bool.{Bool, true, false, not, _&&_, _||_}
 use mathlib.Core.List.{List, [], _∷_, _++_}
-use Prim.Native.Nat.{ℕ, _+_, _-_, _*_, _≤_}
+use Prim.Native.Nat.{ℕ, suc, _+_, _-_, _*_, _≤_}
 use lib.Dec.{ltb, eqb}
 use lib.Bits.{bitAnd}
 use lib.ListN.{length, getD, take, drop}
-use Rattle.registers.specs.Text.{Text, if_then_else_, letter, wordByte, empty, first, rest}
+use Rattle.registers.specs.Text.{Text, if_then_else_, letter, wordByte, capital, empty, first, rest, start}
 use Rattle.registers.specs.Check.{Checked, refused, passed}
 use Rattle.registers.specs.Words.{Node, must, may, matches}
 use Rattle.interpreter.specs.Cuts.{last, front, cutAt, joinFirst}
@@ -47,10 +47,28 @@ greedy (must w ∷ nodes) (n ∷ names) = if matches w n then greedy nodes names
 greedy (may w ∷ nodes) [] = greedy nodes []
 greedy (may w ∷ nodes) (n ∷ names) = if matches w n then greedy nodes names else greedy nodes (n ∷ names)
 
+-- ---- a word at a name
+
+-- how many first bytes of a text, in capitals, are the letters
+unfoldable pub agreed : Text → Text → ℕ
+agreed [] letters = 0
+agreed (b ∷ bs) [] = 0
+agreed (b ∷ bs) (x ∷ xs) = let more = suc (agreed bs xs) in if eqb (capital b) x then more else 0
+
+-- the name at a place is the word, and what follows it begins at another; or it is not
+abbrev pub WordTaken : ℕ → Text → ℕ → Walk → Type 0
+WordTaken w t at (To n) =
+    (matches (wordAt w) (start inName (drop at t)) ≡ true) × (named (drop at t) ≡ start inName (drop at t) ∷ named (drop n t)) × (n ≤ length t)
+WordTaken w t at Missed = matches (wordAt w) (start inName (drop at t)) ≡ false
+
 -- ---- cells of the tables
 
 unfoldable pub wordCell : ℕ → ℕ → ℕ
 wordCell w i = getD wordTable (w * 16 + i) 0
+
+-- the length of one of a word's forms
+unfoldable pub formLength : ℕ → ℕ → Bool
+formLength w n = eqb n (wordCell w 0) || eqb n (wordCell w 1)
 
 unfoldable pub rowCell : ℕ → ℕ → ℕ
 rowCell r i = getD rowTable (r * 8 + i) 0

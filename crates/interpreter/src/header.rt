@@ -6,13 +6,13 @@ use registers::text;
 ghost use mathlib.Core.Path.{_≡_};
 ghost use mathlib.Core.Bool.{true, not};
 ghost use Prim.Native.Nat.{_+_, _≤_, _<_};
-ghost use lib.ListN.{length, take, drop};
+ghost use lib.ListN.{length, take};
 ghost use lib.Dec.{eqb};
-ghost use Rattle.registers.specs.Text.{start};
-ghost use Rattle.registers.specs.Words.{matches};
+ghost use Rattle.registers.specs.Text.{capital, first};
+ghost use Rattle.registers.specs.Words.{longForm, matches};
 ghost use Rattle.interpreter.specs.Header.{asks};
 ghost use Rattle.interpreter.specs.RowsParts.{rowTable, wordTable, wordAt, rowOf};
-ghost use Rattle.interpreter.specs.HeaderParts.{named, inName, closed, pathOf, wordCell, rowCell, wordIn, nodeOf, leftOut, Walked, formBit, formed, nameByte, well, bodyOf, HeadingRead, EnteredAt, LookedUp};
+ghost use Rattle.interpreter.specs.HeaderParts.{named, closed, pathOf, wordCell, rowCell, agreed, formLength, WordTaken, wordIn, nodeOf, leftOut, Walked, formBit, formed, nameByte, well, bodyOf, HeadingRead, EnteredAt, LookedUp};
 
 // How many rows there are.
 pub(crate) const ROWS: usize = 33;
@@ -62,21 +62,6 @@ fn row_cell(rows: &[u8], row: usize, i: usize) -> u8
     rows[row * 8 + i]
 }
 
-// Where the name that starts at a place ends.
-fn name_end(text: &[u8], at: usize) -> usize
-    requires { ⌜ at ≤ length (now text) ⌝ }
-    ensures { λ r. ⌜ (r ≡ at + length (start inName (drop at (now (text .entry))))) × (r ≤ length (now (text .entry))) ⌝ }
-{
-    let mut i = at;
-    while i < text.len() {
-        if text[i] == 58 {
-            return i;
-        }
-        i += 1;
-    }
-    i
-}
-
 // Whether a name spells a word, in its short or its long form.
 pub(crate) fn is_word(words: &[u8], name: &[u8], word: usize) -> bool
     requires { ⌜ (now words ≡ wordTable) × (word < 52) ⌝ }
@@ -118,27 +103,74 @@ fn left_out(node: u8, at: usize) -> Walk
     }
 }
 
-// Takes a row's node at the name that starts at a place, or leaves it out if it is optional. Most
-// names differ from a word in the first letter, so that is compared before the name's end is sought.
+// Whether a word's short or its long form has so many letters.
+fn has_length(words: &[u8], word: usize, n: usize) -> bool
+    requires { ⌜ (now words ≡ wordTable) × (word < 52) ⌝ }
+    ensures { λ r. ⌜ r ≡ formLength word n ⌝ }
+{
+    let short = word_cell(words, word, 0) as usize;
+    let long = word_cell(words, word, 1) as usize;
+    (n == short) | (n == long)
+}
+
+// How many first bytes of a text are a word's letters, in any letter case. The first has been compared
+// by the caller: the walk goes on behind it.
+fn agreed_letters(words: &[u8], text: &[u8], word: usize) -> usize
+    requires { ⌜ (now words ≡ wordTable) × (word < 52) ⌝ }
+    requires { ⌜ (0 < length (now text)) × (capital (first (now text)) ≡ wordCell word 2) ⌝ }
+    ensures { λ r. ⌜ r ≡ agreed (now (text .entry)) (longForm (wordAt word)) ⌝ }
+{
+    let long = word_cell(words, word, 1) as usize;
+    let mut n: usize = 1;
+    while n < text.len() {
+        if long <= n {
+            return n;
+        }
+        if text::in_capitals(text[n]) != word_cell(words, word, n + 2) {
+            return n;
+        }
+        n += 1;
+    }
+    n
+}
+
+// Takes a word as the name at a place, with the colon behind it. No letter is a colon, so one walk over
+// the letters finds the name's end too. Most names differ from a word in the first letter, so that is
+// compared before the walk begins.
+fn take_word(words: &[u8], text: &[u8], at: usize, word: usize) -> Walk
+    requires { ⌜ (now words ≡ wordTable) × (word < 52) ⌝ }
+    ensures { λ r. ⌜ WordTaken word (now (text .entry)) at r ⌝ }
+{
+    if text.len() <= at {
+        return Walk::Missed;
+    }
+    if text::in_capitals(text[at]) != word_cell(words, word, 2) {
+        return Walk::Missed;
+    }
+    let n = agreed_letters(words, &text[at..], word);
+    if !has_length(words, word, n) {
+        return Walk::Missed;
+    }
+    let end = at + n;
+    if text.len() <= end {
+        return Walk::To(end);
+    }
+    if text[end] == 58 {
+        return Walk::To(end + 1);
+    }
+    Walk::Missed
+}
+
+// Takes a row's node at the name that starts at a place, or leaves it out if it is optional.
 fn take_node(words: &[u8], text: &[u8], at: usize, node: u8) -> Walk
     requires { ⌜ (now words ≡ wordTable) × (at ≤ length (now text)) × (wordIn node < 52) ⌝ }
     ensures { λ r. ⌜ Walked (nodeOf node) (now (text .entry)) at r ⌝ }
 {
-    let word = word_in(node);
-    if text.len() <= at {
-        return left_out(node, at);
+    let walk = take_word(words, text, at, word_in(node));
+    match walk {
+        Walk::To(place) => Walk::To(place),
+        Walk::Missed => left_out(node, at),
     }
-    if text::in_capitals(text[at]) != word_cell(words, word, 2) {
-        return left_out(node, at);
-    }
-    let e = name_end(text, at);
-    if !is_word(words, &text[at..e], word) {
-        return left_out(node, at);
-    }
-    if e < text.len() {
-        return Walk::To(e + 1);
-    }
-    Walk::To(e)
 }
 
 // A header's form as a bit.

@@ -7,10 +7,10 @@ use Prim.Native.String.{String}
 use native.Mathlib.Numerals.{add-one}
 use native.Mathlib.Omega.{arith}
 use lib.Dec.{eqb, ltb}
-use lib.ListN.{length, getD, take, drop, length-append, length-take, length-map, length-replicate, drop-of-length-le, replicate}
+use lib.ListN.{length, getD, take, drop, length-append, length-take, length-map, length-replicate, drop-of-length-le, replicate, List·getD-append}
 use lib.Seq.{drop-cons, drop-drop, take-append-le, take-append-seam}
 use borrow.Author.Tests.{eq-eqb, ne-eqb, eqb-true, eqb-false, ltb-true}
-use Rattle.registers.specs.Text.{Text, if_then_else_, bytes, small, capital, first, rest, same, every, start}
+use Rattle.registers.specs.Text.{Text, if_then_else_, bytes, small, capital, first, rest, same, every}
 use Rattle.registers.specs.Words.{shortForm, longForm, matches}
 use Rattle.registers.proofs.Tests.{and-fails}
 use Rattle.registers.proofs.text.Laws.{first-at, rest-at}
@@ -52,7 +52,8 @@ form-is t l n h = go (eqb (length t) n) refl
 
 -- ---- the table
 
--- the tests over all words: each has a row of sixteen bytes, its long form starts with its short one, and that is not empty
+-- the tests over all words: each has a row of sixteen bytes, its long form starts with its short one, that is not
+-- empty, and no letter is a colon
 abbrev wide : String → Bool
 wide w = eqb (length (wordRow w)) 16
 
@@ -61,6 +62,9 @@ starts w = same (shortForm w) (take (length (shortForm w)) (longForm w))
 
 abbrev some : String → Bool
 some w = ltb 0 (length (shortForm w))
+
+abbrev plain : String → Bool
+plain w = every inName (longForm w)
 
 rows-wide : every wide wordList ≡ true
 unfolding wordList wordRow shortForm longForm bytes small capital if_then_else_
@@ -73,6 +77,10 @@ short-starts = refl
 short-not-empty : every some wordList ≡ true
 unfolding wordList shortForm bytes small if_then_else_
 short-not-empty = refl
+
+letters-plain : every plain wordList ≡ true
+unfolding wordList longForm bytes small capital if_then_else_
+letters-plain = refl
 
 words-many : length wordList ≡ 52
 unfolding wordList
@@ -110,11 +118,11 @@ module _ (w : ℕ) (h : w < 52) where
   unfolding wordTable wordTableOf wordAt wordCell
   cell i = cell-at wordRow 16 wordTableOf refl (λ x xs. refl) wordList rows-wide w "" within i
 
-  short-cell : wordCell w 0 ≡ length short
+  pub short-cell : wordCell w 0 ≡ length short
   unfolding wordRow
   short-cell = cell 0
 
-  long-cell : wordCell w 1 ≡ length long
+  pub long-cell : wordCell w 1 ≡ length long
   unfolding wordRow
   long-cell = cell 1
 
@@ -122,7 +130,7 @@ module _ (w : ℕ) (h : w < 52) where
   unfolding letters wordRow zeros
   letters-are = sym (drop-drop 2 (w * 16) wordTable) ∙ ap (drop 2) row-at ∙ append-assoc long zeros (wordTableOf (drop (suc w) wordList))
 
-  long-small : length long ≤ 14
+  pub long-small : length long ≤ 14
   unfolding wordRow wordAt
   long-small =
       let e : length (wordRow (wordAt w)) ≡ 16 = eqb-true (length (wordRow (wordAt w))) 16 (every-at wide wordList w "" rows-wide within) in
@@ -130,15 +138,19 @@ module _ (w : ℕ) (h : w < 52) where
       let z = length-replicate {A = ℕ} (14 - length long) 0 in
       omega arith
 
-  short-is : short ≡ take (length short) long
+  pub short-is : short ≡ take (length short) long
   unfolding wordAt
   short-is = same-eq short (take (length short) long) (every-at starts wordList w "" short-starts within)
 
-  short-some : 0 < length short
+  pub short-some : 0 < length short
   unfolding wordAt
   short-some = ltb-true 0 (length short) (every-at some wordList w "" short-not-empty within)
 
-  short-small : length short ≤ length long
+  pub long-plain : every inName long ≡ true
+  unfolding wordAt
+  long-plain = every-at plain wordList w "" letters-plain within
+
+  pub short-small : length short ≤ length long
   short-small = let e = ap length short-is ∙ length-take (length short) long in omega arith
 
   room : length long ≤ length (letters w)
@@ -205,21 +217,12 @@ letter-at w i =
     let e : w * 16 + 2 + i ≡ w * 16 + (i + 2) = omega arith in
     rw (drop-drop i (w * 16 + 2) wordTable, e) (first-at wordTable (w * 16 + (i + 2)))
 
--- a name that doesn't begin with the word's first letter, or that is empty
-pub first-miss : (b : ℕ) (bs : Text) (w : ℕ) → w < 52 → (capital b ≡ wordCell w 2 → ⊥) → matches (wordAt w) (start inName (b ∷ bs)) ≡ false
-unfolding if_then_else_ agrees
-first-miss b bs w h ne = go (inName b)
-  where
-    go : (e : Bool) → matches (wordAt w) (if e then b ∷ start inName bs else []) ≡ false
-    go true =
-        let n = b ∷ start inName bs in
-        word-is n w h ∙ and-fails (not (neither n w)) (agrees n (letters w)) (rw (letter-at w 0, ne-eqb (capital b) (wordCell w 2) ne))
-    go false =
-        let k = short-some w h in
-        let s = short-small w h in
-        let a = short-cell w h in
-        let b = long-cell w h in
-        word-no [] w h (rw (ne-eqb 0 (wordCell w 0) (λ e. omega arith), ne-eqb 0 (wordCell w 1) (λ e. omega arith)))
+-- a letter of the long form
+pub long-at : (w : ℕ) → w < 52 → (i : ℕ) → i < length (longForm (wordAt w)) → getD (longForm (wordAt w)) i 0 ≡ wordCell w (i + 2)
+long-at w h i l =
+    let long = longForm (wordAt w) in
+    sym (List·getD-append long (zeros w h ++ wordTableOf (drop (suc w) wordList)) 0 i l)
+    ∙ ap (λ (m : Text). getD m i 0) (sym (letters-are w h)) ∙ sym (first-at (letters w) i) ∙ letter-at w i
 
 -- a name as long as one of the word's forms, compared with the word's letters up to a place
 pub record Spelling (t : Text) (w i : ℕ) : Type 0 where
