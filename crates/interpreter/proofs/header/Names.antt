@@ -1,170 +1,121 @@
--- Laws of a word at a name: how far a text agrees with the word's letters tells whether its first name spells the word, and where
--- that name ends.
+-- Laws of a word at the name that starts at a place, by how many bytes from there on are the word's letters.
 use mathlib.Core.Path.{_≡_, refl, sym, _∙_, ap}
-use mathlib.Core.Bool.{Bool, true, false, _&&_, _||_}
-use mathlib.Core.List.{[], _∷_, map}
-use Prim.Native.Nat.{ℕ, zero, suc, _+_, _≤_, _<_}
-use native.Mathlib.Numerals.{add-one}
+use mathlib.Core.Bool.{Bool, true, false, not, _&&_}
+use mathlib.Core.List.{List, [], _∷_, map}
+use Prim.Native.Nat.{ℕ, suc, _+_, _-_, _≤_, _<_}
 use native.Mathlib.Omega.{arith}
-use lib.Dec.{eqb, eqb·zero-suc, eqb·suc-zero, eqb·suc-suc}
-use lib.ListN.{length, getD, take, drop, length-map}
-use lib.Seq.{drop-cons, length-take-le, take-length}
-use borrow.Author.Tests.{eq-eqb, ne-eqb, eqb-true, eqb-false, not-true, not-false}
-use Rattle.registers.specs.Text.{Text, if_then_else_, small, capital, empty, first, same, every, start}
-use Rattle.registers.specs.Words.{shortForm, longForm, matches}
-use Rattle.registers.proofs.Tests.{and-both}
-use Rattle.registers.proofs.text.Laws.{first-at}
+use lib.Dec.{eqb}
+use lib.ListN.{length, getD, take, drop, length-map, length-drop, drop-of-length-le}
+use lib.Seq.{drop-cons, drop-drop, length-take-le}
+use borrow.Author.Tests.{eq-eqb, ne-eqb, eqb-true, not-false}
+use Rattle.registers.specs.Text.{Text, if_then_else_, small, capital, empty, first, rest, same, start, after}
+use Rattle.registers.specs.Words.{longForm, matches}
+use Rattle.registers.proofs.Tests.{and-fails}
+use Rattle.registers.proofs.text.Laws.{first-at, rest-at, start-more, start-stop, start-end, end-drop}
+use Rattle.interpreter.specs.Cuts.{joinFirst}
 use Rattle.interpreter.specs.RowsParts.{wordAt}
-use Rattle.interpreter.specs.HeaderParts.{inName, agreed, wordCell, formLength}
+use Rattle.interpreter.specs.HeaderParts.{named, inName, agreed, wordCell, formLength, WordTaken}
+use Rattle.interpreter.specs.declared.header.Walk.the-variants.{To, Missed}
+use Rattle.interpreter.proofs.Lists.{rest-is}
 use Rattle.interpreter.proofs.header.Greedy.{same-eq}
-use Rattle.interpreter.proofs.header.Words.{short-cell, long-cell, short-is, short-some, short-small, long-small, long-plain, long-at}
+use Rattle.interpreter.proofs.header.Words.{forms, long-plain}
+use Rattle.interpreter.proofs.header.Letters.{agreed-most, form-is, word-is, first-miss}
 
--- ---- a text and letters of which none is a colon
-
-pub agreed-most : (t l : Text) → (agreed t l ≤ length t) × (agreed t l ≤ length l)
-unfolding agreed if_then_else_
-agreed-most [] l = (omega arith, omega arith)
-agreed-most (b ∷ bs) [] = (omega arith, omega arith)
-agreed-most (b ∷ bs) (x ∷ xs) = go (eqb (capital b) x) (agreed-most bs xs)
+-- a text that is not empty has a first name, and the names behind its colon
+pub named-cons : (b : ℕ) (bs : Text) → named (b ∷ bs) ≡ start inName (b ∷ bs) ∷ named (rest (after inName (b ∷ bs)))
+unfolding named if_then_else_
+named-cons b [] = go (eqb b 58)
   where
-    go : (e : Bool) → (agreed bs xs ≤ length bs) × (agreed bs xs ≤ length xs)
-        → ((if e then suc (agreed bs xs) else 0) ≤ suc (length bs)) × ((if e then suc (agreed bs xs) else 0) ≤ suc (length xs))
-    go true m = (omega arith, omega arith)
-    go false m = (omega arith, omega arith)
-
-colon-stops : (b : ℕ) (bs l : Text) → inName b ≡ false → every inName l ≡ true → agreed (b ∷ bs) l ≡ 0
-unfolding agreed if_then_else_ capital small
-colon-stops b bs [] q e = refl
-colon-stops b bs (x ∷ l) q e =
-    let c = eqb-true b 58 (not-false _ q) in
-    let ne = eqb-false x 58 (not-true _ (and-both (inName x) (every inName l) e .0)) in
-    rw (c, ne-eqb 58 x (λ z. ne (sym z)))
-
--- the first name is the first k letters exactly if so many agree and it ends there
-abbrev Form : Text → Text → ℕ → Type 0
-Form t l k = same (map capital (start inName t)) (take k l) ≡ (eqb (agreed t l) k && empty (start inName (drop (agreed t l) t)))
-
-form-none : (t l : Text) (k : ℕ) → k ≤ length l → start inName t ≡ [] → agreed t l ≡ 0 → Form t l k
-unfolding same
-form-none t l zero h e z = rw (z, e)
-form-none t [] (suc k) h e z = absurd (omega arith)
-form-none t (x ∷ l) (suc k) h e z = rw (z, e, eqb·zero-suc k)
-
-form-more : (b : ℕ) (bs l : Text) (k : ℕ) → k ≤ length l → every inName l ≡ true → inName b ≡ true
-    → ((l : Text) (k : ℕ) → k ≤ length l → every inName l ≡ true → Form bs l k) → Form (b ∷ bs) l k
-unfolding same agreed if_then_else_
-form-more b bs [] zero h e q ih = rw q
-form-more b bs (x ∷ l) zero h e q ih = rw q (go (eqb (capital b) x))
+    go : (e : Bool) → (if e then [] ∷ [] else (b ∷ []) ∷ []) ≡ (if not e then b ∷ [] else []) ∷ named (rest (if not e then [] else b ∷ []))
+    go true = refl
+    go false = refl
+named-cons b (x ∷ bs) = go (eqb b 58) (named-cons x bs)
   where
-    go : (c : Bool) → false ≡ (eqb (if c then suc (agreed bs l) else 0) 0 && empty (start inName (drop (if c then suc (agreed bs l) else 0) (b ∷ bs))))
-    go true = rw (eqb·suc-zero (agreed bs l))
-    go false = rw q
-form-more b bs [] (suc k) h e q ih = absurd (omega arith)
-form-more b bs (x ∷ l) (suc k) h e q ih = rw q (go (eqb (capital b) x))
-  where
-    go : (c : Bool) → (c && same (map capital (start inName bs)) (take k l))
-        ≡ (eqb (if c then suc (agreed bs l) else 0) (suc k) && empty (start inName (drop (if c then suc (agreed bs l) else 0) (b ∷ bs))))
-    go true = rw (eqb·suc-suc (agreed bs l) k) (ih l k (omega arith) (and-both (inName x) (every inName l) e .1))
-    go false = rw (eqb·zero-suc k)
+    go : (e : Bool) → named (x ∷ bs) ≡ start inName (x ∷ bs) ∷ named (rest (after inName (x ∷ bs)))
+        → (if e then [] ∷ named (x ∷ bs) else joinFirst b (named (x ∷ bs)))
+        ≡ (if not e then b ∷ start inName (x ∷ bs) else []) ∷ named (rest (if not e then after inName (x ∷ bs) else b ∷ x ∷ bs))
+    go true ih = refl
+    go false ih = ap (joinFirst b) ih
 
-form-is : (t l : Text) (k : ℕ) → k ≤ length l → every inName l ≡ true → Form t l k
-unfolding agreed if_then_else_
-form-is [] l k h e = form-none [] l k h refl refl
-form-is (b ∷ bs) l k h e = go (inName b) refl (form-is bs)
-  where
-    go : (c : Bool) → inName b ≡ c → ((l : Text) (k : ℕ) → k ≤ length l → every inName l ≡ true → Form bs l k) → Form (b ∷ bs) l k
-    go true q ih = form-more b bs l k h e q ih
-    go false q ih = form-none (b ∷ bs) l k h (rw q) (colon-stops b bs l q e)
+colon-kept : (b : ℕ) → inName b ≡ false → inName (capital b) ≡ false
+unfolding capital small if_then_else_
+colon-kept b q = let e = eqb-true b 58 (not-false _ q) in rw e
 
--- ---- a text and a word
+-- a name that ends where it agrees no longer has just the bytes that agree
+name-length : (t : Text) (w : ℕ) → w < 52
+    → let n = agreed t (longForm (wordAt w)) in
+    start inName (drop n t) ≡ [] → length (start inName t) ≡ n
+name-length t w h e =
+    let long = longForm (wordAt w) in
+    let n = agreed t long in
+    let name = start inName t in
+    let m = agreed-most t long .1 in
+    let f : same (map capital name) (take n long) ≡ true = form-is inName colon-kept t long n m (long-plain w h) ∙ rw (e, eq-eqb n n refl) in
+    sym (length-map name capital) ∙ ap length (same-eq (map capital name) (take n long) f) ∙ length-take-le n long m
 
-module _ (t : Text) (w : ℕ) (h : w < 52) where
-  abbrev long : Text
-  long = longForm (wordAt w)
+length-none : (w : ℕ) → w < 52 → formLength w 0 ≡ false
+unfolding formLength
+length-none w h = let f = forms w h in rw (ne-eqb 0 (wordCell w 0) (λ e. omega arith), ne-eqb 0 (wordCell w 1) (λ e. omega arith))
 
-  abbrev name : Text
-  name = start inName t
-
-  pub name-is : matches (wordAt w) name ≡ (formLength w (agreed t long) && empty (start inName (drop (agreed t long) t)))
-  unfolding matches formLength
-  name-is =
-      let s = short-small w h in
-      let a = ap (same (map capital name)) (short-is w h) ∙ form-is t long (length (shortForm (wordAt w))) s (long-plain w h) in
-      let b = ap (same (map capital name)) (sym (take-length long)) ∙ form-is t long (length long) (omega arith) (long-plain w h) in
-      rw (short-cell w h, long-cell w h, a, b)
-      (go (eqb (agreed t long) (length (shortForm (wordAt w)))) (eqb (agreed t long) (length long)) (empty (start inName (drop (agreed t long) t))))
-    where
-      go : (a b c : Bool) → ((a && c) || (b && c)) ≡ ((a || b) && c)
-      go true b true = refl
-      go true true false = refl
-      go true false false = refl
-      go false b c = refl
-
-  pub name-length : start inName (drop (agreed t long) t) ≡ [] → length name ≡ agreed t long
-  name-length e =
-      let n = agreed t long in
-      let m = agreed-most t long .1 in
-      let f : same (map capital name) (take n long) ≡ true = form-is t long n m (long-plain w h) ∙ rw (e, eq-eqb n n refl) in
-      sym (length-map name capital) ∙ ap length (same-eq (map capital name) (take n long) f) ∙ length-take-le n long m
-
--- neither form is empty
-module _ (w : ℕ) (h : w < 52) where
-  some : 0 < wordCell w 1
-  some = let c = long-cell w h in let k = short-some w h in let m = short-small w h in omega arith
-
-  pub length-none : formLength w 0 ≡ false
-  unfolding formLength
-  length-none =
-      let k = short-some w h in
-      let a = short-cell w h in
-      let l = some in
-      rw (ne-eqb 0 (wordCell w 0) (λ e. omega arith), ne-eqb 0 (wordCell w 1) (λ e. omega arith))
-
--- ---- the walk over the letters
-
--- so many first bytes of the text are the word's letters, and the rest is to be compared
-pub record Agreeing (t : Text) (w n : ℕ) : Type 0 where
+-- a name is there, and so many bytes of it are the word's letters
+pub record Compared (t : Text) (at w n : ℕ) : Type 0 where
   pub word : w < 52
-  pub most : wordCell w 1 ≤ 14
-  pub all : n + agreed (drop n t) (drop n (longForm (wordAt w))) ≡ agreed t (longForm (wordAt w))
+  pub some : at < length t
+  pub is : n ≡ agreed (drop at t) (longForm (wordAt w))
 
-agreeing-none : (t : Text) (w : ℕ) → w < 52 → Agreeing t w 0
-agreeing-none t w h = record { word = h; most = let c = long-cell w h in let m = long-small w h in omega arith; all = omega arith }
+spelled : (t : Text) (at w n : ℕ) → w < 52 → n ≡ agreed (drop at t) (longForm (wordAt w))
+    → matches (wordAt w) (start inName (drop at t)) ≡ (formLength w n && empty (start inName (drop (at + n) t)))
+spelled t at w n h is = word-is inName colon-kept (drop at t) w h (long-plain w h) ∙ rw (sym is, drop-drop n at t)
 
-module _ {t : Text} {w n : ℕ} (s : Agreeing t w n) where
-  abbrev letters : Text
-  letters = longForm (wordAt w)
+module _ (t : Text) (at w : ℕ) (h : w < 52) where
+  none-here : 0 ≡ agreed (drop at t) (longForm (wordAt w)) → WordTaken w t at Missed
+  none-here e = spelled t at w 0 h e ∙ rw (length-none w h)
 
-  pub agreeing-on : n < length t → n < wordCell w 1 → capital (getD t n 0) ≡ wordCell w (n + 2) → Agreeing t w (n + 1)
-  unfolding agreed if_then_else_
-  agreeing-on l m e =
-      let c = long-cell w (s .word) in
-      let k : n < length letters = omega arith in
-      let q : agreed (drop n t) (drop n letters) ≡ suc (agreed (drop (suc n) t) (drop (suc n) letters)) =
-      rw (drop-cons t n 0 l, drop-cons letters n 0 k, eq-eqb (capital (getD t n 0)) (getD letters n 0) (e ∙ sym (long-at w (s .word) n k))) in
-      let r = s .all in
-      record { word = s .word; most = s .most; all = rw add-one (omega arith) }
+  pub end-here : length t ≤ at → WordTaken w t at Missed
+  unfolding agreed
+  end-here l = none-here (rw (drop-of-length-le t l))
 
-  pub agreeing-miss : n < length t → n < wordCell w 1 → (capital (getD t n 0) ≡ wordCell w (n + 2) → ⊥) → n ≡ agreed t letters
-  unfolding agreed if_then_else_
-  agreeing-miss l m ne =
-      let c = long-cell w (s .word) in
-      let k : n < length letters = omega arith in
-      let q : agreed (drop n t) (drop n letters) ≡ 0 =
-      rw (drop-cons t n 0 l, drop-cons letters n 0 k, ne-eqb (capital (getD t n 0)) (getD letters n 0) (λ e. ne (e ∙ long-at w (s .word) n k))) in
-      let r = s .all in
-      omega arith
+  module _ (l : at < length t) where
+    pub first-out : (capital (getD t at 0) ≡ wordCell w 2 → ⊥) → WordTaken w t at Missed
+    first-out ne = none-here (first-miss (drop at t) w h (omega (arith, length-drop at t)) (λ e. ne (ap capital (sym (first-at t at)) ∙ e)))
 
-  pub agreeing-end : length t ≤ n → n ≡ agreed t letters
-  agreeing-end l = let m = agreed-most t letters .0 in let r = s .all in omega arith
+    pub first-in : capital (getD t at 0) ≡ wordCell w 2
+        → (0 < length (take (length t - at) (drop at t))) × (capital (first (take (length t - at) (drop at t))) ≡ wordCell w 2)
+    first-in e = rw (rest-is t at (omega arith)) (omega (arith, length-drop at t), ap capital (first-at t at) ∙ e)
 
-  pub agreeing-full : wordCell w 1 ≤ n → n ≡ agreed t letters
-  agreeing-full l = let c = long-cell w (s .word) in let m = agreed-most t letters .1 in let r = s .all in omega arith
+    pub compared : (n : ℕ) → n ≡ agreed (take (length t - at) (drop at t)) (longForm (wordAt w)) → Compared t at w n
+    compared n e = record { word = h; some = l; is = rw (rest-is t at (omega arith)) at e }
 
--- the first letter, which is compared before the walk
-module _ (t : Text) (w : ℕ) (h : w < 52) (l : 0 < length t) where
-  pub agreeing-start : capital (first t) ≡ wordCell w 2 → Agreeing t w 1
-  agreeing-start e = agreeing-on (agreeing-none t w h) l (some w h) (ap capital (sym (first-at t 0)) ∙ e)
+module _ {t : Text} {at w n : ℕ} (c : Compared t at w n) where
+  pub end-within : at + n ≤ length t
+  end-within = let m = agreed-most (drop at t) (longForm (wordAt w)) .0 in omega (arith, length-drop at t)
 
-  pub first-miss : (capital (first t) ≡ wordCell w 2 → ⊥) → 0 ≡ agreed t (longForm (wordAt w))
-  first-miss ne = agreeing-miss (agreeing-none t w h) l (some w h) (λ e. ne (ap capital (first-at t 0) ∙ e))
+  pub length-out : formLength w n ≡ false → WordTaken w t at Missed
+  length-out e = spelled t at w n (c .word) (c .is) ∙ rw e
+
+  pub end-out : at + n < length t → (getD t (at + n) 0 ≡ 58 → ⊥) → WordTaken w t at Missed
+  end-out l ne =
+      spelled t at w n (c .word) (c .is)
+      ∙ and-fails (formLength w n) (empty (start inName (drop (at + n) t)))
+      (rw (start-more inName t (at + n) l (ap not (ne-eqb (getD t (at + n) 0) 58 ne))))
+
+  module _ (f : formLength w n ≡ true) where
+    taken : start inName (drop (at + n) t) ≡ [] → (next : ℕ) → next ≤ length t → named (drop next t) ≡ named (drop (at + n + 1) t)
+        → WordTaken w t at (To next)
+    taken e next l d =
+        let z = name-length (drop at t) w (c .word) (rw (sym (c .is), drop-drop n at t) e) in
+        let q : at + n ≡ at + length (start inName (drop at t)) = omega arith in (
+          spelled t at w n (c .word) (c .is) ∙ rw (f, e),
+          rw (drop-cons t at 0 (c .some)) (named-cons (getD t at 0) (drop (suc at) t))
+              ∙ ap (λ (u : Text). start inName (drop at t) ∷ named u) (ap rest (sym (end-drop inName t at (at + n) q)) ∙ rest-at t (at + n))
+              ∙ ap (λ (ns : List Text). start inName (drop at t) ∷ ns) (sym d),
+          l,
+        )
+
+    pub taken-last : length t ≤ at + n → WordTaken w t at (To (at + n))
+    taken-last l =
+        let k : length t ≤ at + n + 1 = omega arith in
+        taken (start-end inName t (at + n) l) (at + n) end-within (rw (drop-of-length-le t l, drop-of-length-le t k))
+
+    pub taken-colon : at + n < length t → getD t (at + n) 0 ≡ 58 → WordTaken w t at (To (at + n + 1))
+    taken-colon l e = taken (start-stop inName t (at + n) l (ap not (eq-eqb (getD t (at + n) 0) 58 e))) (at + n + 1) (omega arith) refl

@@ -17,7 +17,7 @@ use Rattle.interpreter.specs.HeaderParts.{named, greedy, nodeOf, rowCell
 use Rattle.interpreter.specs.declared.header.Walk.{Walk}
 use Rattle.interpreter.specs.declared.header.Walk.the-variants.{To, Missed}
 use Rattle.interpreter.proofs.header.Rows.{rows-many, none, rowAt, nodesBefore, count-cell, shared-most, shared-nodes, nodes-fit, nodes-up, fits-is}
-use Rattle.interpreter.proofs.header.Walks.{named-cons}
+use Rattle.interpreter.proofs.header.Names.{named-cons}
 
 -- ---- over the rows
 

@@ -3,7 +3,7 @@ use Prim.Native.Nat.{_-_}
 use native.Mathlib.Omega.{arith}
 use lib.ListN.{length}
 use borrow.Author.Needs.{needs}
-use Rattle.interpreter.proofs.header.Names.{Agreeing, agreeing-start, agreeing-on, agreeing-miss, agreeing-end, agreeing-full}
+use Rattle.interpreter.proofs.header.Letters.{Agreeing, agreeing-start, agreeing-on, agreeing-miss, agreeing-end, agreeing-full}
 use Rattle.interpreter.proofs.header.agreed_letters.Statement.{statement}
 use Rattle.interpreter.proofs.header.agreed_letters.Tie as tie
 

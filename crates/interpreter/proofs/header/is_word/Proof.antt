@@ -2,7 +2,7 @@ use mathlib.Core.Path.{sym, _∙_}
 use Prim.Native.Nat.{_-_}
 use native.Mathlib.Omega.{arith}
 use borrow.Author.Needs.{needs}
-use Rattle.interpreter.proofs.header.Words.{Spelling, spelling-start, spelling-on, spelling-miss, spelling-end, word-no}
+use Rattle.interpreter.proofs.header.Spelling.{Spelling, spelling-start, spelling-on, spelling-miss, spelling-end, word-no}
 use Rattle.interpreter.proofs.header.is_word.Statement.{statement}
 use Rattle.interpreter.proofs.header.is_word.Tie as tie
 

@@ -2,7 +2,7 @@ use mathlib.Core.Path.{sym, _∙_}
 use native.Mathlib.Omega.{arith}
 use borrow.Author.Tests.{not-true, not-false}
 use borrow.Author.Needs.{needs}
-use Rattle.interpreter.proofs.header.Walks.{Compared, end-here, first-out, first-in, compared, end-within, length-out, end-out, taken-last, taken-colon}
+use Rattle.interpreter.proofs.header.Names.{Compared, end-here, first-out, first-in, compared, end-within, length-out, end-out, taken-last, taken-colon}
 use Rattle.interpreter.proofs.header.take_word.Statement.{statement}
 use Rattle.interpreter.proofs.header.take_word.Tie as tie
 
