@@ -62,27 +62,6 @@ fn row_cell(rows: &[u8], row: usize, i: usize) -> u8
     rows[row * 8 + i]
 }
 
-// Whether a name spells a word, in its short or its long form.
-pub(crate) fn is_word(words: &[u8], name: &[u8], word: usize) -> bool
-    requires { ⌜ (now words ≡ wordTable) × (word < 52) ⌝ }
-    ensures { λ r. ⌜ r ≡ matches (wordAt word) (now (name .entry)) ⌝ }
-{
-    let n = name.len();
-    let short = word_cell(words, word, 0) as usize;
-    let long = word_cell(words, word, 1) as usize;
-    if (n != short) & (n != long) {
-        return false;
-    }
-    let mut i: usize = 0;
-    while i < n {
-        if text::in_capitals(name[i]) != word_cell(words, word, i + 2) {
-            return false;
-        }
-        i += 1;
-    }
-    true
-}
-
 fn word_in(node: u8) -> usize
     ensures { λ r. ⌜ r ≡ wordIn node ⌝ }
 {
@@ -113,15 +92,13 @@ fn has_length(words: &[u8], word: usize, n: usize) -> bool
     (n == short) | (n == long)
 }
 
-// How many first bytes of a text are a word's letters, in any letter case. The first has been compared
-// by the caller: the walk goes on behind it.
+// How many first bytes of a text are a word's letters, in any letter case.
 fn agreed_letters(words: &[u8], text: &[u8], word: usize) -> usize
     requires { ⌜ (now words ≡ wordTable) × (word < 52) ⌝ }
-    requires { ⌜ (0 < length (now text)) × (capital (first (now text)) ≡ wordCell word 2) ⌝ }
     ensures { λ r. ⌜ r ≡ agreed (now (text .entry)) (longForm (wordAt word)) ⌝ }
 {
     let long = word_cell(words, word, 1) as usize;
-    let mut n: usize = 1;
+    let mut n: usize = 0;
     while n < text.len() {
         if long <= n {
             return n;
@@ -132,6 +109,15 @@ fn agreed_letters(words: &[u8], text: &[u8], word: usize) -> usize
         n += 1;
     }
     n
+}
+
+// Whether a name spells a word, in its short or its long form.
+pub(crate) fn is_word(words: &[u8], name: &[u8], word: usize) -> bool
+    requires { ⌜ (now words ≡ wordTable) × (word < 52) ⌝ }
+    ensures { λ r. ⌜ r ≡ matches (wordAt word) (now (name .entry)) ⌝ }
+{
+    let n = agreed_letters(words, name, word);
+    (n == name.len()) & has_length(words, word, n)
 }
 
 // Takes a word as the name at a place, with the colon behind it. No letter is a colon, so one walk over

@@ -132,13 +132,7 @@ module _ {t : Text} {w n : ℕ} (s : Agreeing t w n) where
   pub agreeing-full : wordCell w 1 ≤ n → n ≡ agreed t letters
   agreeing-full l = let c = long-cell w (s .word) in let m = agreed-most t letters .1 in let r = s .all in omega arith
 
--- the first letter, which is compared before the walk
-module _ (t : Text) (w : ℕ) (h : w < 52) (l : 0 < length t) where
-  some : 0 < wordCell w 1
-  some = let f = forms w h in omega arith
-
-  pub agreeing-start : capital (first t) ≡ wordCell w 2 → Agreeing t w 1
-  agreeing-start e = agreeing-on (agreeing-none t w h) l some (ap capital (sym (first-at t 0)) ∙ e)
-
-  pub first-miss : (capital (first t) ≡ wordCell w 2 → ⊥) → 0 ≡ agreed t (longForm (wordAt w))
-  first-miss ne = agreeing-miss (agreeing-none t w h) l some (λ e. ne (ap capital (first-at t 0) ∙ e))
+pub first-miss : (t : Text) (w : ℕ) (h : w < 52) → 0 < length t → (capital (first t) ≡ wordCell w 2 → ⊥) → 0 ≡ agreed t (longForm (wordAt w))
+first-miss t w h l ne =
+    let f = forms w h in
+    agreeing-miss (agreeing-none t w h) l (omega arith) (λ e. ne (ap capital (first-at t 0) ∙ e))

@@ -79,10 +79,6 @@ module _ (t : Text) (at w : ℕ) (h : w < 52) where
     pub first-out : (capital (getD t at 0) ≡ wordCell w 2 → ⊥) → WordTaken w t at Missed
     first-out ne = none-here (first-miss (drop at t) w h (omega (arith, length-drop at t)) (λ e. ne (ap capital (sym (first-at t at)) ∙ e)))
 
-    pub first-in : capital (getD t at 0) ≡ wordCell w 2
-        → (0 < length (take (length t - at) (drop at t))) × (capital (first (take (length t - at) (drop at t))) ≡ wordCell w 2)
-    first-in e = rw (rest-is t at (omega arith)) (omega (arith, length-drop at t), ap capital (first-at t at) ∙ e)
-
     pub compared : (n : ℕ) → n ≡ agreed (take (length t - at) (drop at t)) (longForm (wordAt w)) → Compared t at w n
     compared n e = record { word = h; some = l; is = rw (rest-is t at (omega arith)) at e }
 

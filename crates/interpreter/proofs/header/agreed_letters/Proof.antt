@@ -3,7 +3,7 @@ use Prim.Native.Nat.{_-_}
 use native.Mathlib.Omega.{arith}
 use lib.ListN.{length}
 use borrow.Author.Needs.{needs}
-use Rattle.interpreter.proofs.header.Letters.{Agreeing, agreeing-start, agreeing-on, agreeing-miss, agreeing-end, agreeing-full}
+use Rattle.interpreter.proofs.header.Letters.{Agreeing, agreeing-none, agreeing-on, agreeing-miss, agreeing-end, agreeing-full}
 use Rattle.interpreter.proofs.header.agreed_letters.Statement.{statement}
 use Rattle.interpreter.proofs.header.agreed_letters.Tie as tie
 
@@ -20,9 +20,7 @@ cast-long : tie.Need-cast-long Inv-loop μ-loop
 cast-long c = search needs
 
 loop-holds : tie.Need-loop-holds Inv-loop μ-loop
-loop-holds c =
-    let p = c .before .before .before .pre in
-    agreeing-start _ _ (p .0 .1) (p .1 .0) (p .1 .1)
+loop-holds c = agreeing-none _ _ (c .before .before .before .pre .1)
 
 returns : tie.Need-returns Inv-loop μ-loop
 returns c = agreeing-full (c .before .before .loop .inv) (omega arith)

@@ -2,7 +2,7 @@ use mathlib.Core.Path.{sym, _∙_}
 use native.Mathlib.Omega.{arith}
 use borrow.Author.Tests.{not-true, not-false}
 use borrow.Author.Needs.{needs}
-use Rattle.interpreter.proofs.header.Names.{Compared, end-here, first-out, first-in, compared, end-within, length-out, end-out, taken-last, taken-colon}
+use Rattle.interpreter.proofs.header.Names.{Compared, end-here, first-out, compared, end-within, length-out, end-out, taken-last, taken-colon}
 use Rattle.interpreter.proofs.header.take_word.Statement.{statement}
 use Rattle.interpreter.proofs.header.take_word.Tie as tie
 
@@ -44,10 +44,7 @@ part-agreed-letters-end : tie.Need-part-agreed-letters-end
 part-agreed-letters-end c = search needs
 
 agreed-letters-requires : tie.Need-agreed-letters-requires
-agreed-letters-requires c κs =
-    let s = c .before .before .before .before .before .before .before .before in
-    let e = sym (c .before .before .before .in-capitals .ensures) ∙ c .before .if2 .left ∙ c .before .before .word-cell .ensures in
-    (s .pre, first-in (s .args .text .now) (s .args .at) (s .args .word) (s .pre .1) (omega arith) e)
+agreed-letters-requires c κs = search needs
 
 has-length-requires : tie.Need-has-length-requires
 has-length-requires c κs = search needs
