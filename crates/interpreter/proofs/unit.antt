@@ -1,3 +1,4 @@
+pub mod Bytes
 pub mod Trims
 pub mod Found
 pub mod Laws

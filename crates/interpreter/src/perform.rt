@@ -47,21 +47,21 @@ fn with_status(present: Present, status: Status) -> Present
 pub(crate) fn raise(present: Present, error: Error) -> Present
     ensures { λ r. ⌜ r ≡ raisedWith error present ⌝ }
 {
-    let status = present.status;
-    with_status(present, status.raise(error))
+    with_status(present, present.status.raise(error))
 }
 
 fn change(present: Present, change: Change) -> Present
     requires { ⌜ AllowedChange (present .settings) change ⌝ }
     ensures { λ r. ⌜ LeftTo (Deed.Change change) present r ⌝ }
 {
-    let settings = present.settings;
-    let status = present.status;
     match change {
         Change::Nothing => present,
-        Change::Put { row, value } => with_settings(present, settings.store(row, value)),
+        Change::Put { row, value } => with_settings(present, present.settings.store(row, value)),
         Change::Reset => with_settings(present, Settings::reset()),
-        Change::Store { register, value } => with_status(present, status.store(register, value)),
+        Change::Store { register, value } => with_status(
+            present,
+            present.status.store(register, value),
+        ),
     }
 }
 
@@ -69,9 +69,8 @@ fn change(present: Present, change: Change) -> Present
 fn after_query(present: Present, query: Query) -> Present
     ensures { λ r. ⌜ LeftTo (Deed.Query query) present r ⌝ }
 {
-    let status = present.status;
     match query {
-        Query::OperationEvents => with_status(present, status.read_operation()),
+        Query::OperationEvents => with_status(present, present.status.read_operation()),
         _ => present,
     }
 }
@@ -81,11 +80,10 @@ fn after_inquiry(present: Present, inquiry: Inquiry) -> Present
     requires { ⌜ present .status .queued ≤ 16 ⌝ }
     ensures { λ r. ⌜ LeftTo (Deed.Inquire inquiry) present r ⌝ }
 {
-    let status = present.status;
     match inquiry {
-        Inquiry::StandardEvents => with_status(present, status.read_events()),
+        Inquiry::StandardEvents => with_status(present, present.status.read_events()),
         Inquiry::StatusByte => present,
-        Inquiry::NextError => with_status(present, status.read_oldest()),
+        Inquiry::NextError => with_status(present, present.status.read_oldest()),
     }
 }
 
@@ -94,11 +92,10 @@ fn after(present: Present, deed: Deed) -> Present
     requires { ⌜ Allowed (present .settings) deed × (present .status .queued ≤ 16) ⌝ }
     ensures { λ r. ⌜ LeftTo deed present r ⌝ }
 {
-    let status = present.status;
     match deed {
         Deed::Change(c) => change(present, c),
-        Deed::Complete => with_status(present, status.complete()),
-        Deed::Clear => with_status(present, status.clear()),
+        Deed::Complete => with_status(present, present.status.complete()),
+        Deed::Clear => with_status(present, present.status.clear()),
         Deed::Query(q) => after_query(present, q),
         Deed::Inquire(q) => after_inquiry(present, q),
     }

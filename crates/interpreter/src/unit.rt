@@ -11,13 +11,13 @@ use registers::text;
 ghost use mathlib.Core.Path.{_≡_};
 ghost use mathlib.Core.Bool.{true, _||_};
 ghost use Prim.Native.Nat.{_+_, _≤_};
-ghost use lib.ListN.{length, take};
+ghost use lib.ListN.{length, take, drop};
 ghost use Rattle.registers.specs.Text.{every, white, printable};
 ghost use Rattle.interpreter.specs.Cuts.{trim, trimEnd};
 ghost use Rattle.interpreter.specs.RowsParts.{rowTable, wordTable};
 ghost use Rattle.interpreter.specs.HeaderParts.{closed};
 ghost use Rattle.interpreter.specs.ParameterParts.{meantDeed};
-ghost use Rattle.interpreter.specs.UnitParts.{decided, UnitRead};
+ghost use Rattle.interpreter.specs.UnitParts.{decided, readingOf, UnitRead};
 
 // What checks 1 to 8 say of a unit: the error that refuses it, or its deed and how much of the
 // path's buffer the path takes that it leaves.
@@ -26,19 +26,18 @@ pub(crate) enum Reading {
     Obey { deed: Deed, used: usize },
 }
 
-// Check 1.
+// Check 1. All bytes are looked at, without a branch: a unit is short and mostly good.
 fn all_allowed(unit: &[u8]) -> bool
     ensures { λ r. ⌜ r ≡ every (λ b. white b || printable b) (now (unit .entry)) ⌝ }
 {
+    let mut all = true;
     let mut i: usize = 0;
     while i < unit.len() {
         let b = unit[i];
-        if !(text::is_white(b) | ((33 <= b) & (b <= 126))) {
-            return false;
-        }
+        all = all & (b < 127) & (b != 10);
         i += 1;
     }
-    true
+    all
 }
 
 // Where a text ends without the white space at its end.
@@ -78,15 +77,32 @@ fn decide(words: &[u8], settings: Settings, row: usize, asked: bool, text: &[u8]
     parameter::decide(words, settings, role, asked, parts, text)
 }
 
-// The same on all that stands behind the header.
-fn decide_behind(words: &[u8], settings: Settings, row: usize, asked: bool, rest: &[u8]) -> Decision
-    requires { ⌜ (now words ≡ wordTable) × (row ≤ 33) ⌝ }
-    ensures { λ r. ⌜ meantDeed r ≡ decided settings row asked (trim (now (rest .entry))) ⌝ }
+// The same on all that stands behind the header, which ends at a place of the unit.
+fn decide_behind(
+    words: &[u8],
+    settings: Settings,
+    row: usize,
+    asked: bool,
+    unit: &[u8],
+    at: usize,
+) -> Decision
+    requires { ⌜ (now words ≡ wordTable) × (row ≤ 33) × (at ≤ length (now unit)) ⌝ }
+    ensures { λ r. ⌜ meantDeed r ≡ decided settings row asked (trim (drop at (now (unit .entry)))) ⌝ }
 {
-    let start = text::white_end(rest, 0);
-    let behind = &rest[start..];
+    let start = text::white_end(unit, at);
+    let behind = &unit[start..];
     let end = trimmed_end(behind);
     decide(words, settings, row, asked, &behind[0..end])
+}
+
+// The deed with the path that the header left, unless a check refused the unit.
+fn with_path(decision: Decision, used: usize) -> Reading
+    ensures { λ r. ⌜ r ≡ readingOf used decision ⌝ }
+{
+    match decision {
+        Decision::Refused(e) => Reading::Refused(e),
+        Decision::Obey(deed) => Reading::Obey { deed, used },
+    }
 }
 
 // Reads a unit after the path in the path's buffer.
@@ -115,11 +131,8 @@ pub(crate) fn read(
             used: left,
             asked,
         } => {
-            let decision = decide_behind(words, settings, row, asked, &unit[end..]);
-            match decision {
-                Decision::Refused(e) => Reading::Refused(e),
-                Decision::Obey(deed) => Reading::Obey { deed, used: left },
-            }
+            let decision = decide_behind(words, settings, row, asked, unit, end);
+            with_path(decision, left)
         }
     }
 }

@@ -11,7 +11,8 @@ use borrow.Author.Tests.{eq-eqb, ne-eqb}
 use Rattle.registers.specs.Text.{Text, if_then_else_, white, every, empty, after}
 use Rattle.interpreter.specs.Cuts.{joinFirst, cutAt, trimEnd, trim}
 use Rattle.interpreter.specs.Parameter.{parameters}
-use Rattle.interpreter.specs.ParameterParts.{partsOf}
+use Rattle.interpreter.specs.ParameterParts.{CountedIn, partsOf}
+use Rattle.interpreter.specs.declared.parameter.Counted.{Counted}
 
 -- ---- one byte more
 
@@ -58,14 +59,17 @@ unfolding parameters if_then_else_
 parameters-some [] h = absurd (h refl)
 parameters-some (b ∷ bs) h = refl
 
-pub parts-are : (t : Text) → trim t ≡ t → length (parameters t) ≤ 1 → partsOf (length (parameters t)) t ≡ parameters t
+parts-one : (t : Text) → trim t ≡ t → length (parameters t) ≤ 1 → partsOf (length (parameters t)) t ≡ parameters t
 unfolding parameters if_then_else_
-parts-are [] e h = refl
-parts-are (b ∷ bs) e h =
+parts-one [] e h = refl
+parts-one (b ∷ bs) e h =
     let t = b ∷ bs in
     let n = length-map (cutAt (code ",") t) trim in
     let one : cutAt (code ",") t ≡ t ∷ [] = cut-one (code ",") t (omega arith) in
     rw (one, e)
+
+pub parts-are : (t : Text) → trim t ≡ t → (n : Counted) → CountedIn t n → n .parts ≤ 1 → partsOf (n .parts) t ≡ parameters t
+parts-are t e n is h = let p = is .parts in rw p (parts-one t e (omega arith))
 
 -- ---- trimming: nothing is left of white space, and of nothing else
 

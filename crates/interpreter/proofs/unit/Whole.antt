@@ -1,15 +1,13 @@
 -- The whole unit: where its header and its parameters stand, and its checks by what the header comes to.
 use mathlib.Core.Path.{_≡_, refl, ap, sym, _∙_}
-use mathlib.Core.Bool.{Bool, true, false, not, _||_}
+use mathlib.Core.Bool.{Bool, true, false, not}
 use mathlib.Core.List.{List}
 use Prim.Native.Nat.{ℕ, _+_, _-_, _≤_}
 use native.Mathlib.Omega.{arith}
 use lib.Dec.{leb}
 use lib.ListN.{length, take, drop, length-take, length-drop}
-use borrow.Rule.Slice.PartAt.{part-to-end}
-use Rattle.registers.specs.Text.{Text, white, dark, printable, every, empty, start, after}
+use Rattle.registers.specs.Text.{Text, white, dark, every, empty, start, after}
 use Rattle.registers.specs.Check.{Checked, refused, passed, check, _>>=_, _>>_}
-use Rattle.registers.specs.declared.error.Error.{Error}
 use Rattle.registers.specs.declared.settings.Settings.{Settings}
 use Rattle.registers.proofs.text.Laws.{end-drop, end-within}
 use Rattle.interpreter.specs.Cuts.{trim}
@@ -18,15 +16,15 @@ use Rattle.interpreter.specs.HeaderParts.{named, closed, FoundRow, Looke
 use Rattle.interpreter.specs.Parameter.{parameters, least, greatest, deedOf}
 use Rattle.interpreter.specs.Unit.{Read, headerText, parameterText, readUnit}
 use Rattle.interpreter.specs.ParameterParts.{meantDeed}
-use Rattle.interpreter.specs.UnitParts.{roleFound, decided, UnitRead}
+use Rattle.interpreter.specs.UnitParts.{roleFound, decided, readingOf, UnitRead}
 use Rattle.interpreter.specs.declared.deed.Deed.{Deed}
 use Rattle.interpreter.specs.declared.deed.Role.{Role}
 use Rattle.interpreter.specs.declared.header.Looked.{Looked}
 use Rattle.interpreter.specs.declared.header.Looked.the-variants.{Bad, At}
 use Rattle.interpreter.specs.declared.parameter.Decision.{Decision}
 use Rattle.interpreter.specs.declared.parameter.Decision.the-variants.{Refused as noDeed, Obey as someDeed}
-use Rattle.interpreter.specs.declared.unit.Reading.the-variants.{Refused, Obey}
 use Rattle.interpreter.proofs.header.Laws.{found-most}
+use Rattle.interpreter.proofs.unit.Bytes.{allowed}
 use Rattle.interpreter.proofs.unit.Found.{role-found}
 use Rattle.interpreter.proofs.unit.Trims.{take-start}
 
@@ -36,7 +34,7 @@ pub record Runs (u : Text) (s e : ℕ) : Type 0 where
   pub within : e ≤ length u
   pub short : length (take (e - s) (drop s u)) ≤ length u
   pub is : take (e - s) (drop s u) ≡ headerText u
-  pub behind : trim (take (length u - e) (drop e u)) ≡ parameterText u
+  pub behind : trim (drop e u) ≡ parameterText u
 
 pub runs : (u : Text) (s e : ℕ) → s ≡ 0 + length (start white (drop 0 u)) → e ≡ s + length (start dark (drop s u)) → Runs u s e
 runs u s e at to =
@@ -46,7 +44,7 @@ runs u s e at to =
       within = end-within dark u s e to (end-within white u 0 s at (omega arith));
       short = omega (arith, length-take (e - s) (drop s u), length-drop s u);
       is = rw n (take-start dark (drop s u) ∙ ap (start dark) left);
-      behind = ap trim (part-to-end u e ∙ end-drop dark u s e to ∙ ap (after dark) left);
+      behind = ap trim (end-drop dark u s e to ∙ ap (after dark) left);
     }
 
 -- ---- the checks in order
@@ -84,9 +82,6 @@ unfolding decided
 decided-then s row asked t k =
     let ps = parameters t in
     joined (full s asked ps) (roleFound row) (few s asked ps) (enough s asked ps) (λ r. deedOf s r asked ps) k
-
-abbrev pub allowed : ℕ → Bool
-allowed b = white b || printable b
 
 module _ (s : Settings) (path : List Text) (u : Text) where
   pub bad-byte : every allowed u ≡ false → readUnit s path u ≡ refused 101
@@ -134,12 +129,8 @@ module _ (s : Settings) (path u : Text) {row used : ℕ} {asked : Bool} {buffer 
         short = omega arith;
       }
 
-  module _ (h : Headed s path u row used asked buffer) {r : Decision}
-      (is : meantDeed r ≡ decided s row asked (parameterText u)) where
-    pub refuses : {e : Error} → r ≡ noDeed e → UnitRead s path u (Refused e) buffer
-    unfolding _>>=_
-    refuses q = h .is ∙ rw (sym is, q)
-
-    pub obeys : {d : Deed} → r ≡ someDeed d → UnitRead s path u (Obey d used) buffer
-    unfolding _>>=_
-    obeys q = (h .is ∙ rw (sym is, q), h .shut, h .short)
+  pub read-to : Headed s path u row used asked buffer → (r : Decision) → meantDeed r ≡ decided s row asked (parameterText u)
+      → UnitRead s path u (readingOf used r) buffer
+  unfolding _>>=_
+  read-to h (noDeed e) is = h .is ∙ rw (sym is)
+  read-to h (someDeed d) is = (h .is ∙ rw (sym is), h .shut, h .short)

@@ -9,7 +9,7 @@ enum-known-deed : tie.Need-enum-known-deed
 enum-known-deed c = search needs
 
 change-requires : tie.Need-change-requires
-change-requires c κs = rw (c .before .deed .given .1) at (c .before .before .before .before .pre .0)
+change-requires c κs = rw (c .before .deed .given .1) at (c .before .before .before .pre .0)
 
 enum-told : tie.Need-enum-told
 enum-told c = search needs

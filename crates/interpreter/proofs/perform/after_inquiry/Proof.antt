@@ -41,7 +41,7 @@ returns-2 c = rw (c .enum-told2 .given .1) (record { is = Î» a. refl; queued = Î
 
 returns-3 : tie.Need-returns-3
 returns-3 c =
-    let s = c .before .before .before .before .before in
+    let s = c .before .before .before .before in
     let t = s .args .present .status in
     rw (c .before .before .enum-told3 .given .1, c .with-status2 .ensures, c .before .read-oldest .ensures)
     (record {

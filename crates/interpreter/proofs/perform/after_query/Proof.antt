@@ -17,7 +17,7 @@ returns : tie.Need-returns
 returns c = rw (c .before .before .enum-told .given .1, c .with-status .ensures, c .before .read-operation .ensures) (record { is = λ a. refl; queued = λ k. k })
 
 returns-2 : tie.Need-returns-2
-returns-2 c = quiet-after (c .before .before .args .query) (c .before .before .args .present) (c .match .keys2)
+returns-2 c = quiet-after (c .before .args .query) (c .before .args .present) (c .match .keys2)
 
 pub after-query-spec : {M : Type 1} → statement M
 after-query-spec =

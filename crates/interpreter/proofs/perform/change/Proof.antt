@@ -47,7 +47,7 @@ returns-2 : tie.Need-returns-2
 unfolding changed
 returns-2 c =
     let m = c .before .before in
-    let s = m .before .before .before .before .before in
+    let s = m .before .before .before in
     let v = m .before .change .given .0 in
     let h : SFits w32 (v .1 .0) = record { sfits = m .known-told .given .1 .0 .1 } in
     let p = rw (m .before .change .given .1) at (s .pre) in
@@ -63,7 +63,7 @@ returns-4 : tie.Need-returns-4
 unfolding changed
 returns-4 c =
     let m = c .before .before in
-    let s = m .before .before .before .before .before in
+    let s = m .before .before .before in
     let p = rw (m .before .change2 .given .1) at (s .pre) in
     rw (m .before .change2 .given .1, c .with-status .ensures, c .before .store2 .ensures, set-yes (s .args .present .status) _ _ p)
     (record { is = λ a. refl; queued = λ k. k })

@@ -98,9 +98,8 @@ returns-5 c =
     let r = p .role-of .result in
     let f = c .before .before .fewest .ensures in
     let m = few (c .before .before .before) in
-    let parts = n .ensures .parts in
-    let one = parts-are (a .text .now) (entry p .pre .2) (omega (arith, greatest-one r (a .asked))) in
-    (rw (parts, one) at (c .decide .ensures))
+    let one = parts-are (a .text .now) (entry p .pre .2) (n .result) (n .ensures) (omega (arith, greatest-one r (a .asked))) in
+    (rw one at (c .decide .ensures))
     ∙ sym (says p ∙ rw (le-leb (parts-of p) (most-of p) m, le-leb (fewest-of p) (parts-of p) (omega arith)))
 
 pub decide-spec : {M : Type 1} → statement M

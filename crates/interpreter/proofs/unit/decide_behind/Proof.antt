@@ -11,20 +11,24 @@ use Rattle.interpreter.proofs.unit.Trims.{trim-twice}
 use Rattle.interpreter.proofs.unit.decide_behind.Statement.{statement}
 use Rattle.interpreter.proofs.unit.decide_behind.Tie as tie
 
-abbrev rest-of : tie.After-trimmed-end → Text
-rest-of c = c .before .before .before .before .before .args .rest .now
+abbrev entry : tie.After-trimmed-end → tie.Start
+entry c = c .before .before .before .before .before
 
--- the part that is handed on
+-- what stands behind the header
+abbrev behind-of : tie.After-trimmed-end → Text
+behind-of c = drop (entry c .args .at) (entry c .args .unit .now)
+
+-- the part of it that is handed on
 handed : (c : tie.After-trimmed-end)
-    → let r = rest-of c in
+    → let u = entry c .args .unit .now in
     let s = c .before .before .white-end .result in
-    take (c .trimmed-end .result - 0) (take (length r - s) (drop s r)) ≡ trim r
+    take (c .trimmed-end .result - 0) (take (length u - s) (drop s u)) ≡ trim (behind-of c)
 unfolding trim
 handed c =
-    let r = rest-of c in
+    let u = entry c .args .unit .now in
     let w = c .before .before .white-end in
     let whole : c .trimmed-end .result - 0 ≡ c .trimmed-end .result = omega arith in
-    let behind = part-to-end r (w .result) ∙ end-drop white r 0 (w .result) (w .ensures) in
+    let behind = part-to-end u (w .result) ∙ end-drop white u (entry c .args .at) (w .result) (w .ensures) in
     rw whole (c .trimmed-end .ensures .0 ∙ ap trimEnd behind)
 
 white-end-requires : tie.Need-white-end-requires
@@ -32,7 +36,8 @@ white-end-requires c κs = search needs
 
 sub-behind : tie.Need-sub-behind
 sub-behind c =
-    end-within white (c .before .before .before .args .rest .now) 0 (c .white-end .result) (c .white-end .ensures) (omega arith)
+    let s = c .before .before .before in
+    end-within white (s .args .unit .now) (s .args .at) (c .white-end .result) (c .white-end .ensures) (s .pre .2)
 
 part-behind-start : tie.Need-part-behind-start
 part-behind-start c = sub-behind c
@@ -55,7 +60,7 @@ part-decide-end c = search needs
 decide-requires : tie.Need-decide-requires
 decide-requires c κs =
     let p = c .before .before .before .before .before .before .pre in
-    (p .0, p .1, rw (handed (c .before)) (trim-twice (rest-of (c .before))))
+    (p .0, p .1, rw (handed (c .before)) (trim-twice (behind-of (c .before))))
 
 returns : tie.Need-returns
 returns c = rw (handed (c .before .before)) at (c .decide .ensures)

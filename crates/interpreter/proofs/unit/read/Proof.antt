@@ -6,11 +6,9 @@ use lib.ListN.{take, drop}
 use borrow.Author.Needs.{needs}
 use borrow.Author.Tests.{not-true, not-false}
 use Rattle.registers.specs.Text.{Text, every}
-use Rattle.interpreter.specs.ParameterParts.{meantDeed}
-use Rattle.interpreter.specs.Unit.{parameterText}
-use Rattle.interpreter.specs.UnitParts.{decided}
 use Rattle.interpreter.specs.HeaderParts.{named}
-use Rattle.interpreter.proofs.unit.Whole.{Runs, runs, allowed, bad-byte, bad-header, Headed, headed, refuses, obeys}
+use Rattle.interpreter.proofs.unit.Bytes.{allowed}
+use Rattle.interpreter.proofs.unit.Whole.{Runs, runs, bad-byte, bad-header, Headed, headed, read-to}
 use Rattle.interpreter.proofs.unit.read.Statement.{statement}
 use Rattle.interpreter.proofs.unit.read.Tie as tie
 
@@ -46,14 +44,6 @@ row-found p =
     let d = dark-at p in
     headed (entry d .args .settings) (path-of d) (unit-of d) (clean d) (header-of d) (ran d .is) (ran d .short)
     (p .before .before .before .before .look-up .ensures) (p .looked .given .1)
-
--- once the checks behind the header are made
-left : (p : tie.After-decide-behind)
-    → let l = p .before .before .before in
-    let d = dark-at l in
-    let v = l .looked .given .0 in
-    meantDeed (p .decide-behind .result) ≡ decided (entry d .args .settings) (v .0) (v .1 .1 .0) (parameterText (unit-of d))
-left p = rw (ran (dark-at (p .before .before .before)) .behind) at (p .decide-behind .ensures)
 
 all-allowed-requires : tie.Need-all-allowed-requires
 all-allowed-requires c κs = search needs
@@ -92,25 +82,14 @@ enum-told c = search needs
 enum-known-looked : tie.Need-enum-known-looked
 enum-known-looked c = search needs
 
-sub-decide-behind : tie.Need-sub-decide-behind
-sub-decide-behind c = ran (dark-at (c .before)) .within
-
-part-decide-behind-start : tie.Need-part-decide-behind-start
-part-decide-behind-start c = ran (dark-at (c .before)) .within
-
-part-decide-behind-end : tie.Need-part-decide-behind-end
-part-decide-behind-end c = search needs
-
 decide-behind-requires : tie.Need-decide-behind-requires
 decide-behind-requires c κs =
-    let l = c .before .before in
-    (entry (dark-at l) .pre .0 .1, row-found l .within)
+    let l = c .before in
+    let d = dark-at l in
+    (entry d .pre .0 .1, row-found l .within, ran d .within)
 
-enum-known-decision : tie.Need-enum-known-decision
-enum-known-decision c = search needs
-
-enum-known-decision-2 : tie.Need-enum-known-decision-2
-enum-known-decision-2 c = search needs
+with-path-requires : tie.Need-with-path-requires
+with-path-requires c κs = search needs
 
 same-length : tie.Need-same-length
 same-length c = search needs
@@ -127,20 +106,12 @@ same-length-2 c = search needs
 
 returns-3 : tie.Need-returns-3
 returns-3 c =
-    let p = c .before .before .before in
-    let l = p .before .before .before in
+    let p = c .before in
+    let l = p .before .before in
     let d = dark-at l in
-    refuses (entry d .args .settings) (path-of d) (unit-of d) (row-found l) (left p) (c .before .decision .given .1)
-
-same-length-3 : tie.Need-same-length-3
-same-length-3 c = search needs
-
-returns-4 : tie.Need-returns-4
-returns-4 c =
-    let p = c .before .before .before in
-    let l = p .before .before .before in
-    let d = dark-at l in
-    obeys (entry d .args .settings) (path-of d) (unit-of d) (row-found l) (left p) (c .before .decision2 .given .1)
+    rw (c .with-path .ensures)
+    (read-to (entry d .args .settings) (path-of d) (unit-of d) (row-found l) (p .decide-behind .result)
+    (rw (ran d .behind) at (p .decide-behind .ensures)))
 
 pub read-spec : {M : Type 1} → statement M
 read-spec =
@@ -156,15 +127,9 @@ read-spec =
     look-up-requires
     enum-told
     enum-known-looked
-    sub-decide-behind
-    part-decide-behind-start
-    part-decide-behind-end
     decide-behind-requires
-    enum-known-decision
-    enum-known-decision-2
+    with-path-requires
     same-length
     returns-2
     same-length-2
-    returns-3
-    same-length-3
-    returns-4)
+    returns-3)
