@@ -1,12 +1,4 @@
-pub mod Greedy
 pub mod Grammar
-pub mod Words
-pub mod Letters
-pub mod Names
-pub mod Spelling
-pub mod Rows
-pub mod Walks
-pub mod Search
 pub mod Paths
 pub mod Laws
 pub mod Whole

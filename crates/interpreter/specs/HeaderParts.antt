@@ -2,32 +2,21 @@
 use mathlib.Core.Path.{_≡_}
 use mathlib.Core.Bool.{Bool, true, false, not, _&&_, _||_}
 use mathlib.Core.List.{List, [], _∷_, _++_}
-use Prim.Native.Nat.{ℕ, suc, _+_, _-_, _*_, _≤_}
-use lib.Dec.{ltb, eqb}
-use lib.Bits.{bitAnd}
-use lib.ListN.{length, getD, take, drop}
-use Rattle.registers.specs.Text.{Text, if_then_else_, letter, wordByte, capital, empty, first, rest, start}
+use Prim.Native.Nat.{ℕ, _+_, _≤_}
+use lib.Dec.{eqb}
+use lib.ListN.{length, take, drop}
+use Rattle.registers.specs.Text.{Text, if_then_else_, letter, wordByte, empty, first, rest, start}
 use Rattle.registers.specs.Check.{Checked, refused, passed}
-use Rattle.registers.specs.Words.{Node, must, may, matches}
-use Rattle.interpreter.specs.Cuts.{last, front, cutAt, joinFirst}
+use Rattle.registers.specs.Words.{must}
+use Rattle.interpreter.specs.Cuts.{last, front, cutAt}
 use Rattle.interpreter.specs.Header.{Place, common, root, here, Header, header, placed, asks, fullNames, pathAfter, isCommon}
-use Rattle.interpreter.specs.RowsParts.{rowTable, wordTable, wordAt, rowOf}
-use Rattle.interpreter.specs.declared.header.Walk.{Walk}
-use Rattle.interpreter.specs.declared.header.Walk.the-variants.{To, Missed}
+use Rattle.interpreter.specs.RowsParts.{rowOf, named}
 use Rattle.interpreter.specs.declared.header.Heading.{Heading}
 use Rattle.interpreter.specs.declared.header.Entered.{Entered}
 use Rattle.interpreter.specs.declared.header.Looked.{Looked}
 use Rattle.interpreter.specs.declared.header.Looked.the-variants.{Bad, At}
 
--- ---- a text of names, each ended by a colon or by the end
-
-unfoldable pub named : Text → List Text
-named [] = []
-named (b ∷ bs) = if eqb b 58 then [] ∷ named bs else joinFirst b (named bs)
-
--- a byte of a name
-abbrev pub inName : ℕ → Bool
-inName b = not (eqb b 58)
+-- ---- the path as text
 
 -- a text that is empty or ends in a colon: what a path is
 unfoldable pub closed : Text → Bool
@@ -37,66 +26,6 @@ closed p = empty p || eqb (last p) 58
 unfoldable pub pathOf : Text → Text
 pathOf [] = []
 pathOf (b ∷ bs) = let m = pathOf bs in if empty m then (if eqb b 58 then b ∷ [] else []) else b ∷ m
-
--- ---- the greedy walk over a row's nodes: a node that matches is taken, an optional one that doesn't is left out
-
-unfoldable pub greedy : List Node → List Text → Bool
-greedy [] names = empty names
-greedy (must w ∷ nodes) [] = false
-greedy (must w ∷ nodes) (n ∷ names) = if matches w n then greedy nodes names else false
-greedy (may w ∷ nodes) [] = greedy nodes []
-greedy (may w ∷ nodes) (n ∷ names) = if matches w n then greedy nodes names else greedy nodes (n ∷ names)
-
--- ---- a word at a name
-
--- how many first bytes of a text, in capitals, are the letters
-unfoldable pub agreed : Text → Text → ℕ
-agreed [] letters = 0
-agreed (b ∷ bs) [] = 0
-agreed (b ∷ bs) (x ∷ xs) = let more = suc (agreed bs xs) in if eqb (capital b) x then more else 0
-
--- the name at a place is the word, and what follows it begins at another; or it is not
-abbrev pub WordTaken : ℕ → Text → ℕ → Walk → Type 0
-WordTaken w t at (To n) =
-    (matches (wordAt w) (start inName (drop at t)) ≡ true) × (named (drop at t) ≡ start inName (drop at t) ∷ named (drop n t)) × (n ≤ length t)
-WordTaken w t at Missed = matches (wordAt w) (start inName (drop at t)) ≡ false
-
--- ---- cells of the tables
-
-unfoldable pub wordCell : ℕ → ℕ → ℕ
-wordCell w i = getD wordTable (w * 16 + i) 0
-
--- the length of one of a word's forms
-unfoldable pub formLength : ℕ → ℕ → Bool
-formLength w n = eqb n (wordCell w 0) || eqb n (wordCell w 1)
-
-unfoldable pub rowCell : ℕ → ℕ → ℕ
-rowCell r i = getD rowTable (r * 8 + i) 0
-
-unfoldable pub wordIn : ℕ → ℕ
-wordIn x = if ltb x 128 then x else x - 128
-
-unfoldable pub nodeOf : ℕ → Node
-nodeOf x = if ltb x 128 then must (wordAt x) else may (wordAt (x - 128))
-
--- a node that is not taken is left out if it may be
-unfoldable pub leftOut : ℕ → ℕ → Walk
-leftOut x at = if ltb x 128 then Missed else To at
-
--- one node is taken or left out, or it is missed
-abbrev pub Walked : Node → Text → ℕ → Walk → Type 0
-Walked x t at (To n) = ((nodes : List Node) → greedy (x ∷ nodes) (named (drop at t)) ≡ greedy nodes (named (drop n t))) × (n ≤ length t)
-Walked x t at Missed = (nodes : List Node) → greedy (x ∷ nodes) (named (drop at t)) ≡ false
-
--- a header's form as a bit, and whether a row has it
-unfoldable pub formBit : Bool → Bool → ℕ
-formBit false false = 1
-formBit false true = 2
-formBit true false = 4
-formBit true true = 8
-
-unfoldable pub formed : ℕ → ℕ → Bool
-formed r bit = not (eqb (bitAnd (rowCell r 0) bit) 0)
 
 -- ---- a header's grammar, byte by byte: 2 where a name must start, 1 within a name, 0 where it is broken
 

@@ -14,7 +14,8 @@ use Rattle.registers.specs.declared.error.Error.the-variants.{QueryInterrupted}
 use Rattle.interpreter.specs.Cuts.{cutAt}
 use Rattle.interpreter.specs.Box.{Box, box, mostAnswer}
 use Rattle.interpreter.specs.Line.{attempt, refuse, runUnits, finished, unitsOf, endLine}
-use Rattle.interpreter.specs.HeaderParts.{named, closed}
+use Rattle.interpreter.specs.HeaderParts.{closed}
+use Rattle.interpreter.specs.RowsParts.{named}
 use Rattle.interpreter.specs.DeedsParts.{boxIn, raisedWith}
 use Rattle.interpreter.specs.declared.perform.Present.{Present}
 use Rattle.interpreter.specs.declared.line.Done.{Done}

@@ -1,15 +1,21 @@
--- How the code keeps the rows and the words: two tables of bytes, made of 01's rows. Nothing of 01 is defined here.
-use mathlib.Core.Bool.{Bool, true, false}
+-- How the code keeps the rows and the words, two tables of bytes made of 01's rows, and what the row search's own functions say. Nothing
+-- of 01 is defined here.
+use mathlib.Core.Path.{_≡_}
+use mathlib.Core.Bool.{Bool, true, false, not, _||_}
 use mathlib.Core.List.{List, [], _∷_, _++_, map}
-use Prim.Native.Nat.{ℕ, suc, _+_, _-_}
+use Prim.Native.Nat.{ℕ, suc, _+_, _-_, _*_, _≤_}
 use Prim.Native.String.{String}
-use lib.Dec.{eqb}
-use lib.ListN.{length, getD, replicate}
-use Rattle.registers.specs.Text.{Text, if_then_else_, bytes, same}
-use Rattle.registers.specs.Words.{Node, must, may, shortForm, longForm}
+use lib.Dec.{ltb, eqb}
+use lib.Bits.{bitAnd}
+use lib.ListN.{length, getD, drop, replicate}
+use Rattle.registers.specs.Text.{Text, if_then_else_, bytes, same, capital, empty, first, start}
+use Rattle.registers.specs.Words.{Node, must, may, shortForm, longForm, matches}
+use Rattle.interpreter.specs.Cuts.{joinFirst}
 use Rattle.interpreter.specs.Rows.{Row, rows, hasForm, fitsRow}
 use Rattle.interpreter.specs.declared.deed.Role.{Role}
 use Rattle.interpreter.specs.declared.deed.Role.the-variants.{Setting}
+use Rattle.interpreter.specs.declared.rows.Walk.{Walk}
+use Rattle.interpreter.specs.declared.rows.Walk.the-variants.{To, Missed}
 
 -- what a row is for
 unfoldable pub roleAt : ℕ → Role
@@ -98,3 +104,73 @@ firstFit p (r ∷ rs) = if p r then 0 else suc (firstFit p rs)
 -- the first row that spells the names in the form asked for, counted from 0; their number where none does
 unfoldable pub rowOf : Bool → List Text → Bool → ℕ
 rowOf star names asked = firstFit (fitsRow star names asked) rows
+
+-- ---- a text of names, each ended by a colon or by the end
+
+unfoldable pub named : Text → List Text
+named [] = []
+named (b ∷ bs) = if eqb b 58 then [] ∷ named bs else joinFirst b (named bs)
+
+-- a byte of a name
+abbrev pub inName : ℕ → Bool
+inName b = not (eqb b 58)
+
+-- ---- the greedy walk over a row's nodes: a node that matches is taken, an optional one that doesn't is left out
+
+unfoldable pub greedy : List Node → List Text → Bool
+greedy [] names = empty names
+greedy (must w ∷ nodes) [] = false
+greedy (must w ∷ nodes) (n ∷ names) = if matches w n then greedy nodes names else false
+greedy (may w ∷ nodes) [] = greedy nodes []
+greedy (may w ∷ nodes) (n ∷ names) = if matches w n then greedy nodes names else greedy nodes (n ∷ names)
+
+-- ---- a word at a name
+
+-- how many first bytes of a text, in capitals, are the letters
+unfoldable pub agreed : Text → Text → ℕ
+agreed [] letters = 0
+agreed (b ∷ bs) [] = 0
+agreed (b ∷ bs) (x ∷ xs) = let more = suc (agreed bs xs) in if eqb (capital b) x then more else 0
+
+-- the name at a place is the word, and what follows it begins at another; or it is not
+abbrev pub WordTaken : ℕ → Text → ℕ → Walk → Type 0
+WordTaken w t at (To n) =
+    (matches (wordAt w) (start inName (drop at t)) ≡ true) × (named (drop at t) ≡ start inName (drop at t) ∷ named (drop n t)) × (n ≤ length t)
+WordTaken w t at Missed = matches (wordAt w) (start inName (drop at t)) ≡ false
+
+-- ---- cells of the tables
+
+unfoldable pub wordCell : ℕ → ℕ → ℕ
+wordCell w i = getD wordTable (w * 16 + i) 0
+
+-- the length of one of a word's forms
+unfoldable pub formLength : ℕ → ℕ → Bool
+formLength w n = eqb n (wordCell w 0) || eqb n (wordCell w 1)
+
+unfoldable pub rowCell : ℕ → ℕ → ℕ
+rowCell r i = getD rowTable (r * 8 + i) 0
+
+unfoldable pub wordIn : ℕ → ℕ
+wordIn x = if ltb x 128 then x else x - 128
+
+unfoldable pub nodeOf : ℕ → Node
+nodeOf x = if ltb x 128 then must (wordAt x) else may (wordAt (x - 128))
+
+-- a node that is not taken is left out if it may be
+unfoldable pub leftOut : ℕ → ℕ → Walk
+leftOut x at = if ltb x 128 then Missed else To at
+
+-- one node is taken or left out, or it is missed
+abbrev pub Walked : Node → Text → ℕ → Walk → Type 0
+Walked x t at (To n) = ((nodes : List Node) → greedy (x ∷ nodes) (named (drop at t)) ≡ greedy nodes (named (drop n t))) × (n ≤ length t)
+Walked x t at Missed = (nodes : List Node) → greedy (x ∷ nodes) (named (drop at t)) ≡ false
+
+-- a header's form as a bit, and whether a row has it
+unfoldable pub formBit : Bool → Bool → ℕ
+formBit false false = 1
+formBit false true = 2
+formBit true false = 4
+formBit true true = 8
+
+unfoldable pub formed : ℕ → ℕ → Bool
+formed r bit = not (eqb (bitAnd (rowCell r 0) bit) 0)

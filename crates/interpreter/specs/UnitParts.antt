@@ -11,8 +11,8 @@ use Rattle.registers.specs.Settings.{within, conflict}
 use Rattle.registers.specs.Status.{widest}
 use Rattle.registers.specs.declared.settings.Settings.{Settings}
 use Rattle.interpreter.specs.Parameter.{parameters, least, greatest, deedOf}
-use Rattle.interpreter.specs.RowsParts.{roleAt}
-use Rattle.interpreter.specs.HeaderParts.{named, closed}
+use Rattle.interpreter.specs.RowsParts.{roleAt, named}
+use Rattle.interpreter.specs.HeaderParts.{closed}
 use Rattle.interpreter.specs.Unit.{readUnit}
 use Rattle.interpreter.specs.declared.deed.Deed.{Deed}
 use Rattle.interpreter.specs.declared.deed.Deed.the-variants.{Change as change, Complete, Clear, Query as query, Inquire}

@@ -9,6 +9,7 @@ mod line;
 mod parameter;
 mod perform;
 mod reply;
+mod rows;
 pub mod server;
 pub mod state;
 mod tables;

@@ -3,7 +3,7 @@ use crate::deed::Change;
 use crate::deed::Deed;
 use crate::deed::Query;
 use crate::deed::Role;
-use crate::header;
+use crate::rows;
 use registers::error::Error;
 use registers::number;
 use registers::number::Decimal;
@@ -150,7 +150,7 @@ fn find_word(words: &[u8], takes: Takes, text: &[u8]) -> Parameter
     let count = takes.count;
     let mut n: usize = 0;
     while n < count {
-        if header::is_word(words, text, first + n) {
+        if rows::is_word(words, text, first + n) {
             return Parameter::Given(Given::Word(n));
         }
         n += 1;

@@ -5,6 +5,7 @@ use crate::header;
 use crate::header::Looked;
 use crate::parameter;
 use crate::parameter::Decision;
+use crate::rows;
 use registers::error::Error;
 use registers::settings::Settings;
 use registers::text;
@@ -63,7 +64,7 @@ fn decide(words: &[u8], settings: Settings, row: usize, asked: bool, text: &[u8]
     if !counted.full {
         return Decision::Refused(Error::Syntax);
     }
-    if row == header::ROWS {
+    if row == rows::ROWS {
         return Decision::Refused(Error::UndefinedHeader);
     }
     let role = deed::role_of(row);

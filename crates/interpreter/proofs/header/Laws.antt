@@ -10,11 +10,11 @@ use Rattle.registers.specs.Check.{Checked, refused, passed}
 use Rattle.registers.proofs.Tests.{and-both}
 use Rattle.interpreter.specs.Header.{spells}
 use Rattle.interpreter.specs.Rows.{Row, rows, fitsRow, findRow, hasForm, sameBool}
-use Rattle.interpreter.specs.RowsParts.{roleAt, firstFit, rowOf}
-use Rattle.interpreter.specs.HeaderParts.{named, closed}
+use Rattle.interpreter.specs.RowsParts.{roleAt, firstFit, rowOf, named}
+use Rattle.interpreter.specs.HeaderParts.{closed}
 use Rattle.interpreter.specs.declared.deed.Role.{Role}
 use Rattle.interpreter.specs.declared.deed.Role.the-variants.{Setting as setting}
-use Rattle.interpreter.proofs.header.Rows.{rows-many}
+use Rattle.interpreter.proofs.rows.Rows.{rows-many}
 
 -- the empty path
 pub closed-nil : closed [] ≡ true

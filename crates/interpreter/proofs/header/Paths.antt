@@ -11,8 +11,8 @@ use borrow.Author.Tests.{ne-eqb}
 use borrow.Rule.Slice.PartMut.{putMid}
 use Rattle.registers.specs.Text.{Text, if_then_else_, letter, small, empty}
 use Rattle.interpreter.specs.Cuts.{last, front, joinFirst, cutAt}
-use Rattle.interpreter.specs.RowsParts.{rowOf}
-use Rattle.interpreter.specs.HeaderParts.{named, closed, pathOf, well, nameByte, EnteredAt}
+use Rattle.interpreter.specs.RowsParts.{rowOf, named}
+use Rattle.interpreter.specs.HeaderParts.{closed, pathOf, well, nameByte, EnteredAt}
 
 -- ---- the names of a path and of the header behind it
 

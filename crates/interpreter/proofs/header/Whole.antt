@@ -11,8 +11,8 @@ use Rattle.registers.specs.Text.{Text, if_then_else_}
 use Rattle.registers.specs.Check.{refused, passed}
 use Rattle.interpreter.specs.Cuts.{cutAt}
 use Rattle.interpreter.specs.Header.{Header, header, asks}
-use Rattle.interpreter.specs.RowsParts.{rowOf}
-use Rattle.interpreter.specs.HeaderParts.{named, closed, bodyOf, well, headerOf, headed, placeOf, namesAt, HeadingRead, EnteredAt, LookedUp}
+use Rattle.interpreter.specs.RowsParts.{rowOf, named}
+use Rattle.interpreter.specs.HeaderParts.{closed, bodyOf, well, headerOf, headed, placeOf, namesAt, HeadingRead, EnteredAt, LookedUp}
 use Rattle.interpreter.specs.declared.header.Heading.{Heading}
 use Rattle.interpreter.specs.declared.header.Entered.{Entered}
 use Rattle.interpreter.specs.declared.header.Looked.the-variants.{At}

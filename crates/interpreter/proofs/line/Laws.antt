@@ -22,7 +22,8 @@ use Rattle.interpreter.specs.Box.{Box, box, raise, answerIs, mostAnswer}
 use Rattle.interpreter.specs.Unit.{Read, readUnit}
 use Rattle.interpreter.specs.Deeds.{perform}
 use Rattle.interpreter.specs.Line.{Obeyed, attempt, refuse, runUnits, interrupted, finished, unitsOf, runLine, endLine}
-use Rattle.interpreter.specs.HeaderParts.{named, closed}
+use Rattle.interpreter.specs.HeaderParts.{closed}
+use Rattle.interpreter.specs.RowsParts.{named}
 use Rattle.interpreter.specs.DeedsParts.{boxIn, raisedWith, PerformedIn}
 use Rattle.interpreter.specs.UnitParts.{UnitRead, Allowed}
 use Rattle.interpreter.specs.LineParts.{inUnit, boxAt, interruptedWith, boxHolding, RefusedWith, UnitRan, Turned, UnitsRan}

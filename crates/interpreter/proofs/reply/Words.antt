@@ -20,7 +20,7 @@ use Rattle.interpreter.specs.ParameterParts.{takenWords}
 use Rattle.interpreter.specs.RowsParts.{wordList, wordAt, wordRow, wordTableOf, wordTable}
 use Rattle.interpreter.specs.declared.parameter.Takes.{Takes}
 use Rattle.interpreter.proofs.Lists.{every-at, table-at}
-use Rattle.interpreter.proofs.header.Greedy.{same-eq}
+use Rattle.interpreter.proofs.rows.Greedy.{same-eq}
 
 -- ---- a word has its short form's length in its first cell and the short form from its third on
 

@@ -12,7 +12,8 @@ use Rattle.registers.specs.declared.settings.Settings.{Settings}
 use Rattle.registers.proofs.text.Laws.{end-drop, end-within}
 use Rattle.interpreter.specs.Cuts.{trim}
 use Rattle.interpreter.specs.Header.{Header, header, isCommon, fullNames}
-use Rattle.interpreter.specs.HeaderParts.{named, closed, FoundRow, LookedUp}
+use Rattle.interpreter.specs.HeaderParts.{closed, FoundRow, LookedUp}
+use Rattle.interpreter.specs.RowsParts.{named}
 use Rattle.interpreter.specs.Parameter.{parameters, least, greatest, deedOf}
 use Rattle.interpreter.specs.Unit.{Read, headerText, parameterText, readUnit}
 use Rattle.interpreter.specs.ParameterParts.{meantDeed}

@@ -5,7 +5,7 @@ use lib.ListN.{length, getD}
 use borrow.Author.Needs.{needs}
 use Rattle.registers.specs.Words.{shortForm}
 use Rattle.interpreter.specs.RowsParts.{wordAt}
-use Rattle.interpreter.proofs.header.Words.{words-long}
+use Rattle.interpreter.proofs.rows.Words.{words-long}
 use Rattle.interpreter.proofs.reply.Words.{word-length, word-read, word-fits}
 use Rattle.interpreter.proofs.reply.write_word.Statement.{statement}
 use Rattle.interpreter.proofs.reply.write_word.Tie as tie

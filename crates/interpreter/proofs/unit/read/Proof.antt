@@ -6,7 +6,7 @@ use lib.ListN.{take, drop}
 use borrow.Author.Needs.{needs}
 use borrow.Author.Tests.{not-true, not-false}
 use Rattle.registers.specs.Text.{Text, every}
-use Rattle.interpreter.specs.HeaderParts.{named}
+use Rattle.interpreter.specs.RowsParts.{named}
 use Rattle.interpreter.proofs.unit.Bytes.{allowed}
 use Rattle.interpreter.proofs.unit.Whole.{Runs, runs, bad-byte, bad-header, Headed, headed, read-to}
 use Rattle.interpreter.proofs.unit.read.Statement.{statement}

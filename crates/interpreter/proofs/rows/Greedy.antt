@@ -1,0 +1,103 @@
+-- The rows' optional nodes can be tried greedily: a node that matches is taken, an optional one that doesn't is left out. This
+-- is the walk of the code; `spells` tries every way. They agree where no optional node shares a spelling with a later one.
+use mathlib.Core.Path.{_≡_, refl, sym, _∙_, ap, ap₂}
+use mathlib.Core.Bool.{Bool, true, false, not, _&&_, _||_, false≢true}
+use mathlib.Core.List.{List, [], _∷_, map}
+use Prim.Native.Nat.{ℕ}
+use Prim.Native.String.{String}
+use lib.Dec.{eqb}
+use borrow.Author.Tests.{eqb-true, not-true}
+use Rattle.registers.specs.Text.{Text, if_then_else_, every, same, bytes, capital, small}
+use Rattle.registers.specs.Words.{shortForm, longForm, matches, Node, must, may}
+use Rattle.registers.specs.Settings.{table}
+use Rattle.registers.proofs.Tests.{and-both}
+use Rattle.interpreter.specs.Header.{spells}
+use Rattle.interpreter.specs.Rows.{Row, rows, settingRows, otherRows}
+use Rattle.interpreter.specs.RowsParts.{greedy}
+
+abbrev wordOf : Node → String
+wordOf (must w) = w
+wordOf (may w) = w
+
+-- a text in capitals is one of the word's two forms
+abbrev form : String → Text → Bool
+form w c = same c (shortForm w) || same c (longForm w)
+
+-- no text spells both words
+apart : String → String → Bool
+apart v w = not (form w (shortForm v)) && not (form w (longForm v))
+
+allApart : String → List Node → Bool
+allApart w nodes = every (λ x. apart w (wordOf x)) nodes
+
+-- each optional node is apart from every later one
+pub clear : List Node → Bool
+clear [] = true
+clear (must w ∷ nodes) = clear nodes
+clear (may w ∷ nodes) = allApart w nodes && clear nodes
+
+-- the one test over the table
+pub rows-clear : every (λ (r : Row). clear (r .nodes)) rows ≡ true
+unfolding rows settingRows otherRows table clear allApart apart shortForm longForm same bytes capital small if_then_else_
+rows-clear = refl
+
+-- ---- the law
+
+pub same-eq : (x y : Text) → same x y ≡ true → x ≡ y
+unfolding same
+same-eq [] [] e = refl
+same-eq [] (y ∷ ys) e = absurd (false≢true e)
+same-eq (x ∷ xs) [] e = absurd (false≢true e)
+same-eq (x ∷ xs) (y ∷ ys) e =
+    let p = and-both (eqb x y) (same xs ys) e in
+    ap₂ (λ (a : ℕ) (b : Text). a ∷ b) (eqb-true x y (p .0)) (same-eq xs ys (p .1))
+
+-- a text that spells v spells no word apart from v
+not-both : (v w : String) (n : Text) → apart v w ≡ true → matches v n ≡ true → matches w n ≡ false
+unfolding apart matches
+not-both v w n a h = go (same c (shortForm v)) refl h (and-both (not (form w (shortForm v))) (not (form w (longForm v))) a)
+  where
+    c : Text
+    c = map capital n
+
+    go : (b : Bool) → same c (shortForm v) ≡ b → (b || same c (longForm v)) ≡ true
+        → (not (form w (shortForm v)) ≡ true) × (not (form w (longForm v)) ≡ true) → form w c ≡ false
+    go true q k p = ap (form w) (same-eq c (shortForm v) q) ∙ not-true _ (p .0)
+    go false q k p = ap (form w) (same-eq c (longForm v) k) ∙ not-true _ (p .1)
+
+-- nodes that are apart from a word spell no names of which the first spells the word
+spells-none : (w : String) (n : Text) → matches w n ≡ true → (names : List Text) (nodes : List Node) → allApart w nodes ≡ true
+    → spells nodes (n ∷ names) ≡ false
+unfolding spells allApart
+spells-none w n h names [] a = refl
+spells-none w n h names (must v ∷ nodes) a =
+    let p = and-both (apart w v) (allApart w nodes) a in
+    rw (not-both w v n (p .0) h)
+spells-none w n h names (may v ∷ nodes) a =
+    let p = and-both (apart w v) (allApart w nodes) a in
+    rw (spells-none w n h names nodes (p .1), not-both w v n (p .0) h)
+
+or-false : (e : Bool) → (e || false) ≡ e
+or-false true = refl
+or-false false = refl
+
+pub greedy-spells : (nodes : List Node) → clear nodes ≡ true → (names : List Text) → greedy nodes names ≡ spells nodes names
+unfolding greedy spells clear if_then_else_
+greedy-spells [] c names = refl
+greedy-spells (must w ∷ nodes) c [] = refl
+greedy-spells (must w ∷ nodes) c (n ∷ names) = go (matches w n) (greedy-spells nodes c names)
+  where
+    go : (e : Bool) → greedy nodes names ≡ spells nodes names → (if e then greedy nodes names else false) ≡ (e && spells nodes names)
+    go true ih = ih
+    go false ih = refl
+greedy-spells (may w ∷ nodes) c [] = greedy-spells nodes (and-both (allApart w nodes) (clear nodes) c .1) []
+greedy-spells (may w ∷ nodes) c (n ∷ names) =
+    let p = and-both (allApart w nodes) (clear nodes) c in
+    let ih = greedy-spells nodes (p .1) in
+    go (matches w n) refl (ih names) (ih (n ∷ names)) (p .0)
+  where
+    go : (e : Bool) → matches w n ≡ e → greedy nodes names ≡ spells nodes names → greedy nodes (n ∷ names) ≡ spells nodes (n ∷ names)
+        → allApart w nodes ≡ true
+        → (if e then greedy nodes names else greedy nodes (n ∷ names)) ≡ (spells nodes (n ∷ names) || (e && spells nodes names))
+    go true q taken left a = rw (spells-none w n q names nodes a) taken
+    go false q taken left a = left ∙ sym (or-false (spells nodes (n ∷ names)))

@@ -1,0 +1,24 @@
+use Rattle.interpreter.specs.RowsParts.{formLength}
+use mathlib.Core.Path.{sym}
+use borrow.Author.Needs.{needs}
+use Rattle.interpreter.proofs.rows.has_length.Statement.{statement}
+use Rattle.interpreter.proofs.rows.has_length.Tie as tie
+
+word-cell-requires : tie.Need-word-cell-requires
+word-cell-requires c κs = search needs
+
+cast-short : tie.Need-cast-short
+cast-short c = search needs
+
+word-cell-requires-2 : tie.Need-word-cell-requires-2
+word-cell-requires-2 c κs = search needs
+
+cast-long : tie.Need-cast-long
+cast-long c = search needs
+
+returns : tie.Need-returns
+unfolding formLength
+returns c = rw (sym (c .before .word-cell .ensures), sym (c .word-cell2 .ensures))
+
+pub has-length-spec : {M : Type 1} → statement M
+has-length-spec = tie.close (tie.spec word-cell-requires cast-short word-cell-requires-2 cast-long returns)

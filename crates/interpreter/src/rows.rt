@@ -1,0 +1,191 @@
+// Check 3: the row that spells the names of a header, and how a name spells a word.
+use registers::text;
+ghost use mathlib.Core.Path.{_≡_};
+ghost use Prim.Native.Nat.{_≤_, _<_};
+ghost use lib.ListN.{length};
+ghost use Rattle.registers.specs.Words.{longForm, matches};
+ghost use Rattle.interpreter.specs.RowsParts.{rowTable, wordTable, wordAt, rowOf, named, agreed, formLength, WordTaken, wordCell, rowCell, wordIn, nodeOf, leftOut, Walked, formBit, formed};
+
+// How many rows there are.
+pub(crate) const ROWS: usize = 33;
+
+// More nodes than any row has: what is passed of a row that was not walked.
+const UNTRIED: usize = 8;
+
+// Where a walk over a row's nodes goes on.
+enum Walk {
+    To(usize),
+    Missed,
+}
+
+fn word_cell(words: &[u8], word: usize, i: usize) -> u8
+    requires { ⌜ (now words ≡ wordTable) × (word < 52) × (i < 16) ⌝ }
+    ensures { λ r. ⌜ r ≡ wordCell word i ⌝ }
+{
+    words[word * 16 + i]
+}
+
+fn row_cell(rows: &[u8], row: usize, i: usize) -> u8
+    requires { ⌜ (now rows ≡ rowTable) × (row < 33) × (i < 8) ⌝ }
+    ensures { λ r. ⌜ r ≡ rowCell row i ⌝ }
+{
+    rows[row * 8 + i]
+}
+
+fn word_in(node: u8) -> usize
+    ensures { λ r. ⌜ r ≡ wordIn node ⌝ }
+{
+    if node < 128 {
+        node as usize
+    } else {
+        (node - 128) as usize
+    }
+}
+
+fn left_out(node: u8, at: usize) -> Walk
+    ensures { λ r. ⌜ r ≡ leftOut node at ⌝ }
+{
+    if node < 128 {
+        Walk::Missed
+    } else {
+        Walk::To(at)
+    }
+}
+
+// Whether a word's short or its long form has so many letters.
+fn has_length(words: &[u8], word: usize, n: usize) -> bool
+    requires { ⌜ (now words ≡ wordTable) × (word < 52) ⌝ }
+    ensures { λ r. ⌜ r ≡ formLength word n ⌝ }
+{
+    let short = word_cell(words, word, 0) as usize;
+    let long = word_cell(words, word, 1) as usize;
+    (n == short) | (n == long)
+}
+
+// How many first bytes of a text are a word's letters, in any letter case.
+fn agreed_letters(words: &[u8], text: &[u8], word: usize) -> usize
+    requires { ⌜ (now words ≡ wordTable) × (word < 52) ⌝ }
+    ensures { λ r. ⌜ r ≡ agreed (now (text .entry)) (longForm (wordAt word)) ⌝ }
+{
+    let long = word_cell(words, word, 1) as usize;
+    let mut n: usize = 0;
+    while n < text.len() {
+        if long <= n {
+            return n;
+        }
+        if text::in_capitals(text[n]) != word_cell(words, word, n + 2) {
+            return n;
+        }
+        n += 1;
+    }
+    n
+}
+
+// Whether a name spells a word, in its short or its long form.
+pub(crate) fn is_word(words: &[u8], name: &[u8], word: usize) -> bool
+    requires { ⌜ (now words ≡ wordTable) × (word < 52) ⌝ }
+    ensures { λ r. ⌜ r ≡ matches (wordAt word) (now (name .entry)) ⌝ }
+{
+    let n = agreed_letters(words, name, word);
+    (n == name.len()) & has_length(words, word, n)
+}
+
+// Takes a word as the name at a place, with the colon behind it. No letter is a colon, so one walk over
+// the letters finds the name's end too. Most names differ from a word in the first letter, so that is
+// compared before the walk begins.
+fn take_word(words: &[u8], text: &[u8], at: usize, word: usize) -> Walk
+    requires { ⌜ (now words ≡ wordTable) × (word < 52) ⌝ }
+    ensures { λ r. ⌜ WordTaken word (now (text .entry)) at r ⌝ }
+{
+    if text.len() <= at {
+        return Walk::Missed;
+    }
+    if text::in_capitals(text[at]) != word_cell(words, word, 2) {
+        return Walk::Missed;
+    }
+    let n = agreed_letters(words, &text[at..], word);
+    if !has_length(words, word, n) {
+        return Walk::Missed;
+    }
+    let end = at + n;
+    if text.len() <= end {
+        return Walk::To(end);
+    }
+    if text[end] == 58 {
+        return Walk::To(end + 1);
+    }
+    Walk::Missed
+}
+
+// Takes a row's node at the name that starts at a place, or leaves it out if it is optional.
+fn take_node(words: &[u8], text: &[u8], at: usize, node: u8) -> Walk
+    requires { ⌜ (now words ≡ wordTable) × (at ≤ length (now text)) × (wordIn node < 52) ⌝ }
+    ensures { λ r. ⌜ Walked (nodeOf node) (now (text .entry)) at r ⌝ }
+{
+    let walk = take_word(words, text, at, word_in(node));
+    match walk {
+        Walk::To(place) => Walk::To(place),
+        Walk::Missed => left_out(node, at),
+    }
+}
+
+// A header's form as a bit.
+fn form_bit(star: bool, asked: bool) -> u8
+    ensures { λ r. ⌜ r ≡ formBit star asked ⌝ }
+{
+    if star {
+        if asked { 8 } else { 4 }
+    } else {
+        if asked { 2 } else { 1 }
+    }
+}
+
+fn has_form(rows: &[u8], row: usize, bit: u8) -> bool
+    requires { ⌜ (now rows ≡ rowTable) × (row < 33) ⌝ }
+    ensures { λ r. ⌜ r ≡ formed row bit ⌝ }
+{
+    row_cell(rows, row, 0) & bit != 0
+}
+
+// The first row that spells the names of a text in the form asked for, or ROWS. At the first node
+// that is missed the inner loop is left and the next row is tried. A row that shares this node with
+// the row before misses it too; one that shares just the nodes that were passed goes on behind them.
+pub(crate) fn find(rows: &[u8], words: &[u8], text: &[u8], star: bool, asked: bool) -> usize
+    requires { ⌜ (now rows ≡ rowTable) × (now words ≡ wordTable) ⌝ }
+    ensures { λ r. ⌜ r ≡ rowOf star (named (now (text .entry))) asked ⌝ }
+{
+    let bit = form_bit(star, asked);
+    let mut at: usize = 0;
+    let mut passed: usize = UNTRIED;
+    let mut next: usize = 0;
+    'rows: while next < ROWS {
+        let row = next;
+        next += 1;
+        let shared = row_cell(rows, row, 2) as usize;
+        if passed < shared {
+            continue 'rows;
+        }
+        if !has_form(rows, row, bit) {
+            passed = UNTRIED;
+            continue 'rows;
+        }
+        if shared < passed {
+            at = 0;
+            passed = 0;
+        }
+        let n = row_cell(rows, row, 1) as usize;
+        while passed < n {
+            let walk = take_node(words, text, at, row_cell(rows, row, passed + 3));
+            match walk {
+                Walk::To(place) => at = place,
+                Walk::Missed => continue 'rows,
+            }
+            passed += 1;
+        }
+        if at < text.len() {
+            continue 'rows;
+        }
+        return row;
+    }
+    ROWS
+}
