@@ -58,17 +58,10 @@ pub record Serves (s : State) (input output : Text) (number read written : ℕ) 
 -- ---- what the functions inside say
 
 -- how far the code got means this
-abbrev pub serviceAt : Progress → Text → Text → Text → Service
-serviceAt p line out output = service (flowBox (p .flow) line out) (p .read) (take (p .written) output) (drop (p .written) output)
-
-pub record LineServed (p : Progress) (line out bytes output : Text) (r : Progress) (lines left outputs : Text) : Type 0 where
-  pub fits : FlowFits (r .flow)
-  pub none : r .flow .count ≡ 0
-  pub read : r .read ≡ p .read + length bytes
-  pub within : r .written ≤ length outputs
-  pub service : serviceAt r lines left outputs ≡ servedLine (serviceAt p line out output) bytes
+abbrev pub serviceAt : Flow → ℕ → ℕ → Text → Text → Text → Service
+serviceAt f read written line out output = service (flowBox f line out) read (take written output) (drop written output)
 
 pub record FlowServed (f : Flow) (line out input output : Text) (r : Progress) (lines left outputs : Text) : Type 0 where
   pub fits : FlowFits (r .flow)
   pub within : r .written ≤ length outputs
-  pub service : serviceAt r lines left outputs ≡ serves (service (flowBox f line out) 0 [] output) (linesOf input)
+  pub service : serviceAt (r .flow) (r .read) (r .written) lines left outputs ≡ serves (service (flowBox f line out) 0 [] output) (linesOf input)

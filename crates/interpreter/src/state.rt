@@ -128,7 +128,7 @@ fn hold(mut flow: Flow, line: &mut [u8], part: &[u8]) -> Flow
     flow
 }
 
-// A newline: the line that was held is run.
+// A newline: a waiting answer is first discarded, and the line that was held is run.
 fn newline(
     rows: &[u8],
     words: &[u8],
@@ -142,9 +142,9 @@ fn newline(
     requires { ⌜ FlowFits flow × (flow .count < 2 ^ 63) ⌝ }
     ensures { λ r. ⌜ FlowFed flow (now (line .entry)) (now (out .entry)) (10 ∷ []) r (now (line .entry)) (now (out .exit)) ⌝ }
 {
-    let present = flow.present;
     let filled = flow.filled;
-    let ran = line::end(
+    let present = line::discard(flow.present, flow.waiting);
+    let ran = line::run_line(
         rows,
         words,
         present,
@@ -152,7 +152,6 @@ fn newline(
         &line[0..filled],
         flow.overlong,
         out,
-        flow.waiting,
     );
     let next = ran.present;
     Flow {

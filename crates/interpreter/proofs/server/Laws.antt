@@ -14,11 +14,10 @@ use Rattle.registers.specs.Text.{Text, if_then_else_, empty}
 use Rattle.interpreter.specs.Box.{mostLine, mostAnswer}
 use Rattle.interpreter.specs.Events.{happens, taken}
 use Rattle.interpreter.specs.State.{flowBox, FlowFits, firstLine, FlowFed}
-use Rattle.interpreter.specs.Server.{linesOf, Service, service, servedLine, serves, serviceAt, LineServed, FlowServed}
+use Rattle.interpreter.specs.Server.{linesOf, Service, service, servedLine, serves, serviceAt, FlowServed}
 use Rattle.interpreter.specs.declared.state.Flow.{Flow}
-use Rattle.interpreter.specs.declared.server.Progress.{Progress}
 use Rattle.registers.proofs.Tests.{and-both}
-use Rattle.interpreter.proofs.line.Laws.{waits}
+use Rattle.interpreter.proofs.line.Newline.{waits}
 use Rattle.interpreter.proofs.state.Laws.{first-some, first-within}
 
 -- ---- the first line
@@ -71,98 +70,83 @@ module _ (f r : Flow) (line out bytes lines left : Text) (w : FlowFed f line out
       go false e =
           rw (← w .box, is, e, n, le-leb (r .waiting) (length rest) within, take-at (take (r .waiting) left) (drop (r .waiting) rest) (r .waiting) n, drop-at (take (r .waiting) left) (drop (r .waiting) rest) (r .waiting) n)
 
--- the line of a chunk was taken in, and its answer laid behind those before it
-module _ (p : Progress) (line out bytes output : Text) (r : Flow) (lines left : Text) (w : FlowFed (p .flow) line out bytes r lines left)
-    (outs : length left ≡ mostAnswer) (room : p .written + mostAnswer ≤ length output) where
-  pub line-served : (next written : ℕ) (outputs : Text) → next ≡ p .read + length bytes → written ≡ p .written + r .waiting
-      → outputs ≡ paste output (p .written) left (r .waiting)
-      → LineServed p line out bytes output (record { flow = taken-from r; read = next; written = written }) lines left outputs
-  line-served next written outputs isn isw is =
-      let few = w .fits .waiting in
-      let d = length-drop (p .written) output in
-      let long = length-paste output (p .written) left (r .waiting) (omega arith) (omega arith) in
-      record {
-        fits = record { filled = w .fits .filled; waiting = zero-le; queued = w .fits .queued };
-        none = refl;
-        read = isn;
-        within = rw (is, long) (omega arith);
-        service =
-            rw (isn, isw, is, take-paste output (p .written) left (r .waiting) (omega arith) (omega arith), drop-paste output (p .written) left (r .waiting) (omega arith) (omega arith), ← drop-drop (r .waiting) (p .written) output)
-            (sym (served-one (p .flow) r line out bytes lines left w outs (p .read) (take (p .written) output) (drop (p .written) output) (omega arith)));
-      }
-
 -- ---- the loop over a chunk's lines
 
-pub record Serving (begun : Service) (room : ℕ) (input path line out output : Text) (p : Progress) : Type 0 where
-  pub fits : FlowFits (p .flow)
-  pub none : p .flow .count ≡ 0
+pub record Serving (begun : Service) (room : ℕ) (input path line out output : Text) (f : Flow) (read written : ℕ) : Type 0 where
+  pub fits : FlowFits f
+  pub none : f .count ≡ 0
   pub paths : length path ≡ mostLine
   pub lines : length line ≡ mostLine
   pub outs : length out ≡ mostAnswer
   pub outputs : length output ≡ room
-  pub read-in : p .read ≤ length input
-  pub wrote : p .written ≤ length output
-  pub left : serves (serviceAt p line out output) (linesOf (drop (p .read) input)) ≡ serves begun (linesOf input)
+  pub read-in : read ≤ length input
+  pub wrote : written ≤ length output
+  pub left : serves (serviceAt f read written line out output) (linesOf (drop read input)) ≡ serves begun (linesOf input)
 
-module _ (begun : Service) (room : ℕ) (input path line out output : Text) (p : Progress)
-    (g : Serving begun room input path line out output p) where
+module _ (begun : Service) (room : ℕ) (input path line out output : Text) (f : Flow) (read written : ℕ)
+    (g : Serving begun room input path line out output f read written) where
   abbrev Goes : Bool → Type 0
-  Goes t = (ltb (p .read) (length input) && leb mostAnswer (length output - p .written)) ≡ t
+  Goes t = (ltb read (length input) && leb mostAnswer (length output - written)) ≡ t
 
   module _ (t : Goes true) where
-    pub more-input : p .read < length input
-    more-input = ltb-true (p .read) (length input) (and-both (ltb (p .read) (length input)) _ t .0)
+    pub more-input : read < length input
+    more-input = ltb-true read (length input) (and-both (ltb read (length input)) _ t .0)
 
-    pub more-room : p .written + mostAnswer ≤ length output
+    pub more-room : written + mostAnswer ≤ length output
     more-room =
-        let free = leb-true mostAnswer (length output - p .written) (and-both (ltb (p .read) (length input)) _ t .1) in
+        let free = leb-true mostAnswer (length output - written) (and-both (ltb read (length input)) _ t .1) in
         let wrote = g .wrote in
         omega arith
 
-    module _ (r : Progress) (path′ line′ out′ output′ : Text)
-        (w : LineServed p line out (firstLine (drop (p .read) input)) output r line′ out′ output′) where
-      pub serve-further : p .read < r .read
-      serve-further =
-          let h = more-input in
-          let d = length-drop (p .read) input in
-          let s = first-some (drop (p .read) input) (omega arith) in
-          let n = w .read in
-          omega arith
+    -- the next line was taken in, and its answer laid behind those before it
+    module _ (next : ℕ) (is : next ≡ read + length (firstLine (drop read input))) where
+      pub serve-further : read < next
+      serve-further = let h = more-input in let d = length-drop read input in let s = first-some (drop read input) (omega arith) in omega arith
 
-      pub serve-on : length path′ ≡ length path → length line′ ≡ length line → length out′ ≡ length out → length output′ ≡ length output
-          → Serving begun room input path′ line′ out′ output′ r
-      serve-on q l o u =
+      pub serve-on : (r : Flow) (path′ line′ out′ : Text) → FlowFed f line out (firstLine (drop read input)) r line′ out′
+          → length path′ ≡ length path → length line′ ≡ length line → length out′ ≡ length out
+          → (end : ℕ) (output′ : Text) → end ≡ written + r .waiting → output′ ≡ paste output written out′ (r .waiting)
+          → Serving begun room input path′ line′ out′ output′ (taken-from r) next end
+      serve-on r path′ line′ out′ w p l o end output′ e u =
           let h = more-input in
           let free = more-room in
-          let d = length-drop (p .read) input in
-          let f = length-drop (p .written) output in
-          let n = w .read in
-          let m = first-within (drop (p .read) input) in
-          let rest = lines-first (drop (p .read) input) (omega arith) in
-          let next : drop (length (firstLine (drop (p .read) input))) (drop (p .read) input) ≡ drop (r .read) input =
-          rw (n, drop-drop) in
+          let few = w .fits .waiting in
+          let outs = o ∙ g .outs in
+          let d = length-drop read input in
+          let k = length-drop written output in
+          let m = first-within (drop read input) in
+          let long = length-paste output written out′ (r .waiting) (omega arith) (omega arith) in
+          let rest = lines-first (drop read input) (omega arith) in
+          let behind : drop (length (firstLine (drop read input))) (drop read input) ≡ drop next input = rw (is, drop-drop) in
+          let one = served-one f r line out (firstLine (drop read input)) line′ out′ w outs read (take written output) (drop written output) (omega arith) in
+          let now : serviceAt (taken-from r) next end line′ out′ output′ ≡ servedLine (serviceAt f read written line out output) (firstLine (drop read input)) =
+          rw (is, e, u, take-paste output written out′ (r .waiting) (omega arith) (omega arith), drop-paste output written out′ (r .waiting) (omega arith) (omega arith), ← drop-drop (r .waiting) written output)
+          (sym one) in
           record {
-            fits = w .fits;
-            none = w .none;
-            paths = q ∙ g .paths;
+            fits = record { filled = w .fits .filled; waiting = zero-le; queued = w .fits .queued };
+            none = refl;
+            paths = p ∙ g .paths;
             lines = l ∙ g .lines;
-            outs = o ∙ g .outs;
-            outputs = u ∙ g .outputs;
+            outs = outs;
+            outputs = rw u (long ∙ g .outputs);
             read-in = omega arith;
-            wrote = w .within;
+            wrote = rw (u, long) (omega arith);
             left =
-                rw (w .service)
-                (sym (serves-on (serviceAt p line out output) _ (linesOf (drop (r .read) input)) (omega arith)) ∙ (rw (rest, next) at (g .left)));
+                rw now
+                (sym (serves-on (serviceAt f read written line out output) _ (linesOf (drop next input)) (omega arith)) ∙ (rw (rest, behind) at (g .left)));
           }
 
   pub serve-end : (f₀ : Flow) (line₀ out₀ output₀ : Text) → begun ≡ service (flowBox f₀ line₀ out₀) 0 [] output₀
-      → Goes false → FlowServed f₀ line₀ out₀ input output₀ p line out output
+      → Goes false → FlowServed f₀ line₀ out₀ input output₀ (record { flow = f; read = read; written = written }) line out output
   unfolding linesOf serves
-  serve-end f₀ line₀ out₀ output₀ b stop = record { fits = g .fits; within = g .wrote; service = rw b at (ends (ltb (p .read) (length input)) refl) }
+  serve-end f₀ line₀ out₀ output₀ b stop = record { fits = g .fits; within = g .wrote; service = rw b at (ends (ltb read (length input)) refl) }
     where
-      ends : (t : Bool) → ltb (p .read) (length input) ≡ t → serviceAt p line out output ≡ serves begun (linesOf input)
+      here : Service
+      here = serviceAt f read written line out output
+
+      ends : (t : Bool) → ltb read (length input) ≡ t → here ≡ serves begun (linesOf input)
       ends true e =
-          let full = leb-false mostAnswer (length output - p .written) (rw e at stop) in
-          let d = length-drop (p .written) output in
-          sym (serves-stop (serviceAt p line out output) (linesOf (drop (p .read) input)) (omega arith)) ∙ g .left
-      ends false e = let h = ltb-false (p .read) (length input) e in rw (drop-of-length-le input h) at (g .left)
+          let full = leb-false mostAnswer (length output - written) (rw e at stop) in
+          let d = length-drop written output in
+          sym (serves-stop here (linesOf (drop read input)) (omega arith)) ∙ g .left
+      ends false e = let h = ltb-false read (length input) e in rw (drop-of-length-le input h) at (g .left)

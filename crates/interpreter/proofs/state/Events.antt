@@ -21,7 +21,7 @@ use Rattle.interpreter.specs.Events.{Event, received, take as takes, con
 use Rattle.interpreter.specs.State.{boxOf, possibleParts, Happens, Tested, flowOf, stateOf, FlowFed}
 use Rattle.interpreter.specs.declared.state.State.{State}
 use Rattle.interpreter.specs.declared.state.Flow.{Flow}
-use Rattle.interpreter.proofs.line.Laws.{waits}
+use Rattle.interpreter.proofs.line.Newline.{waits}
 use Rattle.interpreter.proofs.state.Records.{Short, short-from, could, could-not, happens-so}
 
 module _ (s : State) (e : Event) (t : Bool) (w : Tested s t) where

@@ -18,6 +18,7 @@ use Rattle.interpreter.specs.Line.{held, byte, piece, newlines}
 use Rattle.interpreter.specs.State.{flowBox, FlowFits, firstLine, FlowFed}
 use Rattle.interpreter.specs.declared.state.Flow.{Flow}
 use Rattle.interpreter.proofs.Lists.{rest-is}
+use Rattle.interpreter.proofs.line.Units.{place}
 use Rattle.interpreter.proofs.demands.Pieces.{piece-append, newlines-append}
 
 -- ---- a text laid over another
@@ -74,25 +75,24 @@ module _ (l : Text) where
 
 -- the line that starts at a place, up to its newline
 module _ (bytes : Text) (at end : ℕ) (is : end ≡ at + indexOf 10 (slice at (length bytes) bytes)) (within : end ≤ length bytes) where
-  place : end - at ≡ indexOf 10 (drop at bytes)
-  unfolding slice
-  place = let e : end ≡ at + indexOf 10 (drop at bytes) = rw (take-length bytes) at is in omega arith
+  here : end - at ≡ indexOf 10 (drop at bytes)
+  here = place 10 bytes at end is
 
   pub part-plain : newlines (take (end - at) (drop at bytes)) ≡ 0
-  part-plain = rw place (none-before (drop at bytes))
+  part-plain = rw here (none-before (drop at bytes))
 
   pub line-open : end ≡ length bytes → firstLine (drop at bytes) ≡ take (end - at) (drop at bytes)
   unfolding firstLine
   line-open e =
       let d = length-drop at bytes in
-      let p = place in
+      let p = here in
       take-all (indexOf 10 (drop at bytes) + 1) (drop at bytes) (omega arith) ∙ sym (take-all (end - at) (drop at bytes) (omega arith))
 
   pub line-ended : (end ≡ length bytes → ⊥) → firstLine (drop at bytes) ≡ take (end - at) (drop at bytes) ++ 10 ∷ []
   unfolding firstLine
   line-ended ne =
       let d = length-drop at bytes in
-      let p = place in
+      let p = here in
       let h : indexOf 10 (drop at bytes) < length (drop at bytes) = omega arith in
       rw (p, add-one (indexOf 10 (drop at bytes)), take-suc (drop at bytes) (indexOf 10 (drop at bytes)) 0 h, newline-at (drop at bytes) h)
 

@@ -1,4 +1,5 @@
 use mathlib.Core.Path.{_≡_, refl, sym, _∙_}
+use Prim.Native.Nat.{zero-le}
 use native.Mathlib.Omega.{arith}
 use lib.ListN.{length, take}
 use Rattle.registers.specs.Errors as errors
@@ -16,26 +17,28 @@ number-requires c κs = search needs
 returns : tie.Need-returns
 returns c =
     let a = c .before .before .before .args in
-    let s = c .before .before .before .good .0 .1 .1 .1 .0 .1 .1 in
-    let long : length (a .present .status .errors) ≡ 16 = search needs in
+    let d = a .done in
+    let s = c .before .before .before .good .0 .1 .1 .0 .1 .1 .1 .0 .1 .1 in
+    let long : length (d .present .status .errors) ≡ 16 = search needs in
     let raised = c .before .before .raise .ensures in
     record {
       stops = refl;
-      box = λ out. rw raised (refused-dropped (a .error) (a .present) long (sym (c .before .number .ensures) ∙ c .if1 .taken) (take (a .answered) out) out);
-      queued = λ h. rw raised (raised-short (a .error) (a .present) long h);
-      room = omega arith;
+      box = λ out. rw raised (refused-dropped (a .error) (d .present) long (sym (c .before .number .ensures) ∙ c .if1 .taken) (take (d .answered) out) out);
+      queued = λ h. rw raised (raised-short (a .error) (d .present) long h);
+      room = zero-le;
     }
 
 returns-2 : tie.Need-returns-2
 returns-2 c =
     let a = c .before .before .before .args in
-    let s = c .before .before .before .good .0 .1 .1 .1 .0 .1 .1 in
-    let long : length (a .present .status .errors) ≡ 16 = search needs in
+    let d = a .done in
+    let s = c .before .before .before .good .0 .1 .1 .0 .1 .1 .1 .0 .1 .1 in
+    let long : length (d .present .status .errors) ≡ 16 = search needs in
     let raised = c .before .before .raise .ensures in
     record {
       stops = refl;
-      box = λ out. rw raised (refused-kept (a .error) (a .present) long (λ e. c .if1 .left (c .before .number .ensures ∙ e)) (take (a .answered) out));
-      queued = λ h. rw raised (raised-short (a .error) (a .present) long h);
+      box = λ out. rw raised (refused-kept (a .error) (d .present) long (λ e. c .if1 .left (c .before .number .ensures ∙ e)) (take (d .answered) out));
+      queued = λ h. rw raised (raised-short (a .error) (d .present) long h);
       room = omega arith;
     }
 

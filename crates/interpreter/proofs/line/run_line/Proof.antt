@@ -1,19 +1,41 @@
-use mathlib.Core.Path.{sym, _∙_}
+use mathlib.Core.Path.{_≡_, sym, _∙_}
 use native.Mathlib.Omega.{arith}
+use lib.ListN.{length}
 use Rattle.registers.specs.Errors as errors
-use Rattle.interpreter.proofs.line.Laws.{line-blank, line-none, line-some}
+use Rattle.interpreter.proofs.line.Laws.{raised-short}
+use Rattle.interpreter.proofs.line.Newline.{line-overlong, line-blank, line-none, line-some}
 use borrow.Author.Needs.{needs}
 use Rattle.interpreter.proofs.line.run_line.Statement.{statement}
 use Rattle.interpreter.proofs.line.run_line.Tie as tie
 
-is-blank-requires : tie.Need-is-blank-requires
-is-blank-requires c κs = search needs
+raise-requires : tie.Need-raise-requires
+raise-requires c κs = search needs
 
 returns : tie.Need-returns
 returns c =
     let a = c .before .before .before .before .before .before .before .args in
     let p = c .before .before .before .before .before .before .before .pre in
-    record { queued = p .1 .2; room = omega arith; box = line-blank (a .present) (a .line .now) (sym (c .before .is-blank .ensures) ∙ c .if1 .taken) }
+    let s = c .before .before .before .before .before .before .before .good .1 .1 .0 .1 .1 .1 .0 .1 .1 in
+    let long : length (a .present .status .errors) ≡ 16 = search needs in
+    let raised = c .raise .ensures in
+    record {
+      queued = rw raised (raised-short _ (a .present) long (p .1 .2));
+      room = omega arith;
+      box = rw raised (line-overlong (a .present) (a .line .now) (a .overlong) long (c .before .if1 .taken));
+    }
+
+is-blank-requires : tie.Need-is-blank-requires
+is-blank-requires c κs = search needs
+
+returns-2 : tie.Need-returns-2
+returns-2 c =
+    let a = c .before .before .before .before .before .before .before .before .args in
+    let p = c .before .before .before .before .before .before .before .before .pre in
+    record {
+      queued = p .1 .2;
+      room = omega arith;
+      box = line-blank (a .present) (a .line .now) (a .overlong) (c .before .before .if1 .left) (sym (c .before .is-blank .ensures) ∙ c .if2 .taken);
+    }
 
 run-units-requires : tie.Need-run-units-requires
 run-units-requires c κs = search needs
@@ -24,20 +46,24 @@ same-length c = search needs
 same-length-2 : tie.Need-same-length-2
 same-length-2 c = search needs
 
-returns-2 : tie.Need-returns-2
-returns-2 c =
-    let a = c .before .before .before .before .before .before .before .before .before .before .before .before .before .before .before .args in
+returns-3 : tie.Need-returns-3
+returns-3 c =
+    let a = c .before .before .before .before .before .before .before .before .before .before .before .before .before .before .before .before .args in
     let r = c .before .before .before .before .before .run-units in
     let w = r .ensures in
-    let dark = sym (c .before .before .before .before .before .before .before .before .before .is-blank .ensures) ∙ c .before .before .before .before .before .before .before .before .if1 .left in
     let room = w .room in
-    record { queued = w .queued; room = omega arith; box = line-none (a .present) (a .line .now) _ (r .result) w dark (c .if2 .taken) }
+    let dark = sym (c .before .before .before .before .before .before .before .before .before .is-blank .ensures) ∙ c .before .before .before .before .before .before .before .before .if2 .left in
+    record {
+      queued = w .queued;
+      room = omega arith;
+      box = line-none (a .present) (a .line .now) (a .overlong) (c .before .before .before .before .before .before .before .before .before .before .if1 .left) dark (r .result) _ w (c .if3 .taken);
+    }
 
 slice-write-out : tie.Need-slice-write-out
 slice-write-out c = search needs
 
-add-t17 : tie.Need-add-t17
-add-t17 c = search needs
+add-ran : tie.Need-add-ran
+add-ran c = search needs
 
 same-length-3 : tie.Need-same-length-3
 same-length-3 c = search needs
@@ -45,30 +71,35 @@ same-length-3 c = search needs
 same-length-4 : tie.Need-same-length-4
 same-length-4 c = search needs
 
-returns-3 : tie.Need-returns-3
-returns-3 c =
+returns-4 : tie.Need-returns-4
+returns-4 c =
     let a = c .before .before .before .before .before .before .before .before .before .before .before .before .before .before .before .before .args in
-    let p = c .before .before .before .before .before .before .before .before .before .before .before .before .before .before .before .before .pre in
-    let r = c .before .before .before .before .before .before .run-units in
+    let r = c .before .before .before .before .before .run-units in
     let w = r .ensures in
-    let dark = sym (c .before .before .before .before .before .before .before .before .before .before .is-blank .ensures) ∙ c .before .before .before .before .before .before .before .before .before .if1 .left in
     let room = w .room in
     let k = r .kept in
-    let was = p .1 .1 in
-    record { queued = w .queued; room = omega arith; box = line-some (a .present) (a .line .now) _ (r .result) w dark (c .before .if2 .left) (omega arith) }
+    let was = c .before .before .before .before .before .before .before .before .before .before .before .before .before .before .before .before .pre .1 .1 in
+    let dark = sym (c .before .before .before .before .before .before .before .before .before .is-blank .ensures) ∙ c .before .before .before .before .before .before .before .before .if2 .left in
+    record {
+      queued = w .queued;
+      room = omega arith;
+      box = line-some (a .present) (a .line .now) (a .overlong) (c .before .before .before .before .before .before .before .before .before .before .if1 .left) dark (r .result) _ w (c .if3 .left) (omega arith);
+    }
 
 pub run-line-spec : {M : Type 1} → statement M
 run-line-spec =
     tie.close
     (tie.spec
-    is-blank-requires
+    raise-requires
     returns
+    is-blank-requires
+    returns-2
     run-units-requires
     same-length
     same-length-2
-    returns-2
+    returns-3
     slice-write-out
-    add-t17
+    add-ran
     same-length-3
     same-length-4
-    returns-3)
+    returns-4)

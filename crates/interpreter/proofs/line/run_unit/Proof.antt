@@ -14,17 +14,6 @@ enum-known-reading c = search needs
 refuse-requires : tie.Need-refuse-requires
 refuse-requires c κs = search needs
 
-enum-known-reading-2 : tie.Need-enum-known-reading-2
-enum-known-reading-2 c = search needs
-
-perform-requires : tie.Need-perform-requires
-perform-requires c κs =
-    let a = c .before .before .before .before .before .before .before .before .before .before .before .before .before .before .args in
-    let p = c .before .before .before .before .before .before .before .before .before .before .before .before .before .before .pre in
-    let read = c .before .before .before .before .before .before .read in
-    let allowed = unit-allowed (a .present) (take (a .used) (a .path .now)) (a .unit .now) (read .last .1 .1 .1 .0) (read .result) (read .ensures) _ _ (c .before .before .reading2 .given .1) in
-    ((p .0 .1, allowed), p .1 .1)
-
 same-length : tie.Need-same-length
 same-length c = search needs
 
@@ -33,8 +22,19 @@ returns c =
     let a = c .before .before .before .before .before .before .before .before .before .before .before .before .before .before .args in
     let p = c .before .before .before .before .before .before .before .before .before .before .before .before .before .before .pre in
     let read = c .before .before .before .before .before .before .read in
-    unit-refused (a .present) (take (a .used) (a .path .now)) (a .unit .now) (read .last .1 .1 .1 .0) (read .result) (read .ensures)
-    (a .out .now) (a .answered) _ (c .before .before .reading .given .1) (a .used) (c .refuse .result) (c .refuse .ensures) (p .1 .1 .2) (p .1 .1 .0)
+    unit-refused (a .done) (take (a .done .used) (a .path .now)) (a .unit .now) (read .last .1 .1 .1 .0) (read .result) (read .ensures)
+    (a .out .now) _ (c .before .before .reading .given .1) (c .refuse .result) (c .refuse .ensures) (p .1 .1 .2) (p .1 .1 .0)
+
+enum-known-reading-2 : tie.Need-enum-known-reading-2
+enum-known-reading-2 c = search needs
+
+perform-requires : tie.Need-perform-requires
+perform-requires c κs =
+    let a = c .before .before .before .before .before .before .before .before .before .before .before .before .before .before .args in
+    let p = c .before .before .before .before .before .before .before .before .before .before .before .before .before .before .pre in
+    let read = c .before .before .before .before .before .before .read in
+    let allowed = unit-allowed (a .done) (take (a .done .used) (a .path .now)) (a .unit .now) (read .last .1 .1 .1 .0) (read .result) (read .ensures) _ _ (c .before .before .reading2 .given .1) in
+    ((p .0 .1, allowed), p .1 .1)
 
 same-length-2 : tie.Need-same-length-2
 same-length-2 c = search needs
@@ -45,10 +45,10 @@ same-length-3 c = search needs
 returns-2 : tie.Need-returns-2
 returns-2 c =
     let a = c .before .before .before .before .before .before .before .before .before .before .before .before .before .before .before .before .before .before .args in
-    let p = c .before .before .before .before .before .before .before .before .before .before .before .before .before .before .before .before .before .before .pre in
     let read = c .before .before .before .before .before .before .before .before .before .before .read in
-    unit-obeyed (a .present) (take (a .used) (a .path .now)) (a .unit .now) (read .last .1 .1 .1 .0) (read .result) (read .ensures)
-    (a .out .now) (a .answered) _ _ (c .before .before .before .before .before .before .reading2 .given .1) (c .before .before .before .perform .result) (c .before .before .before .perform .last .1 .1 .1 .0) (c .before .before .before .perform .ensures)
+    let performed = c .before .before .before .perform in
+    unit-obeyed (a .done) (take (a .done .used) (a .path .now)) (a .unit .now) (read .last .1 .1 .1 .0) (read .result) (read .ensures)
+    (a .out .now) _ _ (c .before .before .before .before .before .before .reading2 .given .1) (performed .result) (performed .last .1 .1 .1 .0) (performed .ensures)
 
 pub run-unit-spec : {M : Type 1} → statement M
 run-unit-spec =
@@ -57,10 +57,10 @@ run-unit-spec =
     read-requires
     enum-known-reading
     refuse-requires
-    enum-known-reading-2
-    perform-requires
     same-length
     returns
+    enum-known-reading-2
+    perform-requires
     same-length-2
     same-length-3
     returns-2)

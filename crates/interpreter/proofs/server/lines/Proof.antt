@@ -10,11 +10,12 @@ use Rattle.interpreter.proofs.server.lines.Statement.{statement}
 use Rattle.interpreter.proofs.server.lines.Tie as tie
 
 abbrev Inv-loop : tie.InvT-loop
-Inv-loop rows words path₀ line₀ out₀ input output₀ done₀ path line out output done =
-    Serving (service (flowBox (done₀ .flow) line₀ out₀) 0 [] output₀) (length output₀) input path line out output done
+Inv-loop rows words path₀ line₀ out₀ input output₀ flow₀ read₀ written₀ path line out output flow read written =
+    Serving (service (flowBox flow₀ line₀ out₀) 0 [] output₀) (length output₀) input path line out output flow read written
 
 abbrev μ-loop : tie.MeasureT-loop
-μ-loop rows words path₀ line₀ out₀ input output₀ done₀ path line out output done = length input - done .read
+μ-loop rows words path₀ line₀ out₀ input output₀ flow₀ read₀ written₀ path line out output flow read written =
+    length input - read
 
 loop-holds : tie.Need-loop-holds Inv-loop μ-loop
 loop-holds c =
@@ -32,50 +33,53 @@ loop-holds c =
       left = refl;
     }
 
-sub-if1 : tie.Need-sub-if1 Inv-loop μ-loop
-sub-if1 c = let w = c .before .before .loop .inv .wrote in omega arith
+sub-loop : tie.Need-sub-loop Inv-loop μ-loop
+sub-loop c = let wrote = c .loop .inv .wrote in omega arith
 
-serve-line-requires : tie.Need-serve-line-requires Inv-loop μ-loop
-serve-line-requires c κs =
-    let g = c .before .before .before .before .before .before .before .loop .inv in
-    (c .before .before .before .before .before .before .before .before .before .before .before .before .before .before .before .pre .0, ((g .paths, g .lines, g .outs), (g .fits, g .none, g .read-in, more-room _ _ _ _ _ _ _ _ g (c .before .before .before .before .if1 .taken))))
+feed-line-requires : tie.Need-feed-line-requires Inv-loop μ-loop
+feed-line-requires c κs =
+    let g = c .before .before .before .before .loop .inv in
+    let none = g .none in
+    (c .before .before .before .before .before .before .before .before .before .before .before .before .pre .0, ((g .paths, g .lines, g .outs), (g .fits, omega arith, g .read-in)))
+
+paste-requires : tie.Need-paste-requires Inv-loop μ-loop
+paste-requires c κs =
+    let g = c .before .before .before .before .before .before .before .before .before .before .before .before .before .before .loop .inv in
+    let outs = g .outs in
+    let few = c .before .before .before .before .before .before .before .before .before .feed-line .ensures .0 .fits .waiting in
+    let k = c .before .before .before .before .before .before .before .before .before .feed-line .kept in
+    let free = more-room _ _ _ _ _ _ _ _ _ _ g (c .before .before .before .before .before .before .before .before .before .before .before .before .before .loop-test .taken) in
+    (omega arith, omega arith)
 
 loop-less : tie.Need-loop-less Inv-loop μ-loop
 loop-less c =
-    let r = c .before .before .before .before .before .before .before .before .serve-line in
-    let k = serve-further _ _ _ _ _ _ _ _ (c .before .before .before .before .before .before .before .before .before .before .before .before .before .before .before .before .loop .inv) (c .before .before .before .before .before .before .before .before .before .before .before .before .before .if1 .taken) (r .result) [] _ _ _ (r .ensures) in
-    let n = more-input _ _ _ _ _ _ _ _ (c .before .before .before .before .before .before .before .before .before .before .before .before .before .before .before .before .loop .inv) (c .before .before .before .before .before .before .before .before .before .before .before .before .before .if1 .taken) in
+    let fed = c .before .before .before .before .before .before .before .before .before .before .before .before .feed-line in
+    let k = serve-further _ _ _ _ _ _ _ _ _ _ (c .before .before .before .before .before .before .before .before .before .before .before .before .before .before .before .before .before .loop .inv) (c .before .before .before .before .before .before .before .before .before .before .before .before .before .before .before .before .loop-test .taken) (fed .result .next) (fed .ensures .1) in
+    let n = more-input _ _ _ _ _ _ _ _ _ _ (c .before .before .before .before .before .before .before .before .before .before .before .before .before .before .before .before .before .loop .inv) (c .before .before .before .before .before .before .before .before .before .before .before .before .before .before .before .before .loop-test .taken) in
     omega arith
 
 loop-again : tie.Need-loop-again Inv-loop μ-loop
 loop-again c =
-    let r = c .before .before .before .before .before .before .before .before .serve-line in
-    serve-on _ _ _ _ _ _ _ _ (c .before .before .before .before .before .before .before .before .before .before .before .before .before .before .before .before .loop .inv) (c .before .before .before .before .before .before .before .before .before .before .before .before .before .if1 .taken) (r .result) _ _ _ _ (r .ensures)
-    (let k = r .kept in omega arith) (let k = r .kept in omega arith) (let k = r .kept in omega arith) (let k = r .kept in omega arith)
+    let fed = c .before .before .before .before .before .before .before .before .before .before .before .before .feed-line in
+    let laid = c .before .before .paste in
+    serve-on _ _ _ _ _ _ _ _ _ _ (c .before .before .before .before .before .before .before .before .before .before .before .before .before .before .before .before .before .loop .inv) (c .before .before .before .before .before .before .before .before .before .before .before .before .before .before .before .before .loop-test .taken) (fed .result .next) (fed .ensures .1) (fed .result .flow) _ _ _ (fed .ensures .0)
+    (let k = fed .kept in omega arith) (let k = fed .kept in omega arith) (let k = fed .kept in omega arith)
+    (laid .result) _ (laid .ensures .0) (laid .ensures .1)
 
 same-length : tie.Need-same-length Inv-loop μ-loop
-same-length c =
-    let now = c .before .before .before .loop .inv .paths in
-    let was = c .before .before .before .before .before .before .before .before .before .before .before .pre .1 .0 .0 in
-    omega arith
+same-length c = let now = c .before .loop .inv .paths in let was = c .before .before .before .before .before .before .before .before .before .pre .1 .0 .0 in omega arith
 
 same-length-2 : tie.Need-same-length-2 Inv-loop μ-loop
-same-length-2 c =
-    let now = c .before .before .before .loop .inv .lines in
-    let was = c .before .before .before .before .before .before .before .before .before .before .before .pre .1 .0 .1 in
-    omega arith
+same-length-2 c = let now = c .before .loop .inv .lines in let was = c .before .before .before .before .before .before .before .before .before .pre .1 .0 .1 in omega arith
 
 same-length-3 : tie.Need-same-length-3 Inv-loop μ-loop
-same-length-3 c =
-    let now = c .before .before .before .loop .inv .outs in
-    let was = c .before .before .before .before .before .before .before .before .before .before .before .pre .1 .0 .2 in
-    omega arith
+same-length-3 c = let now = c .before .loop .inv .outs in let was = c .before .before .before .before .before .before .before .before .before .pre .1 .0 .2 in omega arith
 
 same-length-4 : tie.Need-same-length-4 Inv-loop μ-loop
-same-length-4 c = let now = c .before .before .before .loop .inv .outputs in omega arith
+same-length-4 c = let now = c .before .loop .inv .outputs in omega arith
 
 returns : tie.Need-returns Inv-loop μ-loop
-returns c = serve-end _ _ _ _ _ _ _ _ (c .before .before .before .loop .inv) _ _ _ _ refl (c .if1 .left)
+returns c = serve-end _ _ _ _ _ _ _ _ _ _ (c .before .loop .inv) _ _ _ _ refl (c .loop-test .left)
 
 pub lines-spec : {M : Type 1} → statement M
 lines-spec =
@@ -84,8 +88,9 @@ lines-spec =
     Inv-loop
     μ-loop
     loop-holds
-    sub-if1
-    serve-line-requires
+    sub-loop
+    feed-line-requires
+    paste-requires
     loop-less
     loop-again
     same-length

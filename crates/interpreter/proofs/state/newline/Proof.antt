@@ -1,29 +1,39 @@
-use borrow.Author.Needs.{needs}
-use native.Mathlib.Nat.{sub-zero}
 use mathlib.Core.Path.{refl}
+use Prim.Native.Nat.{_<_, zero-le}
 use native.Mathlib.Omega.{arith}
+use native.Mathlib.Nat.{sub-zero}
+use lib.ListN.{length, take, length-take}
 use Rattle.registers.specs.Text.{if_then_else_}
 use Rattle.registers.specs.Errors as errors
 use Rattle.interpreter.specs.Line.{byte, piece, newlines}
+use Rattle.interpreter.proofs.line.Newline.{ended}
+use borrow.Author.Needs.{needs}
 use Rattle.interpreter.proofs.state.newline.Statement.{statement}
 use Rattle.interpreter.proofs.state.newline.Tie as tie
 
-sub-end : tie.Need-sub-end
-sub-end c = search needs
+discard-requires : tie.Need-discard-requires
+discard-requires c κs = search needs
 
-part-end-start : tie.Need-part-end-start
-part-end-start c = search needs
+sub-run-line : tie.Need-sub-run-line
+sub-run-line c = search needs
 
-part-end-end : tie.Need-part-end-end
-part-end-end c = search needs
+part-run-line-start : tie.Need-part-run-line-start
+part-run-line-start c = search needs
 
-end-requires : tie.Need-end-requires
-end-requires c κs = search needs
+part-run-line-end : tie.Need-part-run-line-end
+part-run-line-end c = search needs
+
+run-line-requires : tie.Need-run-line-requires
+run-line-requires c κs =
+    let p = c .before .before .before .before .before .before .before .before .before .pre in
+    let paths = p .1 .0 .0 in
+    let lines = p .1 .0 .1 in
+    let held = p .1 .1 .0 .filled in
+    (p .0, (rw (sub-zero, length-take) (omega arith), p .1 .0 .2, c .before .before .before .discard .ensures .queued (p .1 .1 .0 .queued)))
 
 add-t14 : tie.Need-add-t14
 add-t14 c =
-    let p = c .before .before .before .before .before .before .before .before .before .before .before .before .before .before .before .before .pre in
-    let count = p .1 .1 .1 in
+    let count = c .before .before .before .before .before .before .before .before .before .before .before .before .before .before .before .before .pre .1 .1 .1 in
     omega arith
 
 same-length : tie.Need-same-length
@@ -35,10 +45,15 @@ same-length-2 c = search needs
 returns : tie.Need-returns
 unfolding piece byte newlines if_then_else_
 returns c =
-    let w = c .before .before .before .before .before .before .end .ensures in
+    let a = c .before .before .before .before .before .before .before .before .before .before .before .before .before .before .before .before .args in
+    let f = a .flow in
+    let outs = c .before .before .before .before .before .before .before .before .before .before .before .before .before .before .before .before .pre .1 .0 .2 in
+    let room : 0 < length (a .out .now) = omega arith in
+    let d = c .before .before .before .before .before .before .before .before .before .before .discard in
+    let w = c .before .before .before .before .before .before .run-line .ensures in
     record {
-      fits = record { filled = omega arith; waiting = w .room; queued = w .queued };
-      box = rw sub-zero at (w .box);
+      fits = record { filled = zero-le; waiting = w .room; queued = w .queued };
+      box = rw (← ended (f .present) (a .out .now) (f .waiting) (d .result) (d .ensures) room (take (f .filled) (a .line .now)) (f .overlong)) (rw sub-zero at (w .box));
       count = refl;
     }
 
@@ -46,10 +61,11 @@ pub newline-spec : {M : Type 1} → statement M
 newline-spec =
     tie.close
     (tie.spec
-    sub-end
-    part-end-start
-    part-end-end
-    end-requires
+    discard-requires
+    sub-run-line
+    part-run-line-start
+    part-run-line-end
+    run-line-requires
     add-t14
     same-length
     same-length-2

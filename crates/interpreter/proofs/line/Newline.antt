@@ -1,0 +1,84 @@
+-- Laws of the newline: an answer that waits is discarded, and the line that was held is run.
+use mathlib.Core.Path.{_≡_, refl, sym}
+use mathlib.Core.Bool.{Bool, true, false}
+use mathlib.Core.List.{[], _∷_}
+use Prim.Native.Nat.{ℕ, zero, suc, _+_, _-_, _<_}
+use native.Mathlib.Omega.{arith}
+use native.Mathlib.Numerals.{add-one}
+use lib.Dec.{eqb, eqb·suc-suc}
+use lib.ListN.{length, take, set}
+use lib.Seq.{take-suc-set}
+use borrow.Author.Tests.{ne-eqb}
+use Rattle.registers.specs.Text.{Text, if_then_else_, start, white, every, empty}
+use Rattle.registers.specs.declared.error.Error.the-variants.{QueryInterrupted, InputBufferOverrun}
+use Rattle.interpreter.specs.Box.{box, mostAnswer}
+use Rattle.interpreter.specs.Line.{runUnits, interrupted, finished, unitsOf, runLine, endLine}
+use Rattle.interpreter.specs.DeedsParts.{boxIn, raisedWith}
+use Rattle.interpreter.specs.LineParts.{boxAt, Discarded, boxHolding, UnitsRan}
+use Rattle.interpreter.specs.declared.perform.Present.{Present}
+use Rattle.interpreter.specs.declared.line.Ran.{Ran}
+use Rattle.interpreter.proofs.line.Laws.{raised-box}
+
+-- ---- a line
+
+full-answer : (out : Text) (n : ℕ) → (n ≡ 0 → ⊥) → n < length out → empty (take n out) ≡ false
+full-answer out zero h l = absurd (h refl)
+full-answer [] (suc n) h l = absurd (omega arith)
+full-answer (x ∷ out) (suc n) h l = refl
+
+-- the white space at its start is all of it exactly where every byte is white
+whole-start : (p : ℕ → Bool) (l : Text) → eqb (length (start p l)) (length l) ≡ every p l
+unfolding if_then_else_
+whole-start p [] = refl
+whole-start p (x ∷ l) = go (p x) refl (whole-start p l)
+  where
+    go : (t : Bool) → p x ≡ t → eqb (length (start p l)) (length l) ≡ every p l → eqb (length (start p (x ∷ l))) (suc (length l)) ≡ every p (x ∷ l)
+    go true e ih = rw (e, eqb·suc-suc (length (start p l)) (length l)) ih
+    go false e ih = rw (e, ne-eqb 0 (suc (length l)) (λ k. omega arith))
+
+pub blank : (l : Text) (n : ℕ) → n ≡ 0 + length (start white l) → eqb n (length l) ≡ every white l
+blank l n is = let e : n ≡ length (start white l) = omega arith in rw e (whole-start white l)
+
+module _ (p : Present) (line : Text) (o : Bool) where
+  pub line-overlong : length (p .status .errors) ≡ 16 → o ≡ true → boxIn (raisedWith InputBufferOverrun p) [] ≡ runLine line o (boxIn p [])
+  unfolding runLine if_then_else_
+  line-overlong long e = rw e (raised-box InputBufferOverrun p long [])
+
+  pub line-blank : o ≡ false → every white line ≡ true → boxIn p [] ≡ runLine line o (boxIn p [])
+  unfolding runLine unitsOf finished runUnits if_then_else_
+  line-blank e b = rw (e, b)
+
+  module _ (e : o ≡ false) (dark : every white line ≡ false) (r : Ran) (out : Text) (ran : UnitsRan p line r out) where
+    pub line-none : r .answered ≡ 0 → boxAt (r .present) (r .answered) out ≡ runLine line o (boxIn p [])
+    unfolding runLine unitsOf finished if_then_else_
+    line-none z = rw (e, dark, ← ran .box, z)
+
+    pub line-some : (r .answered ≡ 0 → ⊥) → length out ≡ mostAnswer
+        → boxAt (r .present) (r .answered + 1) (set out (r .answered) 10) ≡ runLine line o (boxIn p [])
+    unfolding runLine unitsOf finished if_then_else_
+    line-some h long =
+        let room = ran .room in
+        rw (e, dark, ← ran .box, full-answer out (r .answered) h (omega arith), add-one (r .answered), take-suc-set out (r .answered) 10 (omega arith))
+
+-- ---- the newline
+
+-- an answer waits exactly where its length isn't 0
+pub waits : (out : Text) (n : ℕ) → 0 < length out → empty (take n out) ≡ eqb n 0
+waits [] n h = absurd (omega arith)
+waits (x ∷ out) zero h = refl
+waits (x ∷ out) (suc n) h = sym (ne-eqb (suc n) 0 (λ e. omega arith))
+
+module _ (p : Present) (out : Text) (n : ℕ) where
+  pub none-waits : n ≡ 0 → boxIn p [] ≡ interrupted (boxIn p (take n out))
+  unfolding interrupted if_then_else_
+  none-waits e = rw e
+
+  pub one-waits : length (p .status .errors) ≡ 16 → 0 < length out → (n ≡ 0 → ⊥)
+      → boxIn (raisedWith QueryInterrupted p) [] ≡ interrupted (boxIn p (take n out))
+  unfolding interrupted if_then_else_
+  one-waits long room ne = rw (waits out n room, ne-eqb n 0 ne, raised-box QueryInterrupted p long [])
+
+  pub ended : (q : Present) → Discarded n p q → 0 < length out → (line : Text) (o : Bool)
+      → runLine line o (boxIn q []) ≡ endLine (boxHolding p line o (take n out))
+  unfolding endLine
+  ended q w room line o = rw (w .box out room)

@@ -1,0 +1,151 @@
+-- Laws of the units of a line: how they stand in it, and what is left to run behind each.
+use mathlib.Core.Path.{_≡_, refl, sym, _∙_}
+use mathlib.Core.Bool.{Bool, true, false, _&&_, false≢true}
+use mathlib.Core.List.{List, [], _∷_}
+use Prim.Native.Nat.{ℕ, suc, _+_, _-_, _≤_, _<_, zero-le}
+use native.Mathlib.Omega.{arith}
+use native.Mathlib.Numerals.{add-one}
+use lib.Dec.{ltb, eqb, leb·suc-suc}
+use lib.ListN.{length, take, drop, length-drop, length-take}
+use lib.Seq.{drop-drop, take-length}
+use borrow.Author.Tests.{ltb-true, ltb-false, lt-ltb, le-ltb}
+use Rattle.bytes.specs.Bytes.{indexOf, indexAfter, slice}
+use Rattle.registers.specs.Text.{Text, if_then_else_, start}
+use Rattle.registers.specs.Check.{refused, passed}
+use Rattle.registers.proofs.Tests.{and-both}
+use Rattle.interpreter.specs.Cuts.{cutAt}
+use Rattle.interpreter.specs.Box.{Box, box, mostAnswer}
+use Rattle.interpreter.specs.Line.{Obeyed, attempt, refuse, runUnits}
+use Rattle.interpreter.specs.HeaderParts.{closed}
+use Rattle.interpreter.specs.RowsParts.{named}
+use Rattle.interpreter.specs.DeedsParts.{boxIn}
+use Rattle.interpreter.specs.LineParts.{boxAt, UnitRan}
+use Rattle.interpreter.specs.declared.perform.Present.{Present}
+use Rattle.interpreter.specs.declared.line.Done.{Done}
+
+-- ---- where a byte stands from a place on
+
+pub place : (x : ℕ) (l : Text) (at end : ℕ) → end ≡ at + indexOf x (slice at (length l) l) → end - at ≡ indexOf x (drop at l)
+unfolding slice
+place x l at end is = let e : end ≡ at + indexOf x (drop at l) = rw (take-length l) at is in omega arith
+
+-- ---- a line cut at its units
+
+-- the units behind the first
+unfoldable others : Text → List Text
+others l = if ltb (indexOf 59 l) (length l) then cutAt 59 (drop (indexOf 59 l + 1) l) else []
+
+first-unit : (l : Text) → cutAt 59 l ≡ take (indexOf 59 l) l ∷ others l
+unfolding cutAt others indexOf indexAfter if_then_else_
+first-unit [] = refl
+first-unit (x ∷ l) = go (eqb x 59) refl (first-unit l)
+  where
+    go : (t : Bool) → eqb x 59 ≡ t → cutAt 59 l ≡ take (indexOf 59 l) l ∷ others l
+        → cutAt 59 (x ∷ l) ≡ take (indexOf 59 (x ∷ l)) (x ∷ l) ∷ others (x ∷ l)
+    go true e ih = rw (e, lt-ltb 0 (suc (length l)) (omega arith))
+    go false e ih = rw (e, ih, leb·suc-suc (suc (indexOf 59 l)) (length l), add-one (suc (indexOf 59 l)), add-one (indexOf 59 l))
+
+others-more : (l : Text) → indexOf 59 l < length l → others l ≡ cutAt 59 (drop (indexOf 59 l + 1) l)
+unfolding others if_then_else_
+others-more l h = rw (lt-ltb (indexOf 59 l) (length l) h)
+
+others-none : (l : Text) → length l ≤ indexOf 59 l → others l ≡ []
+unfolding others if_then_else_
+others-none l h = rw (le-ltb (indexOf 59 l) (length l) h)
+
+-- ---- units run one by one
+
+module _ (u : Text) (us path : List Text) (b : Box) where
+  pub run-on : (o : Obeyed) → attempt path b u ≡ passed o → runUnits (u ∷ us) path b ≡ runUnits us (o .path) (o .box)
+  unfolding runUnits
+  run-on o e = rw e
+
+  pub run-stop : (n : ℕ) → attempt path b u ≡ refused n → runUnits (u ∷ us) path b ≡ refuse n b
+  unfolding runUnits
+  run-stop n e = rw e
+
+pub run-none : (path : List Text) (b : Box) → runUnits [] path b ≡ b
+unfolding runUnits
+run-none path b = refl
+
+-- ---- the units of a line so far: what is left does what all of them do
+
+pub record Going (b : Box) (line : Text) (room : ℕ) (path out : Text) (d : Done) (at : ℕ) : Type 0 where
+  pub queued : d .present .status .queued ≤ 16
+  pub answers : d .answered < mostAnswer
+  pub long : length out ≡ mostAnswer
+  pub wide : length path ≡ room
+  pub behind : d .used ≤ at
+  pub within : at ≤ length line
+  pub shut : closed (take (d .used) path) ≡ true
+  pub left : runUnits (cutAt 59 (drop at line)) (named (take (d .used) path)) (boxAt (d .present) (d .answered) out) ≡ runUnits (cutAt 59 line) [] b
+
+pub going-start : (p : Present) (o : Bool) (line path out : Text) → p .status .queued ≤ 16 → length out ≡ mostAnswer
+    → Going (boxIn p []) line (length path) path out (record { present = p; answered = 0; used = 0; obeyed = o }) 0
+unfolding named closed
+going-start p o line path out q l =
+    record { queued = q; answers = omega arith; long = l; wide = refl; behind = zero-le; within = zero-le; shut = refl; left = refl }
+
+module _ (b : Box) (line : Text) (room : ℕ) (path out : Text) (d : Done) (at : ℕ) (g : Going b line room path out d at)
+    (end : ℕ) (is : end ≡ at + indexOf 59 (slice at (length line) line)) (within : end ≤ length line)
+    (r : Done) (paths left : Text) (w : UnitRan d (take (d .used) path) (take (end - at) (drop at line)) out r paths left) where
+  -- the line from this unit on, and the box before it
+  abbrev here : Text
+  here = drop at line
+
+  abbrev before : Box
+  before = boxAt (d .present) (d .answered) out
+
+  n : end - at ≡ indexOf 59 here
+  n = place 59 line at end is
+
+  first : cutAt 59 here ≡ take (end - at) here ∷ others here
+  first = rw n (first-unit here)
+
+  stopped : r .obeyed ≡ false → boxAt (r .present) (r .answered) left ≡ runUnits (cutAt 59 line) [] b
+  stopped f =
+      let s = w .stops f in
+      s .2 ∙ sym (run-stop (take (end - at) here) (others here) (named (take (d .used) path)) before (s .0) (s .1)) ∙ (rw first at (g .left))
+
+  passes : r .obeyed ≡ true → runUnits (others here) (named (take (r .used) paths)) (boxAt (r .present) (r .answered) left) ≡ runUnits (cutAt 59 line) [] b
+  passes t = sym (run-on (take (end - at) here) (others here) (named (take (d .used) path)) before _ (w .goes t .0)) ∙ (rw first at (g .left))
+
+  pub going-less : (r .obeyed && ltb end (length line)) ≡ true → length line - (end + 1) < length line - at
+  going-less e = let h = ltb-true end (length line) (and-both (r .obeyed) (ltb end (length line)) e .1) in omega (arith, is)
+
+  pub going-on : (r .obeyed && ltb end (length line)) ≡ true → length paths ≡ length path → length left ≡ length out
+      → Going b line room paths left r (end + 1)
+  going-on e k l =
+      let both = and-both (r .obeyed) (ltb end (length line)) e in
+      let h = ltb-true end (length line) (both .1) in
+      let o = w .goes (both .0) in
+      let m = n in
+      let used = o .2 in
+      let start = g .behind in
+      let a = length-take (d .used) path in
+      let c = length-take (end - at) here in
+      let f = length-drop at line in
+      let next : at + (indexOf 59 here + 1) ≡ end + 1 = omega arith in
+      let rest : others here ≡ cutAt 59 (drop (end + 1) line) = rw (others-more here (omega arith), drop-drop (indexOf 59 here + 1) at line, next) in
+      record {
+        queued = w .queued;
+        answers = w .room;
+        long = l ∙ g .long;
+        wide = k ∙ g .wide;
+        behind = omega arith;
+        within = omega arith;
+        shut = o .1;
+        left = rw rest at (passes (both .0));
+      }
+
+  pub going-end : (r .obeyed && ltb end (length line)) ≡ false → boxAt (r .present) (r .answered) left ≡ runUnits (cutAt 59 line) [] b
+  going-end e = go (r .obeyed) refl (ltb end (length line)) refl
+    where
+      go : (t : Bool) → r .obeyed ≡ t → (u : Bool) → ltb end (length line) ≡ u → boxAt (r .present) (r .answered) left ≡ runUnits (cutAt 59 line) [] b
+      go false o u q = stopped o
+      go true o true q = absurd (false≢true (sym e ∙ rw (o, q)))
+      go true o false q =
+          let h = ltb-false end (length line) q in
+          let m = n in
+          let f = length-drop at line in
+          sym (run-none _ _) ∙ (rw (others-none here (omega arith)) at (passes o))
