@@ -6,13 +6,13 @@ use Prim.Native.Nat.{ℕ, _+_, _≤_, _<_}
 use lib.Dec.{eqb}
 use lib.ListN.{take, set}
 use lib.IntN.{ℤ}
-use Rattle.registers.specs.Text.{Text, if_then_else_, first}
+use Rattle.registers.specs.Text.{Text, if_then_else_, bytes, first}
 use Rattle.registers.specs.Check.{refused, passed}
 use Rattle.registers.specs.Answer.{decimal}
 use Rattle.registers.specs.Errors.{numberOf, errorText}
-use Rattle.registers.specs.Settings.{kindOf, wordText}
-use Rattle.registers.specs.Status.{Registers, registersOf, troubleOf, noTrouble, completed, raisedIn, registerIn, statusByte}
-use Rattle.registers.specs.declared.error.Error.{Error}
+use Rattle.registers.specs.Settings.{kindOf, answerOf, wordText}
+use Rattle.registers.specs.Status.{registersOf, troubleOf, noTrouble, completed, raisedIn, statusByte}
+use Rattle.registers.specs.declared.error.Error as errors
 use Rattle.registers.specs.declared.error.Error.the-variants.{QueryDeadlocked}
 use Rattle.registers.specs.declared.settings.Settings.{Settings}
 use Rattle.registers.specs.declared.status.Status.{Status}
@@ -23,11 +23,12 @@ use Rattle.interpreter.specs.Line.{refuse}
 use Rattle.interpreter.specs.declared.deed.Deed.{Deed}
 use Rattle.interpreter.specs.declared.deed.Deed.the-variants.{Change, Complete, Clear, Query, Inquire}
 use Rattle.interpreter.specs.declared.deed.Query as queries
-use Rattle.interpreter.specs.declared.deed.Query.the-variants.{Identity, SelfTest, Completed, Limit, Value, Stored, Condition, OperationEvents}
 use Rattle.interpreter.specs.declared.deed.Inquiry as inquiries
 use Rattle.interpreter.specs.declared.deed.Inquiry.the-variants.{StandardEvents, StatusByte, NextError}
 use Rattle.interpreter.specs.declared.perform.Present.{Present}
 use Rattle.interpreter.specs.declared.perform.Performed.{Performed}
+use Rattle.interpreter.specs.declared.reply.Reply.{Reply}
+use Rattle.interpreter.specs.declared.reply.Reply.the-variants.{Nothing, Identity, Value, Number, Error}
 
 -- ---- what settings and status mean while a line runs: its bytes are taken, and a is what its units answered so far
 
@@ -46,33 +47,41 @@ boxIn p a = box (coreWith (p .settings) (p .status) a) (troubleOf (p .status))
 abbrev pub placeText : ℕ → ℤ → Text
 placeText row v = wordText (wordsOf (kindOf row)) v
 
--- the number that a query's answer is, of those that answer one
-abbrev pub numberAsked : queries.Query → Registers → ℕ
-numberAsked Identity r = 0
-numberAsked SelfTest r = 0
-numberAsked Completed r = 1
-numberAsked (Limit i v) r = 0
-numberAsked (Value i) r = 0
-numberAsked (Stored x) r = registerIn x r
-numberAsked Condition r = r .operation .condition
-numberAsked OperationEvents r = r .operation .event
-
 abbrev pub inquiryText : inquiries.Inquiry → Status → Bool → Text
 inquiryText StandardEvents s answers = decimal (s .events)
 inquiryText StatusByte s answers = decimal (statusByte (registersOf s) (troubleOf s) answers)
 inquiryText NextError s answers = errorText (first (troubleOf s .queue))
 
--- the answer of a deed that has one
-abbrev pub answerText : Deed → Settings → Status → Bool → Text
-answerText (Change x) s t answers = []
-answerText Complete s t answers = []
-answerText Clear s t answers = []
-answerText (Query q) s t answers = replyTo q (coreIn s t)
-answerText (Inquire q) s t answers = inquiryText q t answers
+-- what is said is written
+unfoldable pub textOf : Reply → Text
+textOf Nothing = []
+textOf Identity = bytes "COURSE,BENCH24,0,4.00"
+textOf (Value i v) = answerOf (kindOf i) v
+textOf (Number n) = decimal n
+textOf (Error n) = errorText n
+
+abbrev pub said : Reply → Bool
+said Nothing = false
+said Identity = true
+said (Value i v) = true
+said (Number n) = true
+said (Error n) = true
+
+pub record RepliesWith (t : Text) (r : Reply) : Type 0 where
+  pub is : textOf r ≡ t
+  pub some : said r ≡ true
+
+-- what a deed answers
+abbrev pub ReplyTo : Deed → Settings → Status → Bool → Reply → Type 0
+ReplyTo (Change x) s t answers r = r ≡ Nothing
+ReplyTo Complete s t answers r = r ≡ Nothing
+ReplyTo Clear s t answers r = r ≡ Nothing
+ReplyTo (Query q) s t answers r = RepliesWith (replyTo q (coreIn s t)) r
+ReplyTo (Inquire q) s t answers r = RepliesWith (inquiryText q t answers) r
 
 -- ---- what each function leaves
 
-unfoldable pub raisedWith : Error → Present → Present
+unfoldable pub raisedWith : errors.Error → Present → Present
 raisedWith e p = record { settings = p .settings; status = raisedIn (numberOf e) (p .status) }
 
 unfoldable pub droppedWith : Present → Performed

@@ -4,6 +4,7 @@ use crate::deed::Deed;
 use crate::deed::Inquiry;
 use crate::deed::Query;
 use crate::reply;
+use crate::reply::Reply;
 use registers::error::Error;
 use registers::settings::Settings;
 use registers::status::Status;
@@ -165,23 +166,17 @@ pub(crate) fn perform(
     ensures { λ r. ⌜ PerformedIn deed present (now (out .entry)) answered r (now (out .exit)) ⌝ }
 {
     let next = after(present, deed);
-    match deed {
-        Deed::Query(_) | Deed::Inquire(_) => {
-            let start = start_of(answered);
-            let n = reply::write_answer(
-                words,
-                present.settings,
-                present.status,
-                answered != 0,
-                deed,
-                &mut out[start..],
-            );
-            settle(present, next, out, answered, n)
-        }
-        _ => Performed {
+    let reply = reply::to_deed(present.settings, present.status, answered != 0, deed);
+    match reply {
+        Reply::Nothing => Performed {
             present: next,
             answered,
             obeyed: true,
         },
+        _ => {
+            let start = start_of(answered);
+            let n = reply::write(words, reply, &mut out[start..]);
+            settle(present, next, out, answered, n)
+        }
     }
 }

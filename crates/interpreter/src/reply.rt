@@ -1,5 +1,5 @@
-// Answers: what each query writes into the tail that it is lent, behind what earlier units of the
-// line wrote.
+// Answers: what each query says, and how it is written into the tail that is lent, behind what earlier
+// units of the line wrote.
 use crate::deed::Deed;
 use crate::deed::Inquiry;
 use crate::deed::Query;
@@ -14,11 +14,18 @@ ghost use Prim.Native.Nat.{_<_};
 ghost use Rattle.registers.specs.Answer.{Laid};
 ghost use Rattle.registers.specs.Words.{shortForm};
 ghost use Rattle.registers.specs.Settings.{kindOf, answerOf};
-ghost use Rattle.registers.specs.Status.{registersOf};
 ghost use Rattle.interpreter.specs.Deeds.{replyTo};
 ghost use Rattle.interpreter.specs.RowsParts.{wordTable, wordAt};
-ghost use Rattle.interpreter.specs.DeedsParts.{coreIn, placeText, numberAsked, inquiryText, answerText};
-ghost use Rattle.interpreter.specs.UnitParts.{Allowed, AllowedQuery};
+ghost use Rattle.interpreter.specs.DeedsParts.{coreIn, placeText, inquiryText, textOf, RepliesWith, ReplyTo};
+
+// What is answered, before it is written: a setting's value, a register or the error of a number.
+pub(crate) enum Reply {
+    Nothing,
+    Identity,
+    Value { row: usize, value: i32 },
+    Number(u16),
+    Error(u16),
+}
 
 // A word in its short form.
 fn write_word(words: &[u8], word: usize, tail: &mut [u8]) -> usize
@@ -48,7 +55,7 @@ fn write_place(words: &[u8], row: usize, value: i32, tail: &mut [u8]) -> usize
 
 // A value of a setting.
 fn write_value(words: &[u8], row: usize, value: i32, tail: &mut [u8]) -> usize
-    requires { ⌜ (now words ≡ wordTable) × (row < 16) ⌝ }
+    requires { ⌜ now words ≡ wordTable ⌝ }
     ensures { λ r. ⌜ Laid (answerOf (kindOf row) value) (now (tail .entry)) r (now (tail .exit)) ⌝ }
 {
     let values = Settings::values_of(row);
@@ -59,64 +66,56 @@ fn write_value(words: &[u8], row: usize, value: i32, tail: &mut [u8]) -> usize
     }
 }
 
-// The number that a query asks for; *TST? asks for 0.
-fn number_asked(status: Status, query: Query) -> u32
-    ensures { λ r. ⌜ r ≡ numberAsked query (registersOf status) ⌝ }
+// What a query that sees settings and registers alone answers.
+fn to_query(settings: Settings, status: Status, query: Query) -> Reply
+    ensures { λ r. ⌜ RepliesWith (replyTo query (coreIn settings status)) r ⌝ }
 {
     match query {
-        Query::Completed => 1,
-        Query::Stored(register) => status.register(register) as u32,
-        Query::Condition => status.operation.condition as u32,
-        Query::OperationEvents => status.operation.event as u32,
-        _ => 0,
+        Query::Identity => Reply::Identity,
+        Query::SelfTest => Reply::Number(0),
+        Query::Completed => Reply::Number(1),
+        Query::Limit { row, value } => Reply::Value { row, value },
+        Query::Value(row) => Reply::Value {
+            row,
+            value: settings.value(row),
+        },
+        Query::Stored(register) => Reply::Number(status.register(register)),
+        Query::Condition => Reply::Number(status.operation.condition),
+        Query::OperationEvents => Reply::Number(status.operation.event),
     }
 }
 
-// The answer to a query that sees settings and registers alone.
-fn write_query(
-    words: &[u8],
-    settings: Settings,
-    status: Status,
-    query: Query,
-    tail: &mut [u8],
-) -> usize
-    requires { ⌜ (now words ≡ wordTable) × AllowedQuery query ⌝ }
-    ensures { λ r. ⌜ Laid (replyTo query (coreIn settings status)) (now (tail .entry)) r (now (tail .exit)) ⌝ }
-{
-    match query {
-        Query::Identity => answer::write_text(b"COURSE,BENCH24,0,4.00", tail),
-        Query::Limit { row, value } => write_value(words, row, value, tail),
-        Query::Value(row) => write_value(words, row, settings.value(row), tail),
-        _ => answer::write_decimal(number_asked(status, query), tail),
-    }
-}
-
-// The answer to one that sees the event status register or the error queue.
-fn write_inquiry(status: Status, answers: bool, inquiry: Inquiry, tail: &mut [u8]) -> usize
-    ensures { λ r. ⌜ Laid (inquiryText inquiry status answers) (now (tail .entry)) r (now (tail .exit)) ⌝ }
+// What one answers that sees the event status register or the error queue.
+fn to_inquiry(status: Status, answers: bool, inquiry: Inquiry) -> Reply
+    ensures { λ r. ⌜ RepliesWith (inquiryText inquiry status answers) r ⌝ }
 {
     match inquiry {
-        Inquiry::StandardEvents => answer::write_decimal(status.events as u32, tail),
-        Inquiry::StatusByte => answer::write_decimal(status.status_byte(answers) as u32, tail),
-        Inquiry::NextError => error::write_error(status.oldest(), tail),
+        Inquiry::StandardEvents => Reply::Number(status.events),
+        Inquiry::StatusByte => Reply::Number(status.status_byte(answers) as u16),
+        Inquiry::NextError => Reply::Error(status.oldest()),
     }
 }
 
-// The answer of a deed that has one.
-pub(crate) fn write_answer(
-    words: &[u8],
-    settings: Settings,
-    status: Status,
-    answers: bool,
-    deed: Deed,
-    tail: &mut [u8],
-) -> usize
-    requires { ⌜ (now words ≡ wordTable) × Allowed settings deed ⌝ }
-    ensures { λ r. ⌜ Laid (answerText deed settings status answers) (now (tail .entry)) r (now (tail .exit)) ⌝ }
+// What a deed answers.
+pub(crate) fn to_deed(settings: Settings, status: Status, answers: bool, deed: Deed) -> Reply
+    ensures { λ r. ⌜ ReplyTo deed settings status answers r ⌝ }
 {
     match deed {
-        Deed::Query(query) => write_query(words, settings, status, query, tail),
-        Deed::Inquire(inquiry) => write_inquiry(status, answers, inquiry, tail),
-        _ => 0,
+        Deed::Query(query) => to_query(settings, status, query),
+        Deed::Inquire(inquiry) => to_inquiry(status, answers, inquiry),
+        _ => Reply::Nothing,
+    }
+}
+
+pub(crate) fn write(words: &[u8], reply: Reply, tail: &mut [u8]) -> usize
+    requires { ⌜ now words ≡ wordTable ⌝ }
+    ensures { λ r. ⌜ Laid (textOf reply) (now (tail .entry)) r (now (tail .exit)) ⌝ }
+{
+    match reply {
+        Reply::Nothing => 0,
+        Reply::Identity => answer::write_text(b"COURSE,BENCH24,0,4.00", tail),
+        Reply::Value { row, value } => write_value(words, row, value, tail),
+        Reply::Number(n) => answer::write_decimal(n as u32, tail),
+        Reply::Error(n) => error::write_error(n, tail),
     }
 }

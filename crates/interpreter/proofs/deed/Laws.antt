@@ -1,19 +1,15 @@
--- Laws of the rows' roles, and which deeds answer.
+-- Laws of the rows' roles.
 use mathlib.Core.Path.{_≡_, sym, _∙_, ap}
 use mathlib.Core.List.{List, [], _∷_, _++_, map}
 use Prim.Native.Nat.{ℕ, zero, suc, _+_, _<_}
 use native.Mathlib.Nat.{add-zero, zero-add}
 use native.Mathlib.Omega.{arith}
 use lib.ListN.{length, getD}
-use types.Run.{OneOf}
-use denote.Enum.Declared.{tagOf}
 use Rattle.registers.specs.Settings.{Setting, table}
 use Rattle.interpreter.specs.Rows.{Row, rows, settingRows}
 use Rattle.interpreter.specs.RowsParts.{roleAt}
-use Rattle.interpreter.specs.declared.deed.Deed.{Deed}
 use Rattle.interpreter.specs.declared.deed.Role.{Role}
 use Rattle.interpreter.specs.declared.deed.Role.the-variants.{Setting as setting}
-use Rattle.interpreter.proofs.deed.Deed as deeds
 
 setting-in : (i : ℕ) (ss : List Setting) (others : List Row) (k : ℕ) (d : Role) → k < length ss
     → getD (map (λ (r : Row). r .role) (settingRows i ss ++ others)) k d ≡ setting (i + k)
@@ -37,11 +33,3 @@ NoneOf row (suc n) = NoneOf row n × (row ≡ 16 + n → ⊥)
 pub below-all : (row n : ℕ) → row < 16 + n → NoneOf row n → row < 16
 below-all row zero h p = rw (add-zero 16) at h
 below-all row (suc n) h p = let ne = p .1 in below-all row n (omega arith) (p .0)
-
--- ---- a deed that answers nothing is one of the first three kinds
-
-abbrev pub Silent : Deed → Type 0
-Silent d = OneOf (0 ∷ 1 ∷ 2 ∷ []) (tagOf deeds.the-type d)
-
-abbrev pub Answering : Deed → Type 0
-Answering d = OneOf (3 ∷ 4 ∷ []) (tagOf deeds.the-type d)

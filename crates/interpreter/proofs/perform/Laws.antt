@@ -1,6 +1,6 @@
 -- What the deeds do to settings and status, in terms of the box.
 use mathlib.Core.Path.{_≡_, refl, sym, ap, _∙_}
-use mathlib.Core.Bool.{true, not, false≢true}
+use mathlib.Core.Bool.{Bool, true, not, false≢true}
 use mathlib.Core.List.{[], _∷_}
 use Prim.Native.Nat.{ℕ, zero, suc, _≤_, _<_}
 use native.Mathlib.Omega.{arith}
@@ -16,7 +16,7 @@ use Rattle.registers.specs.declared.settings.Settings.{Settings}
 use Rattle.registers.specs.declared.status.Status.{Status}
 use Rattle.interpreter.specs.Box.{Core, box, withAnswer, mostAnswer}
 use Rattle.interpreter.specs.Deeds.{replyTo, afterQuery, inquiryReply, reply, perform}
-use Rattle.interpreter.specs.DeedsParts.{coreIn, coreWith, boxIn, inquiryText, answerText, leftBy, LeftTo, PerformedIn}
+use Rattle.interpreter.specs.DeedsParts.{coreIn, coreWith, boxIn, inquiryText, textOf, ReplyTo, leftBy, LeftTo, PerformedIn}
 use Rattle.interpreter.specs.declared.deed.Deed.{Deed}
 use Rattle.interpreter.specs.declared.deed.Deed.the-variants.{Change, Complete, Clear, Query, Inquire}
 use Rattle.interpreter.specs.declared.deed.Query as queries
@@ -24,27 +24,31 @@ use Rattle.interpreter.specs.declared.deed.Query.the-variants.{Identity,
 use Rattle.interpreter.specs.declared.deed.Inquiry as inquiries
 use Rattle.interpreter.specs.declared.deed.Inquiry.the-variants.{StandardEvents, StatusByte, NextError}
 use Rattle.interpreter.specs.declared.perform.Present.{Present}
-use Rattle.interpreter.proofs.deed.Laws.{Silent, Answering}
+use Rattle.interpreter.specs.declared.reply.Reply.{Reply}
+use Rattle.interpreter.specs.declared.reply.Reply.the-variants.{Nothing}
 use Rattle.interpreter.proofs.deed.Query as asked
+use Rattle.interpreter.proofs.reply.Reply as replies
 
 -- ---- deeds that answer nothing
 
-silent-does : (d : Deed) → Silent d → (p : Present) (a : Text) → perform d (boxIn p a) ≡ passed (leftBy d (boxIn p a))
+silent-does : (d : Deed) (p : Present) (answers : Bool) → ReplyTo d (p .settings) (p .status) answers Nothing → (a : Text)
+    → perform d (boxIn p a) ≡ passed (leftBy d (boxIn p a))
 unfolding perform
-silent-does (Change x) h p a = refl
-silent-does Complete h p a = refl
-silent-does Clear h p a = refl
-silent-does (Query q) h p a = absurd (miss (0 ∷ 1 ∷ 2 ∷ []) 3 tt h)
-silent-does (Inquire q) h p a = absurd (miss (0 ∷ 1 ∷ 2 ∷ []) 4 tt h)
+silent-does (Change x) p b h a = refl
+silent-does Complete p b h a = refl
+silent-does Clear p b h a = refl
+silent-does (Query q) p b h a = absurd (false≢true (h .some))
+silent-does (Inquire q) p b h a = absurd (false≢true (h .some))
 
-pub unanswered : {d : Deed} {p q : Present} {out : Text} {answered : ℕ} → Silent d → LeftTo d p q → answered < mostAnswer
-    → p .status .queued ≤ 16 → PerformedIn d p out answered (record { present = q; answered = answered; obeyed = true }) out
-unanswered {d} {p} {q} {out} {answered} h left room k =
+pub unanswered : (d : Deed) (answers : Bool) {p q : Present} {out : Text} {answered : ℕ}
+    → ReplyTo d (p .settings) (p .status) answers Nothing → LeftTo d p q → answered < mostAnswer → p .status .queued ≤ 16
+    → PerformedIn d p out answered (record { present = q; answered = answered; obeyed = true }) out
+unanswered d b {p} {q} {out} {answered} h left room k =
     let a = take answered out in
     record {
       queued = left .queued k;
       room = room;
-      done = λ _. silent-does d h p a ∙ ap passed (sym (left .is a));
+      done = λ _. silent-does d p b h a ∙ ap passed (sym (left .is a));
       dropped = λ z. absurd (false≢true (sym z));
     }
 
@@ -91,25 +95,26 @@ some-answer (x ∷ out) (suc n) h = sym (ne-eqb (suc n) 0 (λ e. omega arith))
 
 -- ---- deeds that answer: check 9 on the answer, and what is left but for it
 
-pub record Answers (d : Deed) (p : Present) (out : Text) (n : ℕ) : Type 0 where
+pub record Answers (d : Deed) (p : Present) (out : Text) (n : ℕ) (t : Text) : Type 0 where
   pub does : perform d (boxIn p (take n out))
-      ≡ (reply (answerText d (p .settings) (p .status) (not (eqb n 0))) (leftBy d (boxIn p (take n out)) .core)
-      >>= λ c. passed (box c (leftBy d (boxIn p (take n out)) .trouble)))
+      ≡ (reply t (leftBy d (boxIn p (take n out)) .core) >>= λ c. passed (box c (leftBy d (boxIn p (take n out)) .trouble)))
   pub before : leftBy d (boxIn p (take n out)) .core .answer ≡ take n out
-  pub after : (a : Text) → leftBy d (boxIn p a) ≡ box (withAnswer a (leftBy d (boxIn p (take n out)) .core)) (leftBy d (boxIn p (take n out)) .trouble)
+  pub after : (a : Text)
+      → leftBy d (boxIn p a) ≡ box (withAnswer a (leftBy d (boxIn p (take n out)) .core)) (leftBy d (boxIn p (take n out)) .trouble)
 
-pub answers-in : (d : Deed) → Answering d → (p : Present) (out : Text) (n : ℕ) → n < length out
-    → Answers d p out n
+pub answers-in : (d : Deed) (p : Present) (out : Text) (n : ℕ) → n < length out
+    → (r : Reply) → ReplyTo d (p .settings) (p .status) (not (eqb n 0)) r → OneOf (1 ∷ 2 ∷ 3 ∷ 4 ∷ []) (tagOf replies.the-type r)
+    → Answers d p out n (textOf r)
 unfolding perform
-answers-in (Change x) k p out n h = absurd (miss (3 ∷ 4 ∷ []) 0 tt k)
-answers-in Complete k p out n h = absurd (miss (3 ∷ 4 ∷ []) 1 tt k)
-answers-in Clear k p out n h = absurd (miss (3 ∷ 4 ∷ []) 2 tt k)
-answers-in (Query q) k p out n h =
+answers-in (Change x) p out n h r e k = absurd (miss (1 ∷ 2 ∷ 3 ∷ 4 ∷ []) 0 tt (rw e at k))
+answers-in Complete p out n h r e k = absurd (miss (1 ∷ 2 ∷ 3 ∷ 4 ∷ []) 0 tt (rw e at k))
+answers-in Clear p out n h r e k = absurd (miss (1 ∷ 2 ∷ 3 ∷ 4 ∷ []) 0 tt (rw e at k))
+answers-in (Query q) p out n h r e k =
     let c = boxIn p (take n out) .core in
     record {
-      does = rw (apart q .unseen (p .settings) (p .status) (take n out));
+      does = rw (apart q .unseen (p .settings) (p .status) (take n out), e .is);
       before = sym (ap (λ (x : Core). x .answer) (apart q .kept c (take n out)));
       after = λ a. ap (λ (x : Core). box x (troubleOf (p .status))) (sym (apart q .kept c a));
     }
-answers-in (Inquire q) k p out n h =
-    record { does = rw (inquiry-same q p (take n out), some-answer out n h); before = refl; after = λ a. refl }
+answers-in (Inquire q) p out n h r e k =
+    record { does = rw (inquiry-same q p (take n out), some-answer out n h, e .is); before = refl; after = λ a. refl }

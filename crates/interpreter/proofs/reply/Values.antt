@@ -1,34 +1,33 @@
--- The answer to a query of a setting, by what the setting's values are, and to one that asks for a number.
+-- The answer to a query of a setting, by what the setting's values are, and deeds that have none.
 use mathlib.Core.Path.{_≡_, refl, sym, _∙_}
 use mathlib.Core.Bool.{Bool, true, false}
 use mathlib.Core.List.{List, [], _∷_}
-use Prim.Native.Nat.{ℕ}
+use Prim.Native.Nat.{ℕ, _<_}
 use Prim.Native.String.{String}
-use lib.Dec.{eqb}
+use native.Mathlib.Omega.{arith}
+use lib.Dec.{ltb, eqb}
 use lib.IntN.{ℤ}
 use types.Run.{OneOf, miss}
 use denote.Enum.Declared.{tagOf}
 use mir.Syntax.{w32}
 use mir.Val.{SFits, toZ, ofZ}
 use mir.Facts.{toZ-ofZ}
-use Rattle.registers.specs.Text.{Text, if_then_else_, bytes}
-use Rattle.registers.specs.Answer.{inPlaces, decimal, tenths, signedText, Laid}
-use Rattle.registers.specs.Settings.{Kind, bool, words, number, answerOf, valuesIn, wordText}
-use Rattle.registers.specs.Status.{registersOf}
+use borrow.Author.Tests.{ltb-true, ltb-false}
+use Rattle.registers.specs.Text.{Text, if_then_else_}
+use Rattle.registers.specs.Answer.{decimal, tenths, signedText, Laid}
+use Rattle.registers.specs.Settings.{Kind, bool, words, number, kindOf, answerOf, valuesIn, wordText}
 use Rattle.registers.specs.declared.settings.Settings.{Settings}
 use Rattle.registers.specs.declared.settings.Values.{Values}
 use Rattle.registers.specs.declared.settings.Values.the-variants.{Bool as BoolValue, Word, Tenths, Whole}
 use Rattle.registers.specs.declared.status.Status.{Status}
+use Rattle.registers.proofs.settings.Laws.{behind-is}
 use Rattle.registers.proofs.settings.Values as values
-use Rattle.interpreter.specs.Deeds.{replyTo}
-use Rattle.interpreter.specs.DeedsParts.{coreIn, numberAsked, answerText}
+use Rattle.interpreter.specs.DeedsParts.{ReplyTo}
 use Rattle.interpreter.specs.Parameter.{wordsOf, limitWords}
 use Rattle.interpreter.specs.declared.deed.Deed.{Deed}
-use Rattle.interpreter.specs.declared.deed.Deed.the-variants.{Change, Complete, Clear, Query as Ask, Inquire}
-use Rattle.interpreter.specs.declared.deed.Query.{Query}
-use Rattle.interpreter.specs.declared.deed.Query.the-variants.{Identity, SelfTest, Completed, Limit, Value, Stored, Condition, OperationEvents}
-use Rattle.interpreter.proofs.deed.Laws.{Silent}
-use Rattle.interpreter.proofs.deed.Query as queries
+use Rattle.interpreter.specs.declared.deed.Deed.the-variants.{Change, Complete, Clear, Query, Inquire}
+use Rattle.interpreter.specs.declared.reply.Reply.the-variants.{Nothing}
+use Rattle.interpreter.proofs.deed.Deed as deeds
 
 -- ---- a setting
 
@@ -62,36 +61,23 @@ whole-or-bool Word h ws z = absurd (miss (3 ∷ 0 ∷ []) 1 tt h)
 whole-or-bool Tenths h ws z = absurd (miss (3 ∷ 0 ∷ []) 2 tt h)
 whole-or-bool Whole h ws z = refl
 
--- ---- a number: any query but *IDN? and those of settings
+-- a row whose values are words is one of the table: behind it rows count as bools
+pub word-row : (i : ℕ) {told : Values} → told ≡ valuesIn (kindOf i) → told ≡ Word → i < 16
+word-row i is e = go (ltb i 16) refl
+  where
+    go : (t : Bool) → ltb i 16 ≡ t → i < 16
+    go true q = ltb-true i 16 q
+    go false q =
+        let k : valuesIn (kindOf i) ≡ BoolValue = rw (behind-is i (ltb-false i 16 q)) in
+        let z : _≡_ {A = ℕ} 0 1 = cc in
+        absurd (omega arith)
 
-pub number-reply : (q : Query) → OneOf (1 ∷ 2 ∷ 5 ∷ 6 ∷ 7 ∷ []) (tagOf queries.the-type q) → (s : Settings) (t : Status)
-    → decimal (numberAsked q (registersOf t)) ≡ replyTo q (coreIn s t)
-unfolding replyTo decimal inPlaces bytes if_then_else_
-number-reply Identity h s t = absurd (miss (1 ∷ 2 ∷ 5 ∷ 6 ∷ 7 ∷ []) 0 tt h)
-number-reply SelfTest h s t = refl
-number-reply Completed h s t = refl
-number-reply (Limit i v) h s t = absurd (miss (1 ∷ 2 ∷ 5 ∷ 6 ∷ 7 ∷ []) 3 tt h)
-number-reply (Value i) h s t = absurd (miss (1 ∷ 2 ∷ 5 ∷ 6 ∷ 7 ∷ []) 4 tt h)
-number-reply (Stored x) h s t = refl
-number-reply Condition h s t = refl
-number-reply OperationEvents h s t = refl
+-- ---- a deed without an answer is of one of the first three kinds
 
--- the code asks for a number where it is one, and else for 0
-pub no-number : (q : Query) → OneOf (0 ∷ 1 ∷ 3 ∷ 4 ∷ []) (tagOf queries.the-type q) → (t : Status) → 0 ≡ numberAsked q (registersOf t)
-no-number Identity h t = refl
-no-number SelfTest h t = refl
-no-number Completed h t = absurd (miss (0 ∷ 1 ∷ 3 ∷ 4 ∷ []) 2 tt h)
-no-number (Limit i v) h t = refl
-no-number (Value i) h t = refl
-no-number (Stored x) h t = absurd (miss (0 ∷ 1 ∷ 3 ∷ 4 ∷ []) 5 tt h)
-no-number Condition h t = absurd (miss (0 ∷ 1 ∷ 3 ∷ 4 ∷ []) 6 tt h)
-no-number OperationEvents h t = absurd (miss (0 ∷ 1 ∷ 3 ∷ 4 ∷ []) 7 tt h)
-
--- ---- a deed without an answer
-
-pub no-answer : (d : Deed) → Silent d → (s : Settings) (t : Status) (answers : Bool) → answerText d s t answers ≡ []
-no-answer (Change x) h s t answers = refl
-no-answer Complete h s t answers = refl
-no-answer Clear h s t answers = refl
-no-answer (Ask q) h s t answers = absurd (miss (0 ∷ 1 ∷ 2 ∷ []) 3 tt h)
-no-answer (Inquire q) h s t answers = absurd (miss (0 ∷ 1 ∷ 2 ∷ []) 4 tt h)
+pub nothing-said : (d : Deed) → OneOf (0 ∷ 1 ∷ 2 ∷ []) (tagOf deeds.the-type d) → (s : Settings) (t : Status) (answers : Bool)
+    → ReplyTo d s t answers Nothing
+nothing-said (Change x) h s t answers = refl
+nothing-said Complete h s t answers = refl
+nothing-said Clear h s t answers = refl
+nothing-said (Query q) h s t answers = absurd (miss (0 ∷ 1 ∷ 2 ∷ []) 3 tt h)
+nothing-said (Inquire q) h s t answers = absurd (miss (0 ∷ 1 ∷ 2 ∷ []) 4 tt h)

@@ -2,7 +2,7 @@ use mathlib.Core.Path.{refl}
 use borrow.Author.Needs.{needs}
 use Rattle.registers.specs.Settings.{kindOf}
 use Rattle.interpreter.specs.Parameter.{wordsOf}
-use Rattle.interpreter.proofs.reply.Values.{laid-value, whole-or-bool}
+use Rattle.interpreter.proofs.reply.Values.{laid-value, whole-or-bool, word-row}
 use Rattle.interpreter.proofs.reply.write_value.Statement.{statement}
 use Rattle.interpreter.proofs.reply.write_value.Tie as tie
 
@@ -13,7 +13,10 @@ enum-told : tie.Need-enum-told
 enum-told c = search needs
 
 write-place-requires : tie.Need-write-place-requires
-write-place-requires c κs = search needs
+write-place-requires c κs =
+    let m = c .before in
+    let s = m .before .before .before .before .before in
+    (s .pre, word-row (s .args .row) (m .before .before .values-of .ensures) (m .enum-told .given .1))
 
 enum-told-2 : tie.Need-enum-told-2
 enum-told-2 c = search needs

@@ -1,0 +1,39 @@
+use borrow.Author.Needs.{needs}
+use Rattle.interpreter.proofs.reply.Values.{nothing-said}
+use Rattle.interpreter.proofs.reply.to_deed.Statement.{statement}
+use Rattle.interpreter.proofs.reply.to_deed.Tie as tie
+
+enum-known-deed : tie.Need-enum-known-deed
+enum-known-deed c = search needs
+
+to-query-requires : tie.Need-to-query-requires
+to-query-requires c κs = search needs
+
+enum-known-deed-2 : tie.Need-enum-known-deed-2
+enum-known-deed-2 c = search needs
+
+to-inquiry-requires : tie.Need-to-inquiry-requires
+to-inquiry-requires c κs = search needs
+
+returns : tie.Need-returns
+returns c = rw (c .before .before .deed .given .1) (c .to-query .ensures)
+
+returns-2 : tie.Need-returns-2
+returns-2 c = rw (c .before .before .deed2 .given .1) (c .to-inquiry .ensures)
+
+returns-3 : tie.Need-returns-3
+returns-3 c =
+    let a = c .before .args in
+    nothing-said (a .deed) (c .match .keys3) (a .settings) (a .status) (a .answers)
+
+pub to-deed-spec : {M : Type 1} → statement M
+to-deed-spec =
+    tie.close
+    (tie.spec
+    enum-known-deed
+    to-query-requires
+    enum-known-deed-2
+    to-inquiry-requires
+    returns
+    returns-2
+    returns-3)

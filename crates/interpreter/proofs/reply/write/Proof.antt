@@ -1,0 +1,102 @@
+use mir.Syntax.{w32}
+use mir.Val.{SFits}
+use mir.Facts.{toZ-ofZ}
+use borrow.Author.Needs.{needs}
+use Rattle.registers.specs.Text.{bytes}
+use Rattle.registers.proofs.answer.Laws.{laid-whole, laid-none}
+use Rattle.interpreter.specs.DeedsParts.{textOf}
+use Rattle.interpreter.proofs.reply.write.Statement.{statement}
+use Rattle.interpreter.proofs.reply.write.Tie as tie
+
+enum-told : tie.Need-enum-told
+enum-told c = search needs
+
+enum-told-2 : tie.Need-enum-told-2
+enum-told-2 c = search needs
+
+slice-aggregate-write-text : tie.Need-slice-aggregate-write-text
+slice-aggregate-write-text c = search needs
+
+write-text-requires : tie.Need-write-text-requires
+write-text-requires c κs = search needs
+
+enum-known-reply : tie.Need-enum-known-reply
+enum-known-reply c = search needs
+
+write-value-requires : tie.Need-write-value-requires
+write-value-requires c κs = search needs
+
+enum-known-reply-2 : tie.Need-enum-known-reply-2
+enum-known-reply-2 c = search needs
+
+cast-write-decimal : tie.Need-cast-write-decimal
+cast-write-decimal c = search needs
+
+write-decimal-requires : tie.Need-write-decimal-requires
+write-decimal-requires c κs = search needs
+
+enum-known-reply-3 : tie.Need-enum-known-reply-3
+enum-known-reply-3 c = search needs
+
+write-error-requires : tie.Need-write-error-requires
+write-error-requires c κs = search needs
+
+returns : tie.Need-returns
+unfolding textOf
+returns c = rw (c .enum-told .given .1) (laid-whole (laid-none 0 (c .before .before .before .before .args .tail .now)))
+
+same-length : tie.Need-same-length
+same-length c = search needs
+
+returns-2 : tie.Need-returns-2
+unfolding textOf bytes
+returns-2 c = rw (c .before .before .before .before .before .enum-told2 .given .1) (c .before .before .write-text .ensures)
+
+same-length-2 : tie.Need-same-length-2
+same-length-2 c = search needs
+
+returns-3 : tie.Need-returns-3
+unfolding textOf
+returns-3 c =
+    let m = c .before .before .before .before in
+    let h : SFits w32 (m .before .reply .given .0 .1 .0) = record { sfits = m .known-told .given .1 .0 .1 } in
+    rw (m .before .reply .given .1) (rw (toZ-ofZ {w = w32} h) at (c .before .before .write-value .ensures))
+
+same-length-3 : tie.Need-same-length-3
+same-length-3 c = search needs
+
+returns-4 : tie.Need-returns-4
+unfolding textOf
+returns-4 c = rw (c .before .before .before .before .before .reply2 .given .1) (c .before .before .write-decimal .ensures)
+
+same-length-4 : tie.Need-same-length-4
+same-length-4 c = search needs
+
+returns-5 : tie.Need-returns-5
+unfolding textOf
+returns-5 c = rw (c .before .before .before .before .before .reply3 .given .1) (c .before .before .write-error .ensures)
+
+pub write-spec : {M : Type 1} → statement M
+write-spec =
+    tie.close
+    (tie.spec
+    enum-told
+    enum-told-2
+    slice-aggregate-write-text
+    write-text-requires
+    enum-known-reply
+    write-value-requires
+    enum-known-reply-2
+    cast-write-decimal
+    write-decimal-requires
+    enum-known-reply-3
+    write-error-requires
+    returns
+    same-length
+    returns-2
+    same-length-2
+    returns-3
+    same-length-3
+    returns-4
+    same-length-4
+    returns-5)
