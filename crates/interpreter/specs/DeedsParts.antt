@@ -11,7 +11,7 @@ use Rattle.registers.specs.Check.{refused, passed}
 use Rattle.registers.specs.Answer.{decimal}
 use Rattle.registers.specs.Errors.{numberOf, errorText}
 use Rattle.registers.specs.Settings.{kindOf, answerOf, wordText}
-use Rattle.registers.specs.Status.{registersOf, troubleOf, noTrouble, completed, raisedIn, statusByte}
+use Rattle.registers.specs.Status.{most, registersOf, troubleOf, noTrouble, completed, raisedIn, statusByte}
 use Rattle.registers.specs.declared.error.Error as errors
 use Rattle.registers.specs.declared.error.Error.the-variants.{QueryDeadlocked}
 use Rattle.registers.specs.declared.settings.Settings.{Settings}
@@ -103,7 +103,7 @@ leftBy (Inquire q) b = box (b .core) (afterInquiry q (b .trouble))
 
 pub record LeftTo (d : Deed) (p r : Present) : Type 0 where
   pub is : (a : Text) → boxIn r a ≡ leftBy d (boxIn p a)
-  pub queued : p .status .queued ≤ 16 → r .status .queued ≤ 16
+  pub queued : p .status .queued ≤ most → r .status .queued ≤ most
 
 -- check 9 on an answer of n bytes behind those that stand in out: q is what is left if it is given, p what there was before
 pub record SettledTo (p q : Present) (answered n : ℕ) (out : Text) (r : Performed) (left : Text) : Type 0 where
@@ -113,7 +113,7 @@ pub record SettledTo (p q : Present) (answered n : ℕ) (out : Text) (r : Perfor
 
 -- a deed is performed, or refused by check 9
 pub record PerformedIn (d : Deed) (p : Present) (out : Text) (answered : ℕ) (r : Performed) (left : Text) : Type 0 where
-  pub queued : r .present .status .queued ≤ 16
+  pub queued : r .present .status .queued ≤ most
   pub room : r .answered < mostAnswer
   pub done : r .obeyed ≡ true → perform d (boxIn p (take answered out)) ≡ passed (boxIn (r .present) (take (r .answered) left))
   pub dropped : r .obeyed ≡ false

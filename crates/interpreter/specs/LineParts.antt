@@ -7,7 +7,7 @@ use lib.ListN.{length, take}
 use Rattle.registers.specs.Text.{Text}
 use Rattle.registers.specs.Check.{refused, passed}
 use Rattle.registers.specs.Errors.{numberOf}
-use Rattle.registers.specs.Status.{registersOf, troubleOf}
+use Rattle.registers.specs.Status.{most, registersOf, troubleOf}
 use Rattle.registers.specs.declared.error.Error.{Error}
 use Rattle.interpreter.specs.Cuts.{cutAt}
 use Rattle.interpreter.specs.Box.{Box, box, mostAnswer}
@@ -26,12 +26,12 @@ boxAt p answered out = boxIn p (take answered out)
 pub record RefusedWith (e : Error) (d r : Done) : Type 0 where
   pub stops : r .obeyed ≡ false
   pub box : (out : Text) → boxAt (r .present) (r .answered) out ≡ refuse (numberOf e) (boxAt (d .present) (d .answered) out)
-  pub queued : d .present .status .queued ≤ 16 → r .present .status .queued ≤ 16
+  pub queued : d .present .status .queued ≤ most → r .present .status .queued ≤ most
   pub room : r .answered ≤ d .answered
 
 -- a unit was obeyed, or refused
 pub record UnitRan (d : Done) (path unit out : Text) (r : Done) (paths left : Text) : Type 0 where
-  pub queued : r .present .status .queued ≤ 16
+  pub queued : r .present .status .queued ≤ most
   pub room : r .answered < mostAnswer
   pub goes : r .obeyed ≡ true
       → (attempt (named path) (boxAt (d .present) (d .answered) out) unit
@@ -44,18 +44,18 @@ pub record UnitRan (d : Done) (path unit out : Text) (r : Done) (paths left : Te
       × (boxAt (r .present) (r .answered) left ≡ refuse n (boxAt (d .present) (d .answered) out))
 
 pub record UnitsRan (p : Present) (line : Text) (r : Ran) (left : Text) : Type 0 where
-  pub queued : r .present .status .queued ≤ 16
+  pub queued : r .present .status .queued ≤ most
   pub room : r .answered < mostAnswer
   pub box : boxAt (r .present) (r .answered) left ≡ runUnits (cutAt 59 line) [] (boxIn p [])
 
 pub record LineRan (p : Present) (line : Text) (overlong : Bool) (r : Ran) (left : Text) : Type 0 where
-  pub queued : r .present .status .queued ≤ 16
+  pub queued : r .present .status .queued ≤ most
   pub room : r .answered ≤ mostAnswer
   pub box : boxAt (r .present) (r .answered) left ≡ runLine line overlong (boxIn p [])
 
 -- an answer of so many bytes is discarded, if there is one
 pub record Discarded (waiting : ℕ) (p r : Present) : Type 0 where
-  pub queued : p .status .queued ≤ 16 → r .status .queued ≤ 16
+  pub queued : p .status .queued ≤ most → r .status .queued ≤ most
   pub box : (out : Text) → 0 < length out → boxIn r [] ≡ interrupted (boxIn p (take waiting out))
 
 -- a box with a line in it

@@ -7,7 +7,7 @@ use lib.ListN.{length, take}
 use Rattle.bytes.specs.Bytes.{indexOf}
 use Rattle.registers.specs.Text.{Text}
 use Rattle.registers.specs.Settings.{possibleSettings, count}
-use Rattle.registers.specs.Status.{registersOf, troubleOf, possibleStatus, most}
+use Rattle.registers.specs.Status.{most, registersOf, troubleOf, possibleStatus, most}
 use Rattle.registers.specs.declared.settings.Settings.{Settings}
 use Rattle.registers.specs.declared.status.Status.{Status}
 use Rattle.interpreter.specs.Box.{Box, box, powerUp, mostLine, mostAnswer}
@@ -98,7 +98,7 @@ flowBox f line out = boxHolding (f .present) (take (f .filled) line) (f .overlon
 pub record FlowFits (f : Flow) : Type 0 where
   pub filled : f .filled ≤ mostLine
   pub waiting : f .waiting ≤ mostAnswer
-  pub queued : f .present .status .queued ≤ 16
+  pub queued : f .present .status .queued ≤ most
 
 -- the first line of a text with its newline, or all of a text that has none
 unfoldable pub firstLine : Text → Text

@@ -10,6 +10,7 @@ ghost use mathlib.Core.Bool.{true};
 ghost use Prim.Native.Nat.{_+_, _≤_, _<_};
 ghost use lib.ListN.{length, take};
 ghost use Rattle.registers.specs.Text.{every, white};
+ghost use Rattle.registers.specs.Status.{most};
 ghost use Rattle.interpreter.specs.Box.{mostAnswer};
 ghost use Rattle.interpreter.specs.RowsParts.{rowTable, wordTable};
 ghost use Rattle.interpreter.specs.HeaderParts.{closed};
@@ -60,7 +61,7 @@ fn run_unit(
 ) -> Done
     requires { ⌜ (now rows ≡ rowTable) × (now words ≡ wordTable) ⌝ }
     requires { ⌜ (done .used + length (now unit) ≤ length (now path)) × (closed (take (done .used) (now path)) ≡ true) ⌝ }
-    requires { ⌜ (done .answered < mostAnswer) × (length (now out) ≡ mostAnswer) × (done .present .status .queued ≤ 16) ⌝ }
+    requires { ⌜ (done .answered < mostAnswer) × (length (now out) ≡ mostAnswer) × (done .present .status .queued ≤ most) ⌝ }
     ensures { λ r. ⌜ UnitRan done (take (done .used) (now (path .entry))) (now (unit .entry)) (now (out .entry)) r (now (path .exit)) (now (out .exit)) ⌝ }
 {
     let present = done.present;
@@ -92,7 +93,7 @@ fn run_units(
     out: &mut [u8],
 ) -> Ran
     requires { ⌜ (now rows ≡ rowTable) × (now words ≡ wordTable) ⌝ }
-    requires { ⌜ (length (now line) ≤ length (now path)) × (length (now out) ≡ mostAnswer) × (present .status .queued ≤ 16) ⌝ }
+    requires { ⌜ (length (now line) ≤ length (now path)) × (length (now out) ≡ mostAnswer) × (present .status .queued ≤ most) ⌝ }
     ensures { λ r. ⌜ UnitsRan present (now (line .entry)) r (now (out .exit)) ⌝ }
 {
     let mut done = Done {
@@ -128,7 +129,7 @@ pub(crate) fn run_line(
     out: &mut [u8],
 ) -> Ran
     requires { ⌜ (now rows ≡ rowTable) × (now words ≡ wordTable) ⌝ }
-    requires { ⌜ (length (now line) ≤ length (now path)) × (length (now out) ≡ mostAnswer) × (present .status .queued ≤ 16) ⌝ }
+    requires { ⌜ (length (now line) ≤ length (now path)) × (length (now out) ≡ mostAnswer) × (present .status .queued ≤ most) ⌝ }
     ensures { λ r. ⌜ LineRan present (now (line .entry)) overlong r (now (out .exit)) ⌝ }
 {
     if overlong {

@@ -12,6 +12,7 @@ ghost use mathlib.Core.Path.{_≡_};
 ghost use mathlib.Core.Bool.{true};
 ghost use Prim.Native.Nat.{_≤_, _<_};
 ghost use lib.ListN.{length};
+ghost use Rattle.registers.specs.Status.{most};
 ghost use Rattle.interpreter.specs.Box.{mostAnswer};
 ghost use Rattle.interpreter.specs.RowsParts.{wordTable};
 ghost use Rattle.interpreter.specs.DeedsParts.{raisedWith, droppedWith, startOf, separated, LeftTo, SettledTo, PerformedIn};
@@ -78,7 +79,7 @@ fn after_query(present: Present, query: Query) -> Present
 
 // Reading the event status register clears it, and reading an error removes it.
 fn after_inquiry(present: Present, inquiry: Inquiry) -> Present
-    requires { ⌜ present .status .queued ≤ 16 ⌝ }
+    requires { ⌜ present .status .queued ≤ most ⌝ }
     ensures { λ r. ⌜ LeftTo (Deed.Inquire inquiry) present r ⌝ }
 {
     match inquiry {
@@ -90,7 +91,7 @@ fn after_inquiry(present: Present, inquiry: Inquiry) -> Present
 
 // What a deed leaves of settings and status.
 fn after(present: Present, deed: Deed) -> Present
-    requires { ⌜ Allowed (present .settings) deed × (present .status .queued ≤ 16) ⌝ }
+    requires { ⌜ Allowed (present .settings) deed × (present .status .queued ≤ most) ⌝ }
     ensures { λ r. ⌜ LeftTo deed present r ⌝ }
 {
     match deed {
@@ -162,7 +163,7 @@ pub(crate) fn perform(
     answered: usize,
 ) -> Performed
     requires { ⌜ (now words ≡ wordTable) × Allowed (present .settings) deed ⌝ }
-    requires { ⌜ (answered < mostAnswer) × (length (now out) ≡ mostAnswer) × (present .status .queued ≤ 16) ⌝ }
+    requires { ⌜ (answered < mostAnswer) × (length (now out) ≡ mostAnswer) × (present .status .queued ≤ most) ⌝ }
     ensures { λ r. ⌜ PerformedIn deed present (now (out .entry)) answered r (now (out .exit)) ⌝ }
 {
     let next = after(present, deed);
