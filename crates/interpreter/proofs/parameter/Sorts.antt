@@ -55,7 +55,7 @@ kinds-agree f g e b i = go (ltb i 16) refl
 -- ---- by the sort of a row's values
 
 -- ten steps of step 0.1 make one
-abbrev figureIn : Decimal → Values → ℤ
+abbrev pub figureIn : Decimal → Values → ℤ
 figureIn d BoolValue = switchedTo d
 figureIn d WordValue = pos 0
 figureIn d Tenths = rounded 10 d
