@@ -314,7 +314,8 @@ fn store_given(register: Register, given: Given) -> Decision
     }
 }
 
-// Check 4: the most and the fewest parameters of a row in one of its forms.
+// Check 4: the most parameters that a row may have in one of its forms. What sets takes as many as it
+// may have, a query does without.
 pub(crate) fn most(role: Role, asked: bool) -> usize
     ensures { λ r. ⌜ r ≡ greatest role asked ⌝ }
 {
@@ -333,16 +334,6 @@ pub(crate) fn most(role: Role, asked: bool) -> usize
         }
         Role::Order(_) | Role::Question(_) => 0,
     }
-}
-
-// A query does without; what sets takes as many as it may have.
-pub(crate) fn fewest(role: Role, asked: bool) -> usize
-    ensures { λ r. ⌜ r ≡ least role asked ⌝ }
-{
-    if asked {
-        return 0;
-    }
-    most(role, false)
 }
 
 fn obey_query(query: Query) -> Decision

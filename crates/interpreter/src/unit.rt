@@ -69,10 +69,11 @@ fn decide(words: &[u8], settings: Settings, row: usize, asked: bool, text: &[u8]
     }
     let role = deed::role_of(row);
     let parts = counted.parts;
-    if parameter::most(role, asked) < parts {
+    let most = parameter::most(role, asked);
+    if most < parts {
         return Decision::Refused(Error::ParameterNotAllowed);
     }
-    if parts < parameter::fewest(role, asked) {
+    if !asked & (parts < most) {
         return Decision::Refused(Error::MissingParameter);
     }
     parameter::decide(words, settings, role, asked, parts, text)

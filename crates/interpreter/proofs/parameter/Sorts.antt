@@ -55,7 +55,7 @@ kinds-agree f g e b i = go (ltb i 16) refl
 -- ---- by the sort of a row's values
 
 -- ten steps of step 0.1 make one
-abbrev figureIn : Decimal → Values → ℤ
+abbrev pub figureIn : Decimal → Values → ℤ
 figureIn d BoolValue = switchedTo d
 figureIn d WordValue = pos 0
 figureIn d Tenths = rounded 10 d
@@ -159,19 +159,29 @@ most-none (Register x) h asked = absurd (miss (2 ∷ 3 ∷ []) 1 tt h)
 most-none (Order d) h asked = refl
 most-none (Question d) h asked = refl
 
-pub least-asked : (r : Role) → 0 ≡ least r true
+least-asked : (r : Role) → 0 ≡ least r true
 unfolding least if_then_else_
 least-asked (Setting i) = refl
 least-asked (Register r) = refl
 least-asked (Order d) = refl
 least-asked (Question d) = refl
 
-pub least-set : (r : Role) → greatest r false ≡ least r false
+least-set : (r : Role) → greatest r false ≡ least r false
 unfolding least greatest if_then_else_
 least-set (Setting i) = refl
 least-set (Register r) = refl
 least-set (Order d) = refl
 least-set (Question d) = refl
+
+-- what the code compares
+module _ (r : Role) (n : ℕ) where
+  pub too-few : (asked : Bool) → (not asked && ltb n (greatest r asked)) ≡ true → n < least r asked
+  too-few true e = absurd (false≢true e)
+  too-few false e = let h = ltb-true n (greatest r false) e in let s = least-set r in omega arith
+
+  pub enough : (asked : Bool) → (not asked && ltb n (greatest r asked)) ≡ false → least r asked ≤ n
+  enough true e = let s = least-asked r in omega arith
+  enough false e = let h = ltb-false n (greatest r false) e in let s = least-set r in omega arith
 
 -- at most one may be given
 limits-one : (k : Kind) → asksLimits k ≤ 1

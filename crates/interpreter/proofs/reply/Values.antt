@@ -31,7 +31,7 @@ use Rattle.interpreter.proofs.deed.Deed as deeds
 
 -- ---- a setting
 
-abbrev answerAs : Values → List String → ℤ → Text
+abbrev pub answerAs : Values → List String → ℤ → Text
 answerAs BoolValue ws v = signedText decimal v
 answerAs Word ws v = wordText ws v
 answerAs Tenths ws v = signedText tenths v

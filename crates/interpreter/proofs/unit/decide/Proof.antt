@@ -7,7 +7,7 @@ use Rattle.registers.specs.Check.{check, _>>_}
 use Rattle.interpreter.specs.Parameter.{parameters, least, greatest}
 use Rattle.interpreter.specs.UnitParts.{decided}
 use Rattle.interpreter.proofs.parameter.Cuts.{parts-are}
-use Rattle.interpreter.proofs.parameter.Sorts.{greatest-one}
+use Rattle.interpreter.proofs.parameter.Sorts.{too-few, enough, greatest-one}
 use Rattle.interpreter.proofs.unit.Found.{settled-at}
 use Rattle.interpreter.proofs.unit.Laws.{checked, has-empty, not-found, found}
 use Rattle.interpreter.proofs.unit.decide.Statement.{statement}
@@ -39,6 +39,15 @@ says p =
     let r = p .role-of in
     found (a .settings) (a .row) (a .asked) (a .text .now) (n .result) (n .ensures) full (omega arith) (r .result) (r .ensures)
 
+-- check 4 let the number pass, from above and from below
+most-let : (c : tie.Else3) → parts-of (c .before .before) ≤ most-of (c .before .before)
+most-let c = let m = c .before .most .ensures in omega arith
+
+least-let : (c : tie.Else4) → fewest-of (c .before .before .before) ≤ parts-of (c .before .before .before)
+least-let c =
+    let p = c .before .before .before in
+    enough (p .role-of .result) (parts-of p) (entry p .args .asked) (rw (c .before .before .most .ensures) at (c .if4 .left))
+
 count-requires : tie.Need-count-requires
 count-requires c κs = search needs
 
@@ -68,39 +77,31 @@ returns-3 c =
     let m = c .before .most .ensures in
     sym (says p ∙ rw (lt-leb (parts-of p) (most-of p) (omega arith)))
 
-fewest-requires : tie.Need-fewest-requires
-fewest-requires c κs = search needs
-
--- check 4 let the number pass from above
-few : (c : tie.Else3) → parts-of (c .before .before) ≤ most-of (c .before .before)
-few c = let m = c .before .most .ensures in omega arith
-
 returns-4 : tie.Need-returns-4
 unfolding check _>>_
 returns-4 c =
-    let p = c .before .before .before .before in
-    let f = c .before .fewest .ensures in
-    sym (says p ∙ rw (le-leb (parts-of p) (most-of p) (few (c .before .before)), lt-leb (fewest-of p) (parts-of p) (omega arith)))
+    let p = c .before .before .before in
+    let a = entry p .args in
+    let few = too-few (p .role-of .result) (parts-of p) (a .asked) (rw (c .before .before .most .ensures) at (c .if4 .taken)) in
+    sym (says p ∙ rw (le-leb (parts-of p) (most-of p) (most-let (c .before)), lt-leb (fewest-of p) (parts-of p) few))
 
 decide-requires : tie.Need-decide-requires
 decide-requires c κs =
-    let p = c .before .before .before .before in
+    let p = c .before .before .before in
     let pre = entry p .pre in
-    let f = c .before .fewest .ensures in
-    ((pre .0, rw (p .role-of .ensures) (settled-at (entry p .args .row) (omega arith))), (omega arith, few (c .before .before)))
+    ((pre .0, rw (p .role-of .ensures) (settled-at (entry p .args .row) (omega arith))), (least-let c, most-let (c .before)))
 
 returns-5 : tie.Need-returns-5
 unfolding check _>>_
 returns-5 c =
-    let p = c .before .before .before .before .before in
+    let e = c .before in
+    let p = e .before .before .before in
     let a = entry p .args in
     let n = p .before .before .before .before .count in
-    let r = p .role-of .result in
-    let f = c .before .before .fewest .ensures in
-    let m = few (c .before .before .before) in
-    let one = parts-are (a .text .now) (entry p .pre .2) (n .result) (n .ensures) (omega (arith, greatest-one r (a .asked))) in
+    let m = most-let (e .before) in
+    let one = parts-are (a .text .now) (entry p .pre .2) (n .result) (n .ensures) (omega (arith, greatest-one (p .role-of .result) (a .asked))) in
     (rw one at (c .decide .ensures))
-    ∙ sym (says p ∙ rw (le-leb (parts-of p) (most-of p) m, le-leb (fewest-of p) (parts-of p) (omega arith)))
+    ∙ sym (says p ∙ rw (le-leb (parts-of p) (most-of p) m, le-leb (fewest-of p) (parts-of p) (least-let e)))
 
 pub decide-spec : {M : Type 1} → statement M
 decide-spec =
@@ -112,7 +113,6 @@ decide-spec =
     role-of-requires
     most-requires
     returns-3
-    fewest-requires
     returns-4
     decide-requires
     returns-5)
