@@ -65,7 +65,6 @@ pub record Tested (s : State) (r : Bool) : Type 0 where
   pub is : r ≡ possibleState s
   pub values : length (s .settings .values) ≡ count
   pub errors : length (s .status .errors) ≡ most
-  pub line : length (s .line) ≡ mostLine
   pub answer : length (s .answer) ≡ mostAnswer
 
 -- a state's small part, and a state put together

@@ -1,6 +1,7 @@
 // A line: its units left to right, and its end.
 use crate::perform;
 use crate::perform::Present;
+use crate::state::LINE;
 use crate::unit;
 use crate::unit::Reading;
 use registers::error::Error;
@@ -11,7 +12,7 @@ ghost use Prim.Native.Nat.{_+_, _≤_, _<_};
 ghost use lib.ListN.{length, take};
 ghost use Rattle.registers.specs.Text.{every, white};
 ghost use Rattle.registers.specs.Status.{most};
-ghost use Rattle.interpreter.specs.Box.{mostAnswer};
+ghost use Rattle.interpreter.specs.Box.{mostLine, mostAnswer};
 ghost use Rattle.interpreter.specs.RowsParts.{rowTable, wordTable};
 ghost use Rattle.interpreter.specs.HeaderParts.{closed};
 ghost use Rattle.interpreter.specs.LineParts.{RefusedWith, UnitRan, UnitsRan, LineRan, Discarded};
@@ -55,12 +56,12 @@ fn run_unit(
     rows: &[u8],
     words: &[u8],
     done: Done,
-    path: &mut [u8],
+    path: &mut [u8; LINE],
     unit: &[u8],
     out: &mut [u8],
 ) -> Done
     requires { ⌜ (now rows ≡ rowTable) × (now words ≡ wordTable) ⌝ }
-    requires { ⌜ (done .used + length (now unit) ≤ length (now path)) × (closed (take (done .used) (now path)) ≡ true) ⌝ }
+    requires { ⌜ (done .used + length (now unit) ≤ mostLine) × (closed (take (done .used) (now path)) ≡ true) ⌝ }
     requires { ⌜ (done .answered < mostAnswer) × (length (now out) ≡ mostAnswer) × (done .present .status .queued ≤ most) ⌝ }
     ensures { λ r. ⌜ UnitRan done (take (done .used) (now (path .entry))) (now (unit .entry)) (now (out .entry)) r (now (path .exit)) (now (out .exit)) ⌝ }
 {
@@ -88,12 +89,12 @@ fn run_units(
     rows: &[u8],
     words: &[u8],
     present: Present,
-    path: &mut [u8],
+    path: &mut [u8; LINE],
     line: &[u8],
     out: &mut [u8],
 ) -> Ran
     requires { ⌜ (now rows ≡ rowTable) × (now words ≡ wordTable) ⌝ }
-    requires { ⌜ (length (now line) ≤ length (now path)) × (length (now out) ≡ mostAnswer) × (present .status .queued ≤ most) ⌝ }
+    requires { ⌜ (length (now line) ≤ mostLine) × (length (now out) ≡ mostAnswer) × (present .status .queued ≤ most) ⌝ }
     ensures { λ r. ⌜ UnitsRan present (now (line .entry)) r (now (out .exit)) ⌝ }
 {
     let mut done = Done {
@@ -123,13 +124,13 @@ pub(crate) fn run_line(
     rows: &[u8],
     words: &[u8],
     present: Present,
-    path: &mut [u8],
+    path: &mut [u8; LINE],
     line: &[u8],
     overlong: bool,
     out: &mut [u8],
 ) -> Ran
     requires { ⌜ (now rows ≡ rowTable) × (now words ≡ wordTable) ⌝ }
-    requires { ⌜ (length (now line) ≤ length (now path)) × (length (now out) ≡ mostAnswer) × (present .status .queued ≤ most) ⌝ }
+    requires { ⌜ (length (now line) ≤ mostLine) × (length (now out) ≡ mostAnswer) × (present .status .queued ≤ most) ⌝ }
     ensures { λ r. ⌜ LineRan present (now (line .entry)) overlong r (now (out .exit)) ⌝ }
 {
     if overlong {

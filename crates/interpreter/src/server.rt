@@ -7,8 +7,6 @@ use crate::state::Outcome;
 use crate::state::State;
 use crate::tables;
 ghost use mathlib.Core.Path.{_≡_};
-ghost use lib.ListN.{length};
-ghost use Rattle.interpreter.specs.Box.{mostLine, mostAnswer};
 ghost use Rattle.interpreter.specs.RowsParts.{rowTable, wordTable};
 ghost use Rattle.interpreter.specs.State.{numberOf, FlowFits};
 ghost use Rattle.interpreter.specs.Server.{Serves, FlowServed};
@@ -33,14 +31,13 @@ fn lines(
     rows: &[u8],
     words: &[u8],
     start: Flow,
-    path: &mut [u8],
-    line: &mut [u8],
-    out: &mut [u8],
+    path: &mut [u8; LINE],
+    line: &mut [u8; LINE],
+    out: &mut [u8; ANSWER],
     input: &[u8],
     output: &mut [u8],
 ) -> Progress
     requires { ⌜ (now rows ≡ rowTable) × (now words ≡ wordTable) ⌝ }
-    requires { ⌜ (length (now path) ≡ mostLine) × (length (now line) ≡ mostLine) × (length (now out) ≡ mostAnswer) ⌝ }
     requires { ⌜ FlowFits start × (start .count ≡ 0) ⌝ }
     ensures { λ r. ⌜ FlowServed start (now (line .entry)) (now (out .entry)) (now (input .entry)) (now (output .entry)) r (now (line .exit)) (now (out .exit)) (now (output .exit)) ⌝ }
 {

@@ -12,7 +12,6 @@ ghost use Prim.Native.Nat.{_+_, _^_, _≤_, _<_, min};
 ghost use lib.ListN.{length, drop};
 ghost use lib.Seq as seq;
 ghost use Rattle.registers.specs.Text.{Text};
-ghost use Rattle.interpreter.specs.Box.{mostLine, mostAnswer};
 ghost use Rattle.interpreter.specs.RowsParts.{rowTable, wordTable};
 ghost use Rattle.interpreter.specs.Events.{received, take, condition, look, result};
 ghost use Rattle.interpreter.specs.Line.{newlines};
@@ -117,8 +116,8 @@ pub(crate) fn paste(text: &[u8], n: usize, into: &mut [u8], at: usize) -> usize
 }
 
 // Bytes without a newline go behind what the line holds; "further bytes are dropped".
-fn hold(mut flow: Flow, line: &mut [u8], part: &[u8]) -> Flow
-    requires { ⌜ FlowFits flow × (length (now line) ≡ mostLine) × (newlines (now part) ≡ 0) ⌝ }
+fn hold(mut flow: Flow, line: &mut [u8; LINE], part: &[u8]) -> Flow
+    requires { ⌜ FlowFits flow × (newlines (now part) ≡ 0) ⌝ }
     ensures { λ r. ⌜ ((out : Text) → FlowFed flow (now (line .entry)) out (now (part .entry)) r (now (line .exit)) out) ⌝ }
 {
     let at = flow.filled;
@@ -133,23 +132,23 @@ fn newline(
     rows: &[u8],
     words: &[u8],
     flow: Flow,
-    path: &mut [u8],
-    line: &[u8],
-    out: &mut [u8],
+    path: &mut [u8; LINE],
+    line: &[u8; LINE],
+    out: &mut [u8; ANSWER],
 ) -> Flow
     requires { ⌜ (now rows ≡ rowTable) × (now words ≡ wordTable) ⌝ }
-    requires { ⌜ (length (now path) ≡ mostLine) × (length (now line) ≡ mostLine) × (length (now out) ≡ mostAnswer) ⌝ }
     requires { ⌜ FlowFits flow × (flow .count < 2 ^ 63) ⌝ }
     ensures { λ r. ⌜ FlowFed flow (now (line .entry)) (now (out .entry)) (10 ∷ []) r (now (line .entry)) (now (out .exit)) ⌝ }
 {
     let filled = flow.filled;
+    let bytes: &[u8] = line;
     let present = line::discard(flow.present, flow.waiting);
     let ran = line::run_line(
         rows,
         words,
         present,
         path,
-        &line[0..filled],
+        &bytes[0..filled],
         flow.overlong,
         out,
     );
@@ -168,14 +167,13 @@ pub(crate) fn feed_line(
     rows: &[u8],
     words: &[u8],
     flow: Flow,
-    path: &mut [u8],
-    line: &mut [u8],
-    out: &mut [u8],
+    path: &mut [u8; LINE],
+    line: &mut [u8; LINE],
+    out: &mut [u8; ANSWER],
     bytes: &[u8],
     at: usize,
 ) -> Advance
     requires { ⌜ (now rows ≡ rowTable) × (now words ≡ wordTable) ⌝ }
-    requires { ⌜ (length (now path) ≡ mostLine) × (length (now line) ≡ mostLine) × (length (now out) ≡ mostAnswer) ⌝ }
     requires { ⌜ FlowFits flow × (flow .count < 2 ^ 63) × (at ≤ length (now bytes)) ⌝ }
     ensures { λ r. ⌜ FlowFed flow (now (line .entry)) (now (out .entry)) (firstLine (drop at (now (bytes .entry)))) (r .flow) (now (line .exit)) (now (out .exit)) ⌝ }
     ensures { λ r. ⌜ r .next ≡ at + length (firstLine (drop at (now (bytes .entry)))) ⌝ }
@@ -197,17 +195,16 @@ pub(crate) fn feed_line(
 }
 
 // Takes bytes in, line by line, with the line and the answer in place.
-pub(crate) fn feed(
+fn feed(
     rows: &[u8],
     words: &[u8],
     start: Flow,
-    path: &mut [u8],
-    line: &mut [u8],
-    out: &mut [u8],
+    path: &mut [u8; LINE],
+    line: &mut [u8; LINE],
+    out: &mut [u8; ANSWER],
     bytes: &[u8],
 ) -> Flow
     requires { ⌜ (now rows ≡ rowTable) × (now words ≡ wordTable) ⌝ }
-    requires { ⌜ (length (now path) ≡ mostLine) × (length (now line) ≡ mostLine) × (length (now out) ≡ mostAnswer) ⌝ }
     requires { ⌜ FlowFits start × (start .count ≡ 0) ⌝ }
     ensures { λ r. ⌜ FlowFed start (now (line .entry)) (now (out .entry)) (now (bytes .entry)) r (now (line .exit)) (now (out .exit)) ⌝ }
 {

@@ -70,23 +70,22 @@ run-none path b = refl
 
 -- ---- the units of a line so far: what is left does what all of them do
 
-pub record Going (b : Box) (line : Text) (room : ℕ) (path out : Text) (d : Done) (at : ℕ) : Type 0 where
+pub record Going (b : Box) (line path out : Text) (d : Done) (at : ℕ) : Type 0 where
   pub queued : d .present .status .queued ≤ 16
   pub answers : d .answered < mostAnswer
   pub long : length out ≡ mostAnswer
-  pub wide : length path ≡ room
   pub behind : d .used ≤ at
   pub within : at ≤ length line
   pub shut : closed (take (d .used) path) ≡ true
   pub left : runUnits (cutAt 59 (drop at line)) (named (take (d .used) path)) (boxAt (d .present) (d .answered) out) ≡ runUnits (cutAt 59 line) [] b
 
 pub going-start : (p : Present) (o : Bool) (line path out : Text) → p .status .queued ≤ 16 → length out ≡ mostAnswer
-    → Going (boxIn p []) line (length path) path out (record { present = p; answered = 0; used = 0; obeyed = o }) 0
+    → Going (boxIn p []) line path out (record { present = p; answered = 0; used = 0; obeyed = o }) 0
 unfolding named closed
 going-start p o line path out q l =
-    record { queued = q; answers = omega arith; long = l; wide = refl; behind = zero-le; within = zero-le; shut = refl; left = refl }
+    record { queued = q; answers = omega arith; long = l; behind = zero-le; within = zero-le; shut = refl; left = refl }
 
-module _ (b : Box) (line : Text) (room : ℕ) (path out : Text) (d : Done) (at : ℕ) (g : Going b line room path out d at)
+module _ (b : Box) (line path out : Text) (d : Done) (at : ℕ) (g : Going b line path out d at)
     (end : ℕ) (is : end ≡ at + indexOf 59 (slice at (length line) line)) (within : end ≤ length line)
     (r : Done) (paths left : Text) (w : UnitRan d (take (d .used) path) (take (end - at) (drop at line)) out r paths left) where
   -- the line from this unit on, and the box before it
@@ -113,9 +112,8 @@ module _ (b : Box) (line : Text) (room : ℕ) (path out : Text) (d : Done) (at :
   pub going-less : (r .obeyed && ltb end (length line)) ≡ true → length line - (end + 1) < length line - at
   going-less e = let h = ltb-true end (length line) (and-both (r .obeyed) (ltb end (length line)) e .1) in omega (arith, is)
 
-  pub going-on : (r .obeyed && ltb end (length line)) ≡ true → length paths ≡ length path → length left ≡ length out
-      → Going b line room paths left r (end + 1)
-  going-on e k l =
+  pub going-on : (r .obeyed && ltb end (length line)) ≡ true → length left ≡ length out → Going b line paths left r (end + 1)
+  going-on e l =
       let both = and-both (r .obeyed) (ltb end (length line)) e in
       let h = ltb-true end (length line) (both .1) in
       let o = w .goes (both .0) in
@@ -131,7 +129,6 @@ module _ (b : Box) (line : Text) (room : ℕ) (path out : Text) (d : Done) (at :
         queued = w .queued;
         answers = w .room;
         long = l ∙ g .long;
-        wide = k ∙ g .wide;
         behind = omega arith;
         within = omega arith;
         shut = o .1;

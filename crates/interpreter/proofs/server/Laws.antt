@@ -11,7 +11,7 @@ use lib.Seq.{drop-drop, take-at, drop-at, paste, length-paste, take-paste, drop-
 use borrow.Author.Tests.{eqb-true, le-leb, lt-leb, leb-true, ltb-true, ltb-false, leb-false}
 use Rattle.bytes.specs.Bytes.{indexOf, indexAfter}
 use Rattle.registers.specs.Text.{Text, if_then_else_, empty}
-use Rattle.interpreter.specs.Box.{mostLine, mostAnswer}
+use Rattle.interpreter.specs.Box.{mostAnswer}
 use Rattle.interpreter.specs.Events.{happens, taken}
 use Rattle.interpreter.specs.State.{flowBox, FlowFits, firstLine, FlowFed}
 use Rattle.interpreter.specs.Server.{linesOf, Service, service, servedLine, serves, serviceAt, FlowServed}
@@ -72,19 +72,16 @@ module _ (f r : Flow) (line out bytes lines left : Text) (w : FlowFed f line out
 
 -- ---- the loop over a chunk's lines
 
-pub record Serving (begun : Service) (room : ℕ) (input path line out output : Text) (f : Flow) (read written : ℕ) : Type 0 where
+pub record Serving (begun : Service) (room : ℕ) (input line out output : Text) (f : Flow) (read written : ℕ) : Type 0 where
   pub fits : FlowFits f
   pub none : f .count ≡ 0
-  pub paths : length path ≡ mostLine
-  pub lines : length line ≡ mostLine
-  pub outs : length out ≡ mostAnswer
   pub outputs : length output ≡ room
   pub read-in : read ≤ length input
   pub wrote : written ≤ length output
   pub left : serves (serviceAt f read written line out output) (linesOf (drop read input)) ≡ serves begun (linesOf input)
 
-module _ (begun : Service) (room : ℕ) (input path line out output : Text) (f : Flow) (read written : ℕ)
-    (g : Serving begun room input path line out output f read written) where
+module _ (begun : Service) (room : ℕ) (input line out output : Text) (f : Flow) (read written : ℕ)
+    (g : Serving begun room input line out output f read written) where
   abbrev Goes : Bool → Type 0
   Goes t = (ltb read (length input) && leb mostAnswer (length output - written)) ≡ t
 
@@ -103,15 +100,13 @@ module _ (begun : Service) (room : ℕ) (input path line out output : Text) (f :
       pub serve-further : read < next
       serve-further = let h = more-input in let d = length-drop read input in let s = first-some (drop read input) (omega arith) in omega arith
 
-      pub serve-on : (r : Flow) (path′ line′ out′ : Text) → FlowFed f line out (firstLine (drop read input)) r line′ out′
-          → length path′ ≡ length path → length line′ ≡ length line → length out′ ≡ length out
+      pub serve-on : (r : Flow) (line′ out′ : Text) → FlowFed f line out (firstLine (drop read input)) r line′ out′ → length out′ ≡ mostAnswer
           → (end : ℕ) (output′ : Text) → end ≡ written + r .waiting → output′ ≡ paste output written out′ (r .waiting)
-          → Serving begun room input path′ line′ out′ output′ (taken-from r) next end
-      serve-on r path′ line′ out′ w p l o end output′ e u =
+          → Serving begun room input line′ out′ output′ (taken-from r) next end
+      serve-on r line′ out′ w outs end output′ e u =
           let h = more-input in
           let free = more-room in
           let few = w .fits .waiting in
-          let outs = o ∙ g .outs in
           let d = length-drop read input in
           let k = length-drop written output in
           let m = first-within (drop read input) in
@@ -125,9 +120,6 @@ module _ (begun : Service) (room : ℕ) (input path line out output : Text) (f :
           record {
             fits = record { filled = w .fits .filled; waiting = zero-le; queued = w .fits .queued };
             none = refl;
-            paths = p ∙ g .paths;
-            lines = l ∙ g .lines;
-            outs = outs;
             outputs = rw u (long ∙ g .outputs);
             read-in = omega arith;
             wrote = rw (u, long) (omega arith);

@@ -13,7 +13,7 @@ use borrow.Rule.Slice.PartMut.{putMid}
 use borrow.Author.Tests.{lt-ltb, le-ltb, eqb-true, ltb-true, ltb-false}
 use Rattle.bytes.specs.Bytes.{indexOf, indexAfter, slice}
 use Rattle.registers.specs.Text.{Text, if_then_else_}
-use Rattle.interpreter.specs.Box.{Core, Box, box, withLine, mostLine, mostAnswer}
+use Rattle.interpreter.specs.Box.{Core, Box, box, withLine, mostLine}
 use Rattle.interpreter.specs.Line.{held, byte, piece, newlines}
 use Rattle.interpreter.specs.State.{flowBox, FlowFits, firstLine, FlowFed}
 use Rattle.interpreter.specs.declared.state.Flow.{Flow}
@@ -192,14 +192,11 @@ newlines-few (x ∷ l) = go (eqb x 10) (newlines-few l)
 
 -- ---- a piece line by line
 
-pub record Feeding (f₀ : Flow) (line₀ out₀ bytes path line out : Text) (f : Flow) (at : ℕ) : Type 0 where
-  pub paths : length path ≡ mostLine
-  pub lines : length line ≡ mostLine
-  pub outs : length out ≡ mostAnswer
+pub record Feeding (f₀ : Flow) (line₀ out₀ bytes line out : Text) (f : Flow) (at : ℕ) : Type 0 where
   pub within : at ≤ length bytes
   pub fed : FlowFed f₀ line₀ out₀ (take at bytes) f line out
 
-module _ (f₀ : Flow) (line₀ out₀ bytes path line out : Text) (f : Flow) (at : ℕ) (g : Feeding f₀ line₀ out₀ bytes path line out f at) where
+module _ (f₀ : Flow) (line₀ out₀ bytes line out : Text) (f : Flow) (at : ℕ) (g : Feeding f₀ line₀ out₀ bytes line out f at) where
   pub feed-few : f₀ .count ≡ 0 → f .count ≤ length bytes
   feed-few z =
       let c = g .fed .count in
@@ -211,18 +208,14 @@ module _ (f₀ : Flow) (line₀ out₀ bytes path line out : Text) (f : Flow) (a
     pub feed-further : at < next
     feed-further = let d = length-drop at bytes in let s = first-some (drop at bytes) (omega arith) in omega arith
 
-    pub feed-on : (r : Flow) (path′ line′ out′ : Text) → FlowFed f line out (firstLine (drop at bytes)) r line′ out′
-        → length path′ ≡ length path → length line′ ≡ length line → length out′ ≡ length out
-        → Feeding f₀ line₀ out₀ bytes path′ line′ out′ r next
-    feed-on r path′ line′ out′ w p l o =
+    pub feed-on : (r : Flow) (line′ out′ : Text) → FlowFed f line out (firstLine (drop at bytes)) r line′ out′
+        → Feeding f₀ line₀ out₀ bytes line′ out′ r next
+    feed-on r line′ out′ w =
         let d = length-drop at bytes in
         let m = first-within (drop at bytes) in
         let e : take next bytes ≡ take at bytes ++ firstLine (drop at bytes) =
         rw (is, take-add at (length (firstLine (drop at bytes))) bytes, first-front (drop at bytes)) in
         record {
-          paths = p ∙ g .paths;
-          lines = l ∙ g .lines;
-          outs = o ∙ g .outs;
           within = omega arith;
           fed = rw e (fed-then f₀ f r line₀ out₀ (take at bytes) line out (firstLine (drop at bytes)) line′ out′ (g .fed) w);
         }

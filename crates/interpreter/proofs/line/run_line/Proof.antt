@@ -13,13 +13,12 @@ raise-requires c κs = search needs
 
 returns : tie.Need-returns
 returns c =
-    let a = c .before .before .before .before .before .before .before .args in
-    let p = c .before .before .before .before .before .before .before .pre in
-    let s = c .before .before .before .before .before .before .before .good .1 .1 .0 .1 .1 .1 .0 .1 .1 in
+    let a = c .before .before .before .before .before .before .args in
+    let s = c .before .before .before .before .before .before .good .1 .1 .0 .1 .1 .1 .0 .1 .1 in
     let long : length (a .present .status .errors) ≡ 16 = search needs in
     let raised = c .raise .ensures in
     record {
-      queued = rw raised (raised-short _ (a .present) long (p .1 .2));
+      queued = rw raised (raised-short _ (a .present) long (c .before .before .before .before .before .before .pre .1 .2));
       room = omega arith;
       box = rw raised (line-overlong (a .present) (a .line .now) (a .overlong) long (c .before .if1 .taken));
     }
@@ -29,10 +28,9 @@ is-blank-requires c κs = search needs
 
 returns-2 : tie.Need-returns-2
 returns-2 c =
-    let a = c .before .before .before .before .before .before .before .before .args in
-    let p = c .before .before .before .before .before .before .before .before .pre in
+    let a = c .before .before .before .before .before .before .before .args in
     record {
-      queued = p .1 .2;
+      queued = c .before .before .before .before .before .before .before .pre .1 .2;
       room = omega arith;
       box = line-blank (a .present) (a .line .now) (a .overlong) (c .before .before .if1 .left) (sym (c .before .is-blank .ensures) ∙ c .if2 .taken);
     }
@@ -43,20 +41,17 @@ run-units-requires c κs = search needs
 same-length : tie.Need-same-length
 same-length c = search needs
 
-same-length-2 : tie.Need-same-length-2
-same-length-2 c = search needs
-
 returns-3 : tie.Need-returns-3
 returns-3 c =
-    let a = c .before .before .before .before .before .before .before .before .before .before .before .before .before .before .before .before .args in
-    let r = c .before .before .before .before .before .run-units in
+    let a = c .before .before .before .before .before .before .before .before .before .before .before .before .before .args in
+    let r = c .before .before .before .run-units in
     let w = r .ensures in
     let room = w .room in
-    let dark = sym (c .before .before .before .before .before .before .before .before .before .is-blank .ensures) ∙ c .before .before .before .before .before .before .before .before .if2 .left in
+    let dark = sym (c .before .before .before .before .before .before .before .is-blank .ensures) ∙ c .before .before .before .before .before .before .if2 .left in
     record {
       queued = w .queued;
       room = omega arith;
-      box = line-none (a .present) (a .line .now) (a .overlong) (c .before .before .before .before .before .before .before .before .before .before .if1 .left) dark (r .result) _ w (c .if3 .taken);
+      box = line-none (a .present) (a .line .now) (a .overlong) (c .before .before .before .before .before .before .before .before .if1 .left) dark (r .result) _ w (c .if3 .taken);
     }
 
 slice-write-out : tie.Need-slice-write-out
@@ -65,25 +60,22 @@ slice-write-out c = search needs
 add-ran : tie.Need-add-ran
 add-ran c = search needs
 
-same-length-3 : tie.Need-same-length-3
-same-length-3 c = search needs
-
-same-length-4 : tie.Need-same-length-4
-same-length-4 c = search needs
+same-length-2 : tie.Need-same-length-2
+same-length-2 c = search needs
 
 returns-4 : tie.Need-returns-4
 returns-4 c =
-    let a = c .before .before .before .before .before .before .before .before .before .before .before .before .before .before .before .before .args in
-    let r = c .before .before .before .before .before .run-units in
+    let a = c .before .before .before .before .before .before .before .before .before .before .before .before .before .args in
+    let r = c .before .before .before .run-units in
     let w = r .ensures in
     let room = w .room in
     let k = r .kept in
-    let was = c .before .before .before .before .before .before .before .before .before .before .before .before .before .before .before .before .pre .1 .1 in
-    let dark = sym (c .before .before .before .before .before .before .before .before .before .is-blank .ensures) ∙ c .before .before .before .before .before .before .before .before .if2 .left in
+    let was = c .before .before .before .before .before .before .before .before .before .before .before .before .before .pre .1 .1 in
+    let dark = sym (c .before .before .before .before .before .before .before .is-blank .ensures) ∙ c .before .before .before .before .before .before .if2 .left in
     record {
       queued = w .queued;
       room = omega arith;
-      box = line-some (a .present) (a .line .now) (a .overlong) (c .before .before .before .before .before .before .before .before .before .before .if1 .left) dark (r .result) _ w (c .if3 .left) (omega arith);
+      box = line-some (a .present) (a .line .now) (a .overlong) (c .before .before .before .before .before .before .before .before .if1 .left) dark (r .result) _ w (c .if3 .left) (omega arith);
     }
 
 pub run-line-spec : {M : Type 1} → statement M
@@ -96,10 +88,8 @@ run-line-spec =
     returns-2
     run-units-requires
     same-length
-    same-length-2
     returns-3
     slice-write-out
     add-ran
-    same-length-3
-    same-length-4
+    same-length-2
     returns-4)

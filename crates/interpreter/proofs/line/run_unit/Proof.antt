@@ -1,4 +1,6 @@
-use lib.ListN.{take}
+use mathlib.Core.Path.{_≡_}
+use native.Mathlib.Omega.{arith}
+use lib.ListN.{length, take}
 use Rattle.registers.specs.Errors as errors
 use Rattle.interpreter.proofs.line.Laws.{unit-allowed, unit-refused, unit-obeyed}
 use borrow.Author.Needs.{needs}
@@ -6,7 +8,12 @@ use Rattle.interpreter.proofs.line.run_unit.Statement.{statement}
 use Rattle.interpreter.proofs.line.run_unit.Tie as tie
 
 read-requires : tie.Need-read-requires
-read-requires c κs = search needs
+read-requires c κs =
+    let p = c .before .before .before .before .before .before .pre in
+    let fits = p .1 .0 .0 in
+    let g = c .read-arg .given in
+    let wide : length (c .before .before .before .before .before .before .args .path .now) ≡ 512 = search needs in
+    (p .0, (omega arith, p .1 .0 .1))
 
 enum-known-reading : tie.Need-enum-known-reading
 enum-known-reading c = search needs
@@ -14,14 +21,11 @@ enum-known-reading c = search needs
 refuse-requires : tie.Need-refuse-requires
 refuse-requires c κs = search needs
 
-same-length : tie.Need-same-length
-same-length c = search needs
-
 returns : tie.Need-returns
 returns c =
-    let a = c .before .before .before .before .before .before .before .before .before .before .before .before .before .before .args in
-    let p = c .before .before .before .before .before .before .before .before .before .before .before .before .before .before .pre in
-    let read = c .before .before .before .before .before .before .read in
+    let a = c .before .before .before .before .before .before .before .before .before .before .before .args in
+    let p = c .before .before .before .before .before .before .before .before .before .before .before .pre in
+    let read = c .before .before .before .before .read in
     unit-refused (a .done) (take (a .done .used) (a .path .now)) (a .unit .now) (read .last .1 .1 .1 .0) (read .result) (read .ensures)
     (a .out .now) _ (c .before .before .reading .given .1) (c .refuse .result) (c .refuse .ensures) (p .1 .1 .2) (p .1 .1 .0)
 
@@ -30,22 +34,19 @@ enum-known-reading-2 c = search needs
 
 perform-requires : tie.Need-perform-requires
 perform-requires c κs =
-    let a = c .before .before .before .before .before .before .before .before .before .before .before .before .before .before .args in
-    let p = c .before .before .before .before .before .before .before .before .before .before .before .before .before .before .pre in
-    let read = c .before .before .before .before .before .before .read in
+    let a = c .before .before .before .before .before .before .before .before .before .before .before .args in
+    let p = c .before .before .before .before .before .before .before .before .before .before .before .pre in
+    let read = c .before .before .before .before .read in
     let allowed = unit-allowed (a .done) (take (a .done .used) (a .path .now)) (a .unit .now) (read .last .1 .1 .1 .0) (read .result) (read .ensures) _ _ (c .before .before .reading2 .given .1) in
     ((p .0 .1, allowed), p .1 .1)
 
-same-length-2 : tie.Need-same-length-2
-same-length-2 c = search needs
-
-same-length-3 : tie.Need-same-length-3
-same-length-3 c = search needs
+same-length : tie.Need-same-length
+same-length c = search needs
 
 returns-2 : tie.Need-returns-2
 returns-2 c =
-    let a = c .before .before .before .before .before .before .before .before .before .before .before .before .before .before .before .before .before .before .args in
-    let read = c .before .before .before .before .before .before .before .before .before .before .read in
+    let a = c .before .before .before .before .before .before .before .before .before .before .before .before .before .before .before .args in
+    let read = c .before .before .before .before .before .before .before .before .read in
     let performed = c .before .before .before .perform in
     unit-obeyed (a .done) (take (a .done .used) (a .path .now)) (a .unit .now) (read .last .1 .1 .1 .0) (read .result) (read .ensures)
     (a .out .now) _ _ (c .before .before .before .before .before .before .reading2 .given .1) (performed .result) (performed .last .1 .1 .1 .0) (performed .ensures)
@@ -57,10 +58,8 @@ run-unit-spec =
     read-requires
     enum-known-reading
     refuse-requires
-    same-length
     returns
     enum-known-reading-2
     perform-requires
-    same-length-2
-    same-length-3
+    same-length
     returns-2)

@@ -10,16 +10,15 @@ use Rattle.interpreter.proofs.line.run_units.Statement.{statement}
 use Rattle.interpreter.proofs.line.run_units.Tie as tie
 
 abbrev Inv-loop : tie.InvT-loop
-Inv-loop rows words path₀ line out₀ done₀ at₀ path out done at =
-    Going (boxIn (done₀ .present) []) line (length path₀) path out done at
+Inv-loop rows words path₀ line out₀ done₀ at₀ path out done at = Going (boxIn (done₀ .present) []) line path out done at
 
 abbrev μ-loop : tie.MeasureT-loop
 μ-loop rows words path₀ line out₀ done₀ at₀ path out done at = length line - at
 
 loop-holds : tie.Need-loop-holds Inv-loop μ-loop
 loop-holds c =
-    let a = c .before .before .before .before .before .args in
-    let p = c .before .before .before .before .before .pre in
+    let a = c .before .before .before .before .args in
+    let p = c .before .before .before .before .pre in
     going-start (a .present) _ (a .line .now) (a .path .now) (a .out .now) (p .1 .2) (p .1 .1)
 
 find-requires : tie.Need-find-requires Inv-loop μ-loop
@@ -38,57 +37,50 @@ part-run-unit-end c = c .before .find .ensures .1
 
 run-unit-requires : tie.Need-run-unit-requires Inv-loop μ-loop
 run-unit-requires c κs =
-    let p = c .before .before .before .before .before .before .before .before .before .before .pre in
+    let p = c .before .before .before .before .before .before .before .before .before .pre in
     let g = c .before .before .before .before .loop .inv in
-    let wide = g .wide in
     let fits = p .1 .0 in
     let behind = g .behind in
     let ends = c .before .before .before .find .ensures .1 in
-    let l = length-take (c .before .before .before .find .result - c .before .before .before .before .loop .at) (drop (c .before .before .before .before .loop .at) (c .before .before .before .before .before .before .before .before .before .before .args .line .now)) in
-    let d = length-drop (c .before .before .before .before .loop .at) (c .before .before .before .before .before .before .before .before .before .before .args .line .now) in
+    let l = length-take (c .before .before .before .find .result - c .before .before .before .before .loop .at) (drop (c .before .before .before .before .loop .at) (c .before .before .before .before .before .before .before .before .before .args .line .now)) in
+    let d = length-drop (c .before .before .before .before .loop .at) (c .before .before .before .before .before .before .before .before .before .args .line .now) in
     (p .0, ((omega arith, g .shut), (g .answers, g .long, g .queued)))
 
 same-length : tie.Need-same-length Inv-loop μ-loop
 same-length c =
-    let k = c .before .before .before .before .before .before .before .run-unit .kept in
-    let wide = c .before .before .before .before .before .before .before .before .before .before .before .before .loop .inv .wide in
-    omega arith
-
-same-length-2 : tie.Need-same-length-2 Inv-loop μ-loop
-same-length-2 c =
-    let k = c .before .before .before .before .before .before .before .run-unit .kept in
-    let long = c .before .before .before .before .before .before .before .before .before .before .before .before .loop .inv .long in
-    let was = c .before .before .before .before .before .before .before .before .before .before .before .before .before .before .before .before .before .before .pre .1 .1 in
+    let k = c .before .before .before .before .before .run-unit .kept in
+    let long = c .before .before .before .before .before .before .before .before .before .before .loop .inv .long in
+    let was = c .before .before .before .before .before .before .before .before .before .before .before .before .before .before .before .pre .1 .1 in
     omega arith
 
 returns : tie.Need-returns Inv-loop μ-loop
 returns c =
-    let r = c .before .before .before .before .before .before .before .run-unit in
+    let r = c .before .before .before .before .before .run-unit in
     let w = r .ensures in
-    let f = c .before .before .before .before .before .before .before .before .before .before .before .find in
+    let f = c .before .before .before .before .before .before .before .before .before .find in
     record {
       queued = w .queued;
       room = w .room;
-      box = going-end _ _ _ _ _ _ _ (c .before .before .before .before .before .before .before .before .before .before .before .before .loop .inv) (f .result) (f .ensures .0) (f .ensures .1) (r .result) _ _ w (not-true _ (c .before .if1 .taken));
+      box = going-end _ _ _ _ _ _ (c .before .before .before .before .before .before .before .before .before .before .loop .inv) (f .result) (f .ensures .0) (f .ensures .1) (r .result) _ _ w (not-true _ (c .before .if1 .taken));
     }
 
 add-at : tie.Need-add-at Inv-loop μ-loop
 add-at c =
-    let ends = c .before .before .before .before .before .before .before .before .before .before .find .ensures .1 in
-    omega (arith, c .before .before .before .before .before .before .before .before .before .before .before .before .before .before .before .before .before .good)
+    let ends = c .before .before .before .before .before .before .before .before .find .ensures .1 in
+    omega (arith, c .before .before .before .before .before .before .before .before .before .before .before .before .before .before .good)
 
 loop-less : tie.Need-loop-less Inv-loop μ-loop
 loop-less c =
-    let r = c .before .before .before .before .before .before .run-unit in
-    let f = c .before .before .before .before .before .before .before .before .before .before .find in
-    going-less _ _ _ _ _ _ _ (c .before .before .before .before .before .before .before .before .before .before .before .loop .inv) (f .result) (f .ensures .0) (f .ensures .1) (r .result) _ _ (r .ensures) (not-false _ (c .if1 .left))
+    let r = c .before .before .before .before .run-unit in
+    let f = c .before .before .before .before .before .before .before .before .find in
+    going-less _ _ _ _ _ _ (c .before .before .before .before .before .before .before .before .before .loop .inv) (f .result) (f .ensures .0) (f .ensures .1) (r .result) _ _ (r .ensures) (not-false _ (c .if1 .left))
 
 loop-again : tie.Need-loop-again Inv-loop μ-loop
 loop-again c =
-    let r = c .before .before .before .before .before .before .run-unit in
-    let f = c .before .before .before .before .before .before .before .before .before .before .find in
-    going-on _ _ _ _ _ _ _ (c .before .before .before .before .before .before .before .before .before .before .before .loop .inv) (f .result) (f .ensures .0) (f .ensures .1) (r .result) _ _ (r .ensures) (not-false _ (c .if1 .left))
-    (let k = r .kept in omega arith) (let k = r .kept in omega arith)
+    let r = c .before .before .before .before .run-unit in
+    let f = c .before .before .before .before .before .before .before .before .find in
+    going-on _ _ _ _ _ _ (c .before .before .before .before .before .before .before .before .before .loop .inv) (f .result) (f .ensures .0) (f .ensures .1) (r .result) _ _ (r .ensures) (not-false _ (c .if1 .left))
+    (let k = r .kept in omega arith)
 
 pub run-units-spec : {M : Type 1} → statement M
 run-units-spec =
@@ -103,7 +95,6 @@ run-units-spec =
     part-run-unit-end
     run-unit-requires
     same-length
-    same-length-2
     returns
     add-at
     loop-less

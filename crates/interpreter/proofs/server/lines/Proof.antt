@@ -1,8 +1,9 @@
-use mathlib.Core.Path.{refl}
+use mathlib.Core.Path.{_≡_, refl}
 use mathlib.Core.List.{[]}
 use Prim.Native.Nat.{_-_, zero-le}
 use native.Mathlib.Omega.{arith}
 use lib.ListN.{length}
+use borrow.Author.Needs.{needs}
 use Rattle.interpreter.specs.State.{flowBox}
 use Rattle.interpreter.specs.Server.{service}
 use Rattle.interpreter.proofs.server.Laws.{Serving, more-input, more-room, serve-further, serve-on, serve-end}
@@ -11,7 +12,7 @@ use Rattle.interpreter.proofs.server.lines.Tie as tie
 
 abbrev Inv-loop : tie.InvT-loop
 Inv-loop rows words path₀ line₀ out₀ input output₀ flow₀ read₀ written₀ path line out output flow read written =
-    Serving (service (flowBox flow₀ line₀ out₀) 0 [] output₀) (length output₀) input path line out output flow read written
+    Serving (service (flowBox flow₀ line₀ out₀) 0 [] output₀) (length output₀) input line out output flow read written
 
 abbrev μ-loop : tie.MeasureT-loop
 μ-loop rows words path₀ line₀ out₀ input output₀ flow₀ read₀ written₀ path line out output flow read written =
@@ -19,19 +20,8 @@ abbrev μ-loop : tie.MeasureT-loop
 
 loop-holds : tie.Need-loop-holds Inv-loop μ-loop
 loop-holds c =
-    let p = c .before .before .before .before .before .before .before .pre in
-    let l = p .1 .0 in
-    record {
-      fits = p .1 .1 .0;
-      none = p .1 .1 .1;
-      paths = l .0;
-      lines = l .1;
-      outs = l .2;
-      outputs = refl;
-      read-in = zero-le;
-      wrote = zero-le;
-      left = refl;
-    }
+    let p = c .before .before .before .before .pre in
+    record { fits = p .1 .0; none = p .1 .1; outputs = refl; read-in = zero-le; wrote = zero-le; left = refl }
 
 sub-loop : tie.Need-sub-loop Inv-loop μ-loop
 sub-loop c = let wrote = c .loop .inv .wrote in omega arith
@@ -40,46 +30,34 @@ feed-line-requires : tie.Need-feed-line-requires Inv-loop μ-loop
 feed-line-requires c κs =
     let g = c .before .before .before .before .loop .inv in
     let none = g .none in
-    (c .before .before .before .before .before .before .before .before .before .before .before .before .pre .0, ((g .paths, g .lines, g .outs), (g .fits, omega arith, g .read-in)))
+    (c .before .before .before .before .before .before .before .before .before .pre .0, (g .fits, omega arith, g .read-in))
 
 paste-requires : tie.Need-paste-requires Inv-loop μ-loop
 paste-requires c κs =
-    let g = c .before .before .before .before .before .before .before .before .before .before .before .before .before .before .loop .inv in
-    let outs = g .outs in
-    let few = c .before .before .before .before .before .before .before .before .before .feed-line .ensures .0 .fits .waiting in
-    let k = c .before .before .before .before .before .before .before .before .before .feed-line .kept in
-    let free = more-room _ _ _ _ _ _ _ _ _ _ g (c .before .before .before .before .before .before .before .before .before .before .before .before .before .loop-test .taken) in
+    let few = c .before .before .before .before .feed-line .ensures .0 .fits .waiting in
+    let outs : length (c .before .before .before .before .feed-line .last .1 .1 .1 .1 .1 .0) ≡ 1024 = search needs in
+    let free = more-room _ _ _ _ _ _ _ _ _ (c .before .before .before .before .before .before .before .before .before .loop .inv) (c .before .before .before .before .before .before .before .before .loop-test .taken) in
     (omega arith, omega arith)
 
 loop-less : tie.Need-loop-less Inv-loop μ-loop
 loop-less c =
-    let fed = c .before .before .before .before .before .before .before .before .before .before .before .before .feed-line in
-    let k = serve-further _ _ _ _ _ _ _ _ _ _ (c .before .before .before .before .before .before .before .before .before .before .before .before .before .before .before .before .before .loop .inv) (c .before .before .before .before .before .before .before .before .before .before .before .before .before .before .before .before .loop-test .taken) (fed .result .next) (fed .ensures .1) in
-    let n = more-input _ _ _ _ _ _ _ _ _ _ (c .before .before .before .before .before .before .before .before .before .before .before .before .before .before .before .before .before .loop .inv) (c .before .before .before .before .before .before .before .before .before .before .before .before .before .before .before .before .loop-test .taken) in
+    let fed = c .before .before .before .before .before .before .before .feed-line in
+    let k = serve-further _ _ _ _ _ _ _ _ _ (c .before .before .before .before .before .before .before .before .before .before .before .before .loop .inv) (c .before .before .before .before .before .before .before .before .before .before .before .loop-test .taken) (fed .result .next) (fed .ensures .1) in
+    let n = more-input _ _ _ _ _ _ _ _ _ (c .before .before .before .before .before .before .before .before .before .before .before .before .loop .inv) (c .before .before .before .before .before .before .before .before .before .before .before .loop-test .taken) in
     omega arith
 
 loop-again : tie.Need-loop-again Inv-loop μ-loop
 loop-again c =
-    let fed = c .before .before .before .before .before .before .before .before .before .before .before .before .feed-line in
+    let fed = c .before .before .before .before .before .before .before .feed-line in
     let laid = c .before .before .paste in
-    serve-on _ _ _ _ _ _ _ _ _ _ (c .before .before .before .before .before .before .before .before .before .before .before .before .before .before .before .before .before .loop .inv) (c .before .before .before .before .before .before .before .before .before .before .before .before .before .before .before .before .loop-test .taken) (fed .result .next) (fed .ensures .1) (fed .result .flow) _ _ _ (fed .ensures .0)
-    (let k = fed .kept in omega arith) (let k = fed .kept in omega arith) (let k = fed .kept in omega arith)
+    serve-on _ _ _ _ _ _ _ _ _ (c .before .before .before .before .before .before .before .before .before .before .before .before .loop .inv) (c .before .before .before .before .before .before .before .before .before .before .before .loop-test .taken) (fed .result .next) (fed .ensures .1) (fed .result .flow) _ _ (fed .ensures .0) (search needs)
     (laid .result) _ (laid .ensures .0) (laid .ensures .1)
 
 same-length : tie.Need-same-length Inv-loop μ-loop
-same-length c = let now = c .before .loop .inv .paths in let was = c .before .before .before .before .before .before .before .before .before .pre .1 .0 .0 in omega arith
-
-same-length-2 : tie.Need-same-length-2 Inv-loop μ-loop
-same-length-2 c = let now = c .before .loop .inv .lines in let was = c .before .before .before .before .before .before .before .before .before .pre .1 .0 .1 in omega arith
-
-same-length-3 : tie.Need-same-length-3 Inv-loop μ-loop
-same-length-3 c = let now = c .before .loop .inv .outs in let was = c .before .before .before .before .before .before .before .before .before .pre .1 .0 .2 in omega arith
-
-same-length-4 : tie.Need-same-length-4 Inv-loop μ-loop
-same-length-4 c = let now = c .before .loop .inv .outputs in omega arith
+same-length c = let now = c .before .loop .inv .outputs in omega arith
 
 returns : tie.Need-returns Inv-loop μ-loop
-returns c = serve-end _ _ _ _ _ _ _ _ _ _ (c .before .loop .inv) _ _ _ _ refl (c .loop-test .left)
+returns c = serve-end _ _ _ _ _ _ _ _ _ (c .before .loop .inv) _ _ _ _ refl (c .loop-test .left)
 
 pub lines-spec : {M : Type 1} → statement M
 lines-spec =
@@ -94,7 +72,4 @@ lines-spec =
     loop-less
     loop-again
     same-length
-    same-length-2
-    same-length-3
-    same-length-4
     returns)

@@ -28,19 +28,8 @@ slice-aggregate-lines-2 c = search needs
 flow-of-requires : tie.Need-flow-of-requires
 flow-of-requires c κs = search needs
 
-slice-aggregate-lines-3 : tie.Need-slice-aggregate-lines-3
-slice-aggregate-lines-3 c = search needs
-
-slice-aggregate-lines-4 : tie.Need-slice-aggregate-lines-4
-slice-aggregate-lines-4 c = search needs
-
-slice-aggregate-lines-5 : tie.Need-slice-aggregate-lines-5
-slice-aggregate-lines-5 c = search needs
-
 lines-requires : tie.Need-lines-requires
-lines-requires c κs =
-    let w = c .before .before .before .before .before .before .before .before .before .before .before .before .possible .ensures in
-    ((c .before .before .before .before .before .before .before .before .rows .ensures, c .before .before .before .before .before .before .words .ensures), ((refl, w .line, w .answer), rw (c .before .before .before .before .flow-of .ensures) (flow-fits _ _ w (c .before .before .before .before .before .before .before .before .before .before .before .if1 .left), refl)))
+lines-requires c κs = ((c .before .before .before .before .before .before .before .before .rows .ensures, c .before .before .before .before .before .before .words .ensures), rw (c .before .before .before .before .flow-of .ensures) (flow-fits _ _ (c .before .before .before .before .before .before .before .before .before .before .before .before .possible .ensures) (c .before .before .before .before .before .before .before .before .before .before .before .if1 .left), refl))
 
 state-of-requires : tie.Need-state-of-requires
 state-of-requires c κs = search needs
@@ -50,10 +39,10 @@ same-length c = search needs
 
 returns-2 : tie.Need-returns-2
 returns-2 c =
-    let a = c .before .before .before .before .before .before .before .before .before .before .before .before .before .before .before .before .before .before .before .before .before .before .args in
-    let served = c .before .before .before .before .before .before .lines in
+    let a = c .before .before .before .before .before .before .before .before .before .before .before .before .before .before .before .before .before .before .before .args in
+    let served = c .before .before .before .lines in
     rw (c .state-of .ensures)
-    (served-chunk (a .state) _ (c .before .before .before .before .before .before .before .before .before .before .before .before .before .before .before .before .before .before .before .possible .ensures) (a .input .now) (a .output .now) (c .before .before .before .before .before .before .before .before .before .before .before .before .before .before .before .before .before .before .if1 .left) (served .result) _ _ _ (rw (c .before .before .before .before .before .before .before .before .before .before .before .flow-of .ensures) at (served .ensures)))
+    (served-chunk (a .state) _ (c .before .before .before .before .before .before .before .before .before .before .before .before .before .before .before .before .possible .ensures) (a .input .now) (a .output .now) (c .before .before .before .before .before .before .before .before .before .before .before .before .before .before .before .if1 .left) (served .result) _ _ _ (rw (c .before .before .before .before .before .before .before .before .flow-of .ensures) at (served .ensures)))
 
 pub serve-spec : {M : Type 1} → statement M
 serve-spec =
@@ -66,9 +55,6 @@ serve-spec =
     words-requires
     slice-aggregate-lines-2
     flow-of-requires
-    slice-aggregate-lines-3
-    slice-aggregate-lines-4
-    slice-aggregate-lines-5
     lines-requires
     state-of-requires
     same-length

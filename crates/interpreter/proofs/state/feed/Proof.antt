@@ -6,71 +6,39 @@ use Rattle.interpreter.proofs.state.feed.Statement.{statement}
 use Rattle.interpreter.proofs.state.feed.Tie as tie
 
 abbrev Inv-loop : tie.InvT-loop
-Inv-loop rows words path₀ line₀ out₀ bytes flow₀ at₀ path line out flow at = Feeding flow₀ line₀ out₀ bytes path line out flow at
+Inv-loop rows words path₀ line₀ out₀ bytes flow₀ at₀ path line out flow at = Feeding flow₀ line₀ out₀ bytes line out flow at
 
 abbrev μ-loop : tie.MeasureT-loop
 μ-loop rows words path₀ line₀ out₀ bytes flow₀ at₀ path line out flow at = length bytes - at
 
 loop-holds : tie.Need-loop-holds Inv-loop μ-loop
 loop-holds c =
-    let a = c .before .before .before .before .before .before .args in
-    let p = c .before .before .before .before .before .before .pre in
-    let l = p .1 .0 in
-    record { paths = l .0; lines = l .1; outs = l .2; within = zero-le; fed = fed-none (a .start) (a .line .now) (a .out .now) (p .1 .1 .0) }
+    let a = c .before .before .before .args in
+    record { within = zero-le; fed = fed-none (a .start) (a .line .now) (a .out .now) (c .before .before .before .pre .1 .0) }
 
 feed-line-requires : tie.Need-feed-line-requires Inv-loop μ-loop
 feed-line-requires c κs =
-    let p = c .before .before .before .before .before .before .before .before .before .before .before .pre in
+    let p = c .before .before .before .before .before .before .before .before .pre in
     let g = c .before .before .before .before .loop .inv in
-    let few = feed-few _ _ _ _ _ _ _ _ _ g (p .1 .1 .1) in
-    let big = c .before .before .before .before .before .before .before .before .before .before .before .good .1 .1 .1 .1 .1 .1 .0 in
-    (p .0, ((g .paths, g .lines, g .outs), (g .fed .fits, omega arith, g .within)))
+    let few = feed-few _ _ _ _ _ _ _ _ g (p .1 .1) in
+    let big = c .before .before .before .before .before .before .before .before .good .1 .1 .1 .1 .1 .1 .0 in
+    (p .0, (g .fed .fits, omega arith, g .within))
 
 loop-less : tie.Need-loop-less Inv-loop μ-loop
 loop-less c =
-    let r = c .before .before .before .before .before .before .before .feed-line in
-    let more = c .before .before .before .before .before .before .before .before .before .before .before .loop-test .taken in
-    let k = feed-further _ _ _ _ _ _ _ _ _ (c .before .before .before .before .before .before .before .before .before .before .before .before .loop .inv) more (r .result .next) (r .ensures .1) in
+    let r = c .before .feed-line in
+    let more = c .before .before .before .before .before .loop-test .taken in
+    let k = feed-further _ _ _ _ _ _ _ _ (c .before .before .before .before .before .before .loop .inv) more (r .result .next) (r .ensures .1) in
     omega arith
 
 loop-again : tie.Need-loop-again Inv-loop μ-loop
 loop-again c =
-    let r = c .before .before .before .before .before .before .before .feed-line in
-    feed-on _ _ _ _ _ _ _ _ _ (c .before .before .before .before .before .before .before .before .before .before .before .before .loop .inv) (c .before .before .before .before .before .before .before .before .before .before .before .loop-test .taken) (r .result .next) (r .ensures .1) (r .result .flow) _ _ _ (r .ensures .0)
-    (let k = r .kept in omega arith) (let k = r .kept in omega arith) (let k = r .kept in omega arith)
-
-same-length : tie.Need-same-length Inv-loop μ-loop
-same-length c =
-    let now = c .before .loop .inv .paths in
-    let was = c .before .before .before .before .before .before .before .before .pre .1 .0 .0 in
-    omega arith
-
-same-length-2 : tie.Need-same-length-2 Inv-loop μ-loop
-same-length-2 c =
-    let now = c .before .loop .inv .lines in
-    let was = c .before .before .before .before .before .before .before .before .pre .1 .0 .1 in
-    omega arith
-
-same-length-3 : tie.Need-same-length-3 Inv-loop μ-loop
-same-length-3 c =
-    let now = c .before .loop .inv .outs in
-    let was = c .before .before .before .before .before .before .before .before .pre .1 .0 .2 in
-    omega arith
+    let r = c .before .feed-line in
+    feed-on _ _ _ _ _ _ _ _ (c .before .before .before .before .before .before .loop .inv) (c .before .before .before .before .before .loop-test .taken) (r .result .next) (r .ensures .1) (r .result .flow) _ _ (r .ensures .0)
 
 returns : tie.Need-returns Inv-loop μ-loop
-returns c = feed-end _ _ _ _ _ _ _ _ _ (c .before .loop .inv) (c .loop-test .left)
+returns c = feed-end _ _ _ _ _ _ _ _ (c .before .loop .inv) (c .loop-test .left)
 
 pub feed-spec : {M : Type 1} → statement M
 feed-spec =
-    tie.close
-    (tie.spec
-    Inv-loop
-    μ-loop
-    loop-holds
-    feed-line-requires
-    loop-less
-    loop-again
-    same-length
-    same-length-2
-    same-length-3
-    returns)
+    tie.close (tie.spec Inv-loop μ-loop loop-holds feed-line-requires loop-less loop-again returns)

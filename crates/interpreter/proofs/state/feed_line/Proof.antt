@@ -1,9 +1,9 @@
-use borrow.Author.Needs.{needs}
-use native.Mathlib.Omega.{arith}
 use mathlib.Core.List.{[]}
+use native.Mathlib.Omega.{arith}
 use lib.ListN.{length-take, length-drop, length-append}
 use Rattle.registers.specs.Errors as errors
 use Rattle.interpreter.proofs.state.Laws.{part-plain, line-open, line-ended, fed-then}
+use borrow.Author.Needs.{needs}
 use Rattle.interpreter.proofs.state.feed_line.Statement.{statement}
 use Rattle.interpreter.proofs.state.feed_line.Tie as tie
 
@@ -21,56 +21,39 @@ part-hold-end c = search needs
 
 hold-requires : tie.Need-hold-requires
 hold-requires c κs =
-    let a = c .before .before .before .before .before .before .before .before .before .args in
-    let p = c .before .before .before .before .before .before .before .before .before .pre in
+    let a = c .before .before .before .before .before .before .args in
     let f = c .before .before .find .ensures in
-    (p .1 .1 .0, p .1 .0 .1, part-plain (a .bytes .now) (a .at) (c .before .before .find .result) (f .0) (f .1))
-
-same-length : tie.Need-same-length
-same-length c = search needs
+    (c .before .before .before .before .before .before .pre .1 .0, part-plain (a .bytes .now) (a .at) (c .before .before .find .result) (f .0) (f .1))
 
 returns : tie.Need-returns
 returns c =
-    let a = c .before .before .before .before .before .before .before .before .before .before .before .before .before .args in
-    let f = c .before .before .before .before .before .before .find .ensures in
-    let whole = line-open (a .bytes .now) (a .at) (c .before .before .before .before .before .before .find .result) (f .0) (f .1) (c .if1 .taken) in
-    (rw whole (c .before .before .before .hold .ensures (a .out .now)), rw (whole, length-take, length-drop) (omega arith))
+    let a = c .before .before .before .before .before .before .before .before .args in
+    let f = c .before .before .before .before .find .ensures in
+    let whole = line-open (a .bytes .now) (a .at) (c .before .before .before .before .find .result) (f .0) (f .1) (c .if1 .taken) in
+    (rw whole (c .before .hold .ensures (a .out .now)), rw (whole, length-take, length-drop) (omega arith))
 
 newline-requires : tie.Need-newline-requires
 newline-requires c κs =
-    let p = c .before .before .before .before .before .before .before .before .before .before .before .before .before .before .before .before .pre in
-    let a = c .before .before .before .before .before .before .before .before .before .before .before .before .before .before .before .before .args in
-    let f = c .before .before .before .before .before .before .before .before .before .find .ensures in
-    let z = part-plain (a .bytes .now) (a .at) (c .before .before .before .before .before .before .before .before .before .find .result) (f .0) (f .1) in
-    let held = c .before .before .before .before .before .before .hold .ensures [] in
-    let few = p .1 .1 .1 in
+    let a = c .before .before .before .before .before .before .before .before .before .before .before .args in
+    let p = c .before .before .before .before .before .before .before .before .before .before .before .pre in
+    let f = c .before .before .before .before .before .before .before .find .ensures in
+    let none = part-plain (a .bytes .now) (a .at) (c .before .before .before .before .before .before .before .find .result) (f .0) (f .1) in
+    let held = c .before .before .before .before .hold .ensures [] in
     let count = held .count in
-    let k = c .before .before .before .before .before .before .hold .kept in
-    (p .0, ((p .1 .0 .0, omega arith, p .1 .0 .2), (held .fits, omega arith)))
+    let few = p .1 .1 in
+    (p .0, (held .fits, omega arith))
 
-add-t16 : tie.Need-add-t16
-add-t16 c =
-    let f = c .before .before .before .before .before .before .before .before .before .before .before .before .before .before .find .ensures .1 in
-    let ne = c .before .before .before .before .before .before .before .before .if1 .left in
-    let g = c .before .before .before .before .before .before .before .before .before .before .before .before .before .before .before .before .before .before .before .before .before .good in
-    omega arith
-
-same-length-2 : tie.Need-same-length-2
-same-length-2 c = search needs
-
-same-length-3 : tie.Need-same-length-3
-same-length-3 c = search needs
-
-same-length-4 : tie.Need-same-length-4
-same-length-4 c = search needs
+add-t15 : tie.Need-add-t15
+add-t15 c =
+    let ends = c .before .before .before .before .before .before .before .before .find .ensures .1 in
+    omega (arith, c .before .before .before .before .before .before .before .before .before .before .before .before .good)
 
 returns-2 : tie.Need-returns-2
 returns-2 c =
-    let a = c .before .before .before .before .before .before .before .before .before .before .before .before .before .before .before .before .before .before .before .before .before .args in
-    let f = c .before .before .before .before .before .before .before .before .before .before .before .before .before .before .find .ensures in
-    let ended = line-ended (a .bytes .now) (a .at) (c .before .before .before .before .before .before .before .before .before .before .before .before .before .before .find .result) (f .0) (f .1) (c .before .before .before .before .before .before .before .before .if1 .left) in
-    let n = c .before .before .before .before .newline in
-    (rw ended (fed-then _ _ _ _ _ _ _ _ _ _ _ (c .before .before .before .before .before .before .before .before .before .before .before .hold .ensures (a .out .now)) (n .ensures)), rw (ended, length-append, length-take, length-drop) (omega arith))
+    let a = c .before .before .before .before .before .before .before .before .before .before .before .before .args in
+    let f = c .before .before .before .before .before .before .before .before .find .ensures in
+    let ended = line-ended (a .bytes .now) (a .at) (c .before .before .before .before .before .before .before .before .find .result) (f .0) (f .1) (c .before .before .before .before .if1 .left) in
+    (rw ended (fed-then _ _ _ _ _ _ _ _ _ _ _ (c .before .before .before .before .before .hold .ensures (a .out .now)) (c .newline .ensures)), rw (ended, length-append, length-take, length-drop) (omega arith))
 
 pub feed-line-spec : {M : Type 1} → statement M
 feed-line-spec =
@@ -81,11 +64,7 @@ feed-line-spec =
     part-hold-start
     part-hold-end
     hold-requires
-    same-length
     returns
     newline-requires
-    add-t16
-    same-length-2
-    same-length-3
-    same-length-4
+    add-t15
     returns-2)

@@ -1,5 +1,7 @@
-use borrow.Author.Needs.{needs}
+use mathlib.Core.Path.{_≡_}
+use lib.ListN.{length}
 use Rattle.interpreter.proofs.state.Laws.{held-fed}
+use borrow.Author.Needs.{needs}
 use Rattle.interpreter.proofs.state.hold.Statement.{statement}
 use Rattle.interpreter.proofs.state.hold.Tie as tie
 
@@ -12,15 +14,14 @@ smaller-requires c κs = search needs
 paste-requires : tie.Need-paste-requires
 paste-requires c κs = search needs
 
-same-length : tie.Need-same-length
-same-length c = search needs
-
 returns : tie.Need-returns
 returns c =
-    let a = c .before .before .before .before .before .before .before .before .args in
-    let p = c .before .before .before .before .before .before .before .before .pre in
-    let laid = c .before .before .before .paste in
-    held-fed (a .flow) (a .line .now) (a .part .now) (p .0) (p .1) (p .2) (c .before .before .before .before .before .smaller .result) (laid .result) _ (c .before .before .before .before .before .smaller .ensures) (laid .ensures .0) (laid .ensures .1)
+    let a = c .before .before .before .before .before .args in
+    let p = c .before .before .before .before .before .pre in
+    let g = c .before .before .before .before .before .good in
+    let laid = c .before .paste in
+    let long : length (a .line .now) ≡ 512 = search needs in
+    held-fed (a .flow) (a .line .now) (a .part .now) (p .0) long (p .1) (c .before .before .before .smaller .result) (laid .result) _ (c .before .before .before .smaller .ensures) (laid .ensures .0) (laid .ensures .1)
 
 pub hold-spec : {M : Type 1} → statement M
-hold-spec = tie.close (tie.spec sub-smaller smaller-requires paste-requires same-length returns)
+hold-spec = tie.close (tie.spec sub-smaller smaller-requires paste-requires returns)

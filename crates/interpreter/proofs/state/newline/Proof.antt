@@ -1,4 +1,4 @@
-use mathlib.Core.Path.{refl}
+use mathlib.Core.Path.{_≡_, refl}
 use Prim.Native.Nat.{_<_, zero-le}
 use native.Mathlib.Omega.{arith}
 use native.Mathlib.Nat.{sub-zero}
@@ -25,32 +25,24 @@ part-run-line-end c = search needs
 
 run-line-requires : tie.Need-run-line-requires
 run-line-requires c κs =
-    let p = c .before .before .before .before .before .before .before .before .before .pre in
-    let paths = p .1 .0 .0 in
-    let lines = p .1 .0 .1 in
-    let held = p .1 .1 .0 .filled in
-    (p .0, (rw (sub-zero, length-take) (omega arith), p .1 .0 .2, c .before .before .before .discard .ensures .queued (p .1 .1 .0 .queued)))
+    let p = c .before .before .before .before .before .before .before .pre in
+    let held = p .1 .0 .filled in
+    let g = c .run-line-arg3 .given in
+    (p .0, (rw (sub-zero, length-take) (omega arith), search needs, c .before .before .before .discard .ensures .queued (p .1 .0 .queued)))
 
-add-t14 : tie.Need-add-t14
-add-t14 c =
-    let count = c .before .before .before .before .before .before .before .before .before .before .before .before .before .before .before .before .pre .1 .1 .1 in
-    omega arith
-
-same-length : tie.Need-same-length
-same-length c = search needs
-
-same-length-2 : tie.Need-same-length-2
-same-length-2 c = search needs
+add-t15 : tie.Need-add-t15
+add-t15 c = search needs
 
 returns : tie.Need-returns
 unfolding piece byte newlines if_then_else_
 returns c =
-    let a = c .before .before .before .before .before .before .before .before .before .before .before .before .before .before .before .before .args in
+    let a = c .before .before .before .before .before .before .before .before .before .before .args in
     let f = a .flow in
-    let outs = c .before .before .before .before .before .before .before .before .before .before .before .before .before .before .before .before .pre .1 .0 .2 in
+    let g = c .before .before .before .run-line-arg3 .given in
+    let outs : length (a .out .now) ≡ 1024 = search needs in
     let room : 0 < length (a .out .now) = omega arith in
-    let d = c .before .before .before .before .before .before .before .before .before .before .discard in
-    let w = c .before .before .before .before .before .before .run-line .ensures in
+    let d = c .before .before .before .before .before .before .discard in
+    let w = c .before .before .run-line .ensures in
     record {
       fits = record { filled = zero-le; waiting = w .room; queued = w .queued };
       box = rw (← ended (f .present) (a .out .now) (f .waiting) (d .result) (d .ensures) room (take (f .filled) (a .line .now)) (f .overlong)) (rw sub-zero at (w .box));
@@ -66,7 +58,5 @@ newline-spec =
     part-run-line-start
     part-run-line-end
     run-line-requires
-    add-t14
-    same-length
-    same-length-2
+    add-t15
     returns)

@@ -29,31 +29,20 @@ slice-aggregate-feed-2 c = search needs
 flow-of-requires : tie.Need-flow-of-requires
 flow-of-requires c κs = search needs
 
-slice-aggregate-feed-3 : tie.Need-slice-aggregate-feed-3
-slice-aggregate-feed-3 c = search needs
-
-slice-aggregate-feed-4 : tie.Need-slice-aggregate-feed-4
-slice-aggregate-feed-4 c = search needs
-
-slice-aggregate-feed-5 : tie.Need-slice-aggregate-feed-5
-slice-aggregate-feed-5 c = search needs
-
 feed-requires : tie.Need-feed-requires
-feed-requires c κs =
-    let w = c .before .before .before .before .before .before .before .before .before .before .before .possible .ensures in
-    ((c .before .before .before .before .before .before .before .rows .ensures, c .before .before .before .before .before .words .ensures), ((refl, w .line, w .answer), rw (c .before .before .before .flow-of .ensures) (flow-fits _ _ w (c .before .before .before .before .before .before .before .before .before .before .if1 .left), refl)))
+feed-requires c κs = ((c .before .before .before .before .before .before .before .rows .ensures, c .before .before .before .before .before .words .ensures), rw (c .before .before .before .flow-of .ensures) (flow-fits _ _ (c .before .before .before .before .before .before .before .before .before .before .before .possible .ensures) (c .before .before .before .before .before .before .before .before .before .before .if1 .left), refl))
 
 state-of-requires : tie.Need-state-of-requires
 state-of-requires c κs = search needs
 
 returns-2 : tie.Need-returns-2
 returns-2 c =
-    let s = c .before .before .before .before .before .before .before .before .before .before .before .before .before .before .before .before .before .before .args .self in
-    let bytes = c .before .before .before .before .before .before .before .before .before .before .before .before .before .before .before .before .before .before .args .bytes .now in
-    let fed = c .before .before .before .before .feed in
-    let is = rw (c .before .before .before .before .before .before .before .before .flow-of .ensures) at (fed .ensures) in
+    let s = c .before .before .before .before .before .before .before .before .before .before .before .before .before .before .before .args .self in
+    let bytes = c .before .before .before .before .before .before .before .before .before .before .before .before .before .before .before .args .bytes .now in
+    let fed = c .before .feed in
+    let is = rw (c .before .before .before .before .before .flow-of .ensures) at (fed .ensures) in
     rw (c .state-of .ensures)
-    (happens-on s (received bytes) _ (c .before .before .before .before .before .before .before .before .before .before .before .before .before .before .before .before .possible .ensures) (c .before .before .before .before .before .before .before .before .before .before .before .before .before .before .before .if1 .left) _ _ (λ _. short-of (fed .result) _ _ (is .fits)) (piece-on s bytes (fed .result) _ _ is))
+    (happens-on s (received bytes) _ (c .before .before .before .before .before .before .before .before .before .before .before .before .before .possible .ensures) (c .before .before .before .before .before .before .before .before .before .before .before .before .if1 .left) _ _ (λ _. short-of (fed .result) _ _ (is .fits)) (piece-on s bytes (fed .result) _ _ is))
 
 pub piece-spec : {M : Type 1} → statement M
 piece-spec =
@@ -66,9 +55,6 @@ piece-spec =
     words-requires
     slice-aggregate-feed-2
     flow-of-requires
-    slice-aggregate-feed-3
-    slice-aggregate-feed-4
-    slice-aggregate-feed-5
     feed-requires
     state-of-requires
     returns-2)

@@ -19,7 +19,6 @@ returns c =
       is = rw (c .before .before .before .possible .ensures, c .before .before .possible2 .ensures);
       values = length-unmapped _ (s .settings .values) 16 (g .0 .1 .1 .0 .1 .0 .1);
       errors = length-unmapped _ (s .status .errors) 16 (g .1 .0 .1 .1 .1 .1 .1 .1 .1 .0 .1 .0 .1);
-      line = length-unmapped _ (s .line) 512 (g .1 .1 .0 .1 .0 .1);
       answer = length-unmapped _ (s .answer) 1024 (g .1 .1 .1 .1 .1 .0 .1 .0 .1);
     }
 
