@@ -15,6 +15,7 @@ pub mod Line
 pub mod Events
 pub mod DeedsParts
 pub mod LineParts
+pub mod FlowParts
 pub mod State
 pub mod Examples
 pub mod Histories

@@ -9,9 +9,10 @@ use Rattle.registers.specs.Text.{Text, if_then_else_, empty}
 use Rattle.interpreter.specs.Cuts.{joinFirst}
 use Rattle.interpreter.specs.Box.{Box, mostAnswer}
 use Rattle.interpreter.specs.Events.{Happened, happens, received, take as takes}
-use Rattle.interpreter.specs.State.{boxOf, possibleState, flowBox, FlowFits}
+use Rattle.interpreter.specs.State.{boxOf, possibleState}
+use Rattle.interpreter.specs.FlowParts.{flowBox, FlowFits}
 use Rattle.interpreter.specs.declared.state.State.{State}
-use Rattle.interpreter.specs.declared.state.Flow.{Flow}
+use Rattle.interpreter.specs.declared.flow.Flow.{Flow}
 use Rattle.interpreter.specs.declared.server.Progress.{Progress}
 
 -- the bytes cut behind every newline

@@ -1,21 +1,18 @@
 -- "What can happen to the box", for the code: what a State means, and what each of the five events says of it; refusal 4.
 use mathlib.Core.Path.{_≡_}
 use mathlib.Core.Bool.{Bool, true, false, _&&_}
-use Prim.Native.Nat.{ℕ, _+_, _≤_}
+use Prim.Native.Nat.{ℕ}
 use lib.Dec.{leb}
 use lib.ListN.{length, take}
-use Rattle.bytes.specs.Bytes.{indexOf}
 use Rattle.registers.specs.Text.{Text}
 use Rattle.registers.specs.Settings.{possibleSettings, count}
 use Rattle.registers.specs.Status.{most, registersOf, troubleOf, possibleStatus, most}
 use Rattle.registers.specs.declared.settings.Settings.{Settings}
 use Rattle.registers.specs.declared.status.Status.{Status}
 use Rattle.interpreter.specs.Box.{Box, box, powerUp, mostLine, mostAnswer}
-use Rattle.interpreter.specs.Line.{piece, newlines}
 use Rattle.interpreter.specs.Events.{Event, Result, result, happened, happens, lent}
-use Rattle.interpreter.specs.LineParts.{boxHolding}
 use Rattle.interpreter.specs.declared.state.State.{State}
-use Rattle.interpreter.specs.declared.state.Flow.{Flow}
+use Rattle.interpreter.specs.declared.flow.Flow.{Flow}
 use Rattle.interpreter.specs.declared.state.Outcome.{Outcome}
 use Rattle.interpreter.specs.declared.state.Outcome.the-variants.{Done, BufferTooShort, NoAnswer, ConditionTooWide, ImpossibleState}
 
@@ -89,22 +86,3 @@ stateOf f line answer =
       answer = answer;
       waiting = f .waiting;
     }
-
-abbrev pub flowBox : Flow → Text → Text → Box
-flowBox f line out = boxHolding (f .present) (take (f .filled) line) (f .overlong) (take (f .waiting) out)
-
--- the three lengths
-pub record FlowFits (f : Flow) : Type 0 where
-  pub filled : f .filled ≤ mostLine
-  pub waiting : f .waiting ≤ mostAnswer
-  pub queued : f .present .status .queued ≤ most
-
--- the first line of a text with its newline, or all of a text that has none
-unfoldable pub firstLine : Text → Text
-firstLine l = take (indexOf 10 l + 1) l
-
--- bytes were taken in
-pub record FlowFed (f : Flow) (line out bytes : Text) (r : Flow) (lines left : Text) : Type 0 where
-  pub fits : FlowFits r
-  pub box : flowBox r lines left ≡ piece (flowBox f line out) bytes
-  pub count : r .count ≡ f .count + newlines bytes

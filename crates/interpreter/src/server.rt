@@ -1,14 +1,16 @@
 // A chunk of input served for a program: fed line by line, each answer taken behind the one before.
+use crate::flow;
+use crate::flow::Flow;
 use crate::state;
 use crate::state::ANSWER;
-use crate::state::Flow;
 use crate::state::LINE;
 use crate::state::Outcome;
 use crate::state::State;
 use crate::tables;
 ghost use mathlib.Core.Path.{_≡_};
 ghost use Rattle.interpreter.specs.RowsParts.{rowTable, wordTable};
-ghost use Rattle.interpreter.specs.State.{numberOf, FlowFits};
+ghost use Rattle.interpreter.specs.State.{numberOf};
+ghost use Rattle.interpreter.specs.FlowParts.{FlowFits};
 ghost use Rattle.interpreter.specs.Server.{Serves, FlowServed};
 
 // How far a chunk was served: bytes read of the input, and written of the output.
@@ -45,10 +47,10 @@ fn lines(
     let mut read: usize = 0;
     let mut written: usize = 0;
     while (read < input.len()) & (ANSWER <= output.len() - written) {
-        let fed = state::feed_line(rows, words, flow, path, line, out, input, read);
+        let fed = flow::feed_line(rows, words, flow, path, line, out, input, read);
         flow = fed.flow;
         read = fed.next;
-        written = state::paste(out, flow.waiting, output, written);
+        written = flow::paste(out, flow.waiting, output, written);
         flow.waiting = 0;
         flow.count = 0;
     }

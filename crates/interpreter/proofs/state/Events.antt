@@ -18,9 +18,10 @@ use Rattle.registers.proofs.status.Means.{raised-trouble, raised-registers}
 use Rattle.interpreter.specs.Box.{box}
 use Rattle.interpreter.specs.Line.{newlines}
 use Rattle.interpreter.specs.Events.{Event, received, take as takes, condition, look, Result, result, happened, happens, taken, reported, lent}
-use Rattle.interpreter.specs.State.{boxOf, possibleParts, Happens, Tested, flowOf, stateOf, FlowFed}
+use Rattle.interpreter.specs.State.{boxOf, possibleParts, Happens, Tested, flowOf, stateOf}
+use Rattle.interpreter.specs.FlowParts.{FlowFed}
 use Rattle.interpreter.specs.declared.state.State.{State}
-use Rattle.interpreter.specs.declared.state.Flow.{Flow}
+use Rattle.interpreter.specs.declared.flow.Flow.{Flow}
 use Rattle.interpreter.proofs.line.Newline.{waits}
 use Rattle.interpreter.proofs.state.Records.{Short, short-from, could, could-not, happens-so}
 

@@ -4,7 +4,7 @@ use Prim.Native.Nat.{_-_, zero-le}
 use native.Mathlib.Omega.{arith}
 use lib.ListN.{length}
 use borrow.Author.Needs.{needs}
-use Rattle.interpreter.specs.State.{flowBox}
+use Rattle.interpreter.specs.FlowParts.{flowBox}
 use Rattle.interpreter.specs.Server.{service}
 use Rattle.interpreter.proofs.server.Laws.{Serving, more-input, more-room, serve-further, serve-on, serve-end}
 use Rattle.interpreter.proofs.server.lines.Statement.{statement}

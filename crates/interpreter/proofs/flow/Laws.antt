@@ -15,8 +15,8 @@ use Rattle.bytes.specs.Bytes.{indexOf, indexAfter, slice}
 use Rattle.registers.specs.Text.{Text, if_then_else_}
 use Rattle.interpreter.specs.Box.{Core, Box, box, withLine, mostLine}
 use Rattle.interpreter.specs.Line.{held, byte, piece, newlines}
-use Rattle.interpreter.specs.State.{flowBox, FlowFits, firstLine, FlowFed}
-use Rattle.interpreter.specs.declared.state.Flow.{Flow}
+use Rattle.interpreter.specs.FlowParts.{flowBox, FlowFits, firstLine, FlowFed}
+use Rattle.interpreter.specs.declared.flow.Flow.{Flow}
 use Rattle.interpreter.proofs.Lists.{rest-is}
 use Rattle.interpreter.proofs.line.Units.{place}
 use Rattle.interpreter.proofs.demands.Pieces.{piece-append, newlines-append}

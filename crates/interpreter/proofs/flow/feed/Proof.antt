@@ -1,9 +1,9 @@
 use Prim.Native.Nat.{_-_, zero-le}
 use native.Mathlib.Omega.{arith}
 use lib.ListN.{length}
-use Rattle.interpreter.proofs.state.Laws.{Feeding, fed-none, feed-few, feed-further, feed-on, feed-end}
-use Rattle.interpreter.proofs.state.feed.Statement.{statement}
-use Rattle.interpreter.proofs.state.feed.Tie as tie
+use Rattle.interpreter.proofs.flow.Laws.{Feeding, fed-none, feed-few, feed-further, feed-on, feed-end}
+use Rattle.interpreter.proofs.flow.feed.Statement.{statement}
+use Rattle.interpreter.proofs.flow.feed.Tie as tie
 
 abbrev Inv-loop : tie.InvT-loop
 Inv-loop rows words path₀ line₀ out₀ bytes flow₀ at₀ path line out flow at = Feeding flow₀ line₀ out₀ bytes line out flow at

@@ -1,9 +1,9 @@
 use mathlib.Core.Path.{_≡_}
 use lib.ListN.{length}
-use Rattle.interpreter.proofs.state.Laws.{held-fed}
+use Rattle.interpreter.proofs.flow.Laws.{held-fed}
 use borrow.Author.Needs.{needs}
-use Rattle.interpreter.proofs.state.hold.Statement.{statement}
-use Rattle.interpreter.proofs.state.hold.Tie as tie
+use Rattle.interpreter.proofs.flow.hold.Statement.{statement}
+use Rattle.interpreter.proofs.flow.hold.Tie as tie
 
 sub-smaller : tie.Need-sub-smaller
 sub-smaller c = search needs

@@ -2,10 +2,10 @@ use mathlib.Core.List.{[]}
 use native.Mathlib.Omega.{arith}
 use lib.ListN.{length-take, length-drop, length-append}
 use Rattle.registers.specs.Errors as errors
-use Rattle.interpreter.proofs.state.Laws.{part-plain, line-open, line-ended, fed-then}
+use Rattle.interpreter.proofs.flow.Laws.{part-plain, line-open, line-ended, fed-then}
 use borrow.Author.Needs.{needs}
-use Rattle.interpreter.proofs.state.feed_line.Statement.{statement}
-use Rattle.interpreter.proofs.state.feed_line.Tie as tie
+use Rattle.interpreter.proofs.flow.feed_line.Statement.{statement}
+use Rattle.interpreter.proofs.flow.feed_line.Tie as tie
 
 find-requires : tie.Need-find-requires
 find-requires c κs = search needs

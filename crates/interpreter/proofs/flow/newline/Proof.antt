@@ -8,8 +8,8 @@ use Rattle.registers.specs.Errors as errors
 use Rattle.interpreter.specs.Line.{byte, piece, newlines}
 use Rattle.interpreter.proofs.line.Newline.{ended}
 use borrow.Author.Needs.{needs}
-use Rattle.interpreter.proofs.state.newline.Statement.{statement}
-use Rattle.interpreter.proofs.state.newline.Tie as tie
+use Rattle.interpreter.proofs.flow.newline.Statement.{statement}
+use Rattle.interpreter.proofs.flow.newline.Tie as tie
 
 discard-requires : tie.Need-discard-requires
 discard-requires c κs = search needs

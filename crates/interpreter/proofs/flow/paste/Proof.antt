@@ -1,7 +1,7 @@
 use borrow.Author.Needs.{needs}
-use Rattle.interpreter.proofs.state.Laws.{pasted}
-use Rattle.interpreter.proofs.state.paste.Statement.{statement}
-use Rattle.interpreter.proofs.state.paste.Tie as tie
+use Rattle.interpreter.proofs.flow.Laws.{pasted}
+use Rattle.interpreter.proofs.flow.paste.Statement.{statement}
+use Rattle.interpreter.proofs.flow.paste.Tie as tie
 
 sub-copy : tie.Need-sub-copy
 sub-copy c = search needs

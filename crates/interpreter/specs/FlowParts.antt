@@ -1,0 +1,31 @@
+-- What the functions say that take bytes in. Nothing of 01 is defined here: see Line.antt.
+use mathlib.Core.Path.{_≡_}
+use Prim.Native.Nat.{_+_, _≤_}
+use lib.ListN.{take}
+use Rattle.bytes.specs.Bytes.{indexOf}
+use Rattle.registers.specs.Text.{Text}
+use Rattle.registers.specs.Status.{most}
+use Rattle.interpreter.specs.Box.{Box, mostLine, mostAnswer}
+use Rattle.interpreter.specs.Line.{piece, newlines}
+use Rattle.interpreter.specs.LineParts.{boxHolding}
+use Rattle.interpreter.specs.declared.flow.Flow.{Flow}
+
+-- what the small part of a state means, with the line's array and the answer's
+abbrev pub flowBox : Flow → Text → Text → Box
+flowBox f line out = boxHolding (f .present) (take (f .filled) line) (f .overlong) (take (f .waiting) out)
+
+-- the three lengths
+pub record FlowFits (f : Flow) : Type 0 where
+  pub filled : f .filled ≤ mostLine
+  pub waiting : f .waiting ≤ mostAnswer
+  pub queued : f .present .status .queued ≤ most
+
+-- the first line of a text with its newline, or all of a text that has none
+unfoldable pub firstLine : Text → Text
+firstLine l = take (indexOf 10 l + 1) l
+
+-- bytes were taken in
+pub record FlowFed (f : Flow) (line out bytes : Text) (r : Flow) (lines left : Text) : Type 0 where
+  pub fits : FlowFits r
+  pub box : flowBox r lines left ≡ piece (flowBox f line out) bytes
+  pub count : r .count ≡ f .count + newlines bytes

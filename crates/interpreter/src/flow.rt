@@ -1,0 +1,151 @@
+// The bytes that come in: line by line, with the line and the waiting answer in place.
+use crate::line;
+use crate::perform::Present;
+use crate::state::ANSWER;
+use crate::state::LINE;
+ghost use mathlib.Core.Path.{_≡_};
+ghost use mathlib.Core.List.{[], _∷_};
+ghost use Prim.Native.Nat.{_+_, _^_, _≤_, _<_, min};
+ghost use lib.ListN.{length, drop};
+ghost use lib.Seq as seq;
+ghost use Rattle.registers.specs.Text.{Text};
+ghost use Rattle.interpreter.specs.RowsParts.{rowTable, wordTable};
+ghost use Rattle.interpreter.specs.Line.{newlines};
+ghost use Rattle.interpreter.specs.FlowParts.{FlowFits, firstLine, FlowFed};
+
+// The small part of a state; the two arrays are lent beside it.
+pub(crate) struct Flow {
+    pub(crate) present: Present,
+    pub(crate) filled: usize,
+    pub(crate) overlong: bool,
+    pub(crate) waiting: usize,
+    pub(crate) count: usize,
+}
+
+// What a line taken in leaves, and where the next one starts.
+pub(crate) struct Advance {
+    pub(crate) flow: Flow,
+    pub(crate) next: usize,
+}
+
+// The smaller of two numbers.
+fn smaller(a: usize, b: usize) -> usize
+    ensures { λ r. ⌜ r ≡ min a b ⌝ }
+{
+    if a < b {
+        return a;
+    }
+    b
+}
+
+// Lays the first n bytes of a text over another from a place on; the place behind them.
+pub(crate) fn paste(text: &[u8], n: usize, into: &mut [u8], at: usize) -> usize
+    requires { ⌜ (n ≤ length (now text)) × (at + n ≤ length (now into)) ⌝ }
+    ensures { λ r. ⌜ r ≡ at + n ⌝ }
+    ensures { λ _. ⌜ now (into .exit) ≡ seq.paste (now (into .entry)) at (now (text .entry)) n ⌝ }
+{
+    at + bytes::copy(&text[0..n], &mut into[at..])
+}
+
+// Bytes without a newline go behind what the line holds; "further bytes are dropped".
+fn hold(mut flow: Flow, line: &mut [u8; LINE], part: &[u8]) -> Flow
+    requires { ⌜ FlowFits flow × (newlines (now part) ≡ 0) ⌝ }
+    ensures { λ r. ⌜ ((out : Text) → FlowFed flow (now (line .entry)) out (now (part .entry)) r (now (line .exit)) out) ⌝ }
+{
+    let at = flow.filled;
+    let n = smaller(part.len(), LINE - at);
+    flow.filled = paste(part, n, line, at);
+    flow.overlong = flow.overlong | (n < part.len());
+    flow
+}
+
+// A newline: a waiting answer is first discarded, and the line that was held is run.
+fn newline(
+    rows: &[u8],
+    words: &[u8],
+    flow: Flow,
+    path: &mut [u8; LINE],
+    line: &[u8; LINE],
+    out: &mut [u8; ANSWER],
+) -> Flow
+    requires { ⌜ (now rows ≡ rowTable) × (now words ≡ wordTable) ⌝ }
+    requires { ⌜ FlowFits flow × (flow .count < 2 ^ 63) ⌝ }
+    ensures { λ r. ⌜ FlowFed flow (now (line .entry)) (now (out .entry)) (10 ∷ []) r (now (line .entry)) (now (out .exit)) ⌝ }
+{
+    let filled = flow.filled;
+    let bytes: &[u8] = line;
+    let present = line::discard(flow.present, flow.waiting);
+    let ran = line::run_line(
+        rows,
+        words,
+        present,
+        path,
+        &bytes[0..filled],
+        flow.overlong,
+        out,
+    );
+    let next = ran.present;
+    Flow {
+        present: next,
+        filled: 0,
+        overlong: false,
+        waiting: ran.answered,
+        count: flow.count + 1,
+    }
+}
+
+// Takes in the line that starts at a place: its bytes up to a newline and with it, or all there are.
+pub(crate) fn feed_line(
+    rows: &[u8],
+    words: &[u8],
+    flow: Flow,
+    path: &mut [u8; LINE],
+    line: &mut [u8; LINE],
+    out: &mut [u8; ANSWER],
+    bytes: &[u8],
+    at: usize,
+) -> Advance
+    requires { ⌜ (now rows ≡ rowTable) × (now words ≡ wordTable) ⌝ }
+    requires { ⌜ FlowFits flow × (flow .count < 2 ^ 63) × (at ≤ length (now bytes)) ⌝ }
+    ensures { λ r. ⌜ FlowFed flow (now (line .entry)) (now (out .entry)) (firstLine (drop at (now (bytes .entry)))) (r .flow) (now (line .exit)) (now (out .exit)) ⌝ }
+    ensures { λ r. ⌜ r .next ≡ at + length (firstLine (drop at (now (bytes .entry)))) ⌝ }
+{
+    let n = bytes.len();
+    let end = bytes::scan::find(bytes, at, n, 10);
+    let held = hold(flow, line, &bytes[at..end]);
+    if end == n {
+        return Advance {
+            flow: held,
+            next: end,
+        };
+    }
+    let next = newline(rows, words, held, path, line, out);
+    Advance {
+        flow: next,
+        next: end + 1,
+    }
+}
+
+// Takes bytes in, line by line, with the line and the answer in place.
+pub(crate) fn feed(
+    rows: &[u8],
+    words: &[u8],
+    start: Flow,
+    path: &mut [u8; LINE],
+    line: &mut [u8; LINE],
+    out: &mut [u8; ANSWER],
+    bytes: &[u8],
+) -> Flow
+    requires { ⌜ (now rows ≡ rowTable) × (now words ≡ wordTable) ⌝ }
+    requires { ⌜ FlowFits start × (start .count ≡ 0) ⌝ }
+    ensures { λ r. ⌜ FlowFed start (now (line .entry)) (now (out .entry)) (now (bytes .entry)) r (now (line .exit)) (now (out .exit)) ⌝ }
+{
+    let mut flow = start;
+    let mut at: usize = 0;
+    while at < bytes.len() {
+        let fed = feed_line(rows, words, flow, path, line, out, bytes, at);
+        flow = fed.flow;
+        at = fed.next;
+    }
+    flow
+}
