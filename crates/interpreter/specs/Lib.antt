@@ -17,10 +17,12 @@ pub mod DeedsParts
 pub mod LineParts
 pub mod FlowParts
 pub mod State
+pub mod StateParts
 pub mod Examples
 pub mod Histories
 pub mod Demand1
 pub mod Demand2
 pub mod Demand3
 pub mod Server
+pub mod ServerParts
 pub mod Calls

@@ -10,10 +10,7 @@ use Rattle.interpreter.specs.Cuts.{joinFirst}
 use Rattle.interpreter.specs.Box.{Box, mostAnswer}
 use Rattle.interpreter.specs.Events.{Happened, happens, received, take as takes}
 use Rattle.interpreter.specs.State.{boxOf, possibleState}
-use Rattle.interpreter.specs.FlowParts.{flowBox, FlowFits}
 use Rattle.interpreter.specs.declared.state.State.{State}
-use Rattle.interpreter.specs.declared.flow.Flow.{Flow}
-use Rattle.interpreter.specs.declared.server.Progress.{Progress}
 
 -- the bytes cut behind every newline
 unfoldable pub linesOf : Text → List Text
@@ -55,14 +52,3 @@ pub record Serves (s : State) (input output : Text) (number read written : ℕ) 
       × (written ≤ length left)
       × (service (boxOf t) read (take written left) (drop written left) ≡ serves (service (boxOf s) 0 [] output) (linesOf input))
   pub impossible : possibleState s ≡ false → (t ≡ s) × (number ≡ 4) × (read ≡ 0) × (written ≡ 0) × (left ≡ output)
-
--- ---- what the functions inside say
-
--- how far the code got means this
-abbrev pub serviceAt : Flow → ℕ → ℕ → Text → Text → Text → Service
-serviceAt f read written line out output = service (flowBox f line out) read (take written output) (drop written output)
-
-pub record FlowServed (f : Flow) (line out input output : Text) (r : Progress) (lines left outputs : Text) : Type 0 where
-  pub fits : FlowFits (r .flow)
-  pub within : r .written ≤ length outputs
-  pub service : serviceAt (r .flow) (r .read) (r .written) lines left outputs ≡ serves (service (flowBox f line out) 0 [] output) (linesOf input)

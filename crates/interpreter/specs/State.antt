@@ -4,15 +4,13 @@ use mathlib.Core.Bool.{Bool, true, false, _&&_}
 use Prim.Native.Nat.{ℕ}
 use lib.Dec.{leb}
 use lib.ListN.{length, take}
-use Rattle.registers.specs.Text.{Text}
 use Rattle.registers.specs.Settings.{possibleSettings, count}
-use Rattle.registers.specs.Status.{most, registersOf, troubleOf, possibleStatus, most}
+use Rattle.registers.specs.Status.{registersOf, troubleOf, possibleStatus}
 use Rattle.registers.specs.declared.settings.Settings.{Settings}
 use Rattle.registers.specs.declared.status.Status.{Status}
 use Rattle.interpreter.specs.Box.{Box, box, powerUp, mostLine, mostAnswer}
 use Rattle.interpreter.specs.Events.{Event, Result, result, happened, happens, lent}
 use Rattle.interpreter.specs.declared.state.State.{State}
-use Rattle.interpreter.specs.declared.flow.Flow.{Flow}
 use Rattle.interpreter.specs.declared.state.Outcome.{Outcome}
 use Rattle.interpreter.specs.declared.state.Outcome.the-variants.{Done, BufferTooShort, NoAnswer, ConditionTooWide, ImpossibleState}
 
@@ -54,35 +52,3 @@ pub record Happens (s : State) (e : Event) (r : Result) (t : State) : Type 0 whe
 pub record Started (t : State) : Type 0 where
   pub possible : possibleState t ≡ true
   pub first : boxOf t ≡ powerUp
-
--- ---- what the functions inside say
-
--- refusal 4 on a state, whose arrays are as long as the code makes them
-pub record Tested (s : State) (r : Bool) : Type 0 where
-  pub is : r ≡ possibleState s
-  pub values : length (s .settings .values) ≡ count
-  pub errors : length (s .status .errors) ≡ most
-  pub answer : length (s .answer) ≡ mostAnswer
-
--- a state's small part, and a state put together
-abbrev pub flowOf : State → Flow
-flowOf s =
-    record {
-      present = record { settings = s .settings; status = s .status };
-      filled = s .filled;
-      overlong = s .overlong;
-      waiting = s .waiting;
-      count = 0;
-    }
-
-abbrev pub stateOf : Flow → Text → Text → State
-stateOf f line answer =
-    record {
-      settings = f .present .settings;
-      status = f .present .status;
-      line = line;
-      filled = f .filled;
-      overlong = f .overlong;
-      answer = answer;
-      waiting = f .waiting;
-    }

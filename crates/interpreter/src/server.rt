@@ -11,7 +11,8 @@ ghost use mathlib.Core.Path.{_≡_};
 ghost use Rattle.interpreter.specs.RowsParts.{rowTable, wordTable};
 ghost use Rattle.interpreter.specs.State.{numberOf};
 ghost use Rattle.interpreter.specs.FlowParts.{FlowFits};
-ghost use Rattle.interpreter.specs.Server.{Serves, FlowServed};
+ghost use Rattle.interpreter.specs.Server.{Serves};
+ghost use Rattle.interpreter.specs.ServerParts.{FlowServed};
 
 // How far a chunk was served: bytes read of the input, and written of the output.
 pub struct Served {

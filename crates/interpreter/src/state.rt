@@ -10,7 +10,8 @@ use registers::status::Status;
 ghost use mathlib.Core.Path.{_≡_};
 ghost use mathlib.Core.List.{[]};
 ghost use Rattle.interpreter.specs.Events.{received, take, condition, look, result};
-ghost use Rattle.interpreter.specs.State.{numberOf, Happens, Started, Tested, flowOf, stateOf};
+ghost use Rattle.interpreter.specs.State.{numberOf, Happens, Started};
+ghost use Rattle.interpreter.specs.StateParts.{Tested, flowOf, stateOf};
 
 // The room of a line before its newline, and of an answer with its newline.
 pub const LINE: usize = 512;

@@ -7,8 +7,10 @@ use lib.ListN.{length}
 use Rattle.registers.specs.Text.{Text, empty}
 use Rattle.interpreter.specs.Box.{mostAnswer}
 use Rattle.interpreter.specs.Events.{happens, received, take as takes}
-use Rattle.interpreter.specs.State.{boxOf, Tested, flowOf, stateOf}
-use Rattle.interpreter.specs.Server.{linesOf, Service, service, servedLine, serves, Serves, FlowServed}
+use Rattle.interpreter.specs.State.{boxOf}
+use Rattle.interpreter.specs.StateParts.{Tested, flowOf, stateOf}
+use Rattle.interpreter.specs.Server.{linesOf, Service, service, servedLine, serves, Serves}
+use Rattle.interpreter.specs.ServerParts.{FlowServed}
 use Rattle.interpreter.specs.declared.state.State.{State}
 use Rattle.interpreter.specs.declared.server.Progress.{Progress}
 use Rattle.interpreter.proofs.Choices.{if-elim}

@@ -14,7 +14,8 @@ use Rattle.registers.specs.Text.{Text, if_then_else_, empty}
 use Rattle.interpreter.specs.Box.{mostAnswer}
 use Rattle.interpreter.specs.Events.{happens, taken}
 use Rattle.interpreter.specs.FlowParts.{flowBox, FlowFits, firstLine, FlowFed}
-use Rattle.interpreter.specs.Server.{linesOf, Service, service, servedLine, serves, serviceAt, FlowServed}
+use Rattle.interpreter.specs.Server.{linesOf, Service, service, servedLine, serves}
+use Rattle.interpreter.specs.ServerParts.{serviceAt, FlowServed}
 use Rattle.interpreter.specs.declared.flow.Flow.{Flow}
 use Rattle.registers.proofs.Tests.{and-both}
 use Rattle.interpreter.proofs.line.Newline.{waits}

@@ -13,7 +13,8 @@ use Rattle.registers.specs.Status.{registersOf, troubleOf, possibleStatus, poss
 use Rattle.registers.proofs.Tests.{and-both}
 use Rattle.interpreter.specs.Box.{mostLine, mostAnswer}
 use Rattle.interpreter.specs.Events.{Event, possible, possibleCore, happened, Result, happens}
-use Rattle.interpreter.specs.State.{boxOf, possibleParts, possibleState, Tested, flowOf, stateOf}
+use Rattle.interpreter.specs.State.{boxOf, possibleParts, possibleState}
+use Rattle.interpreter.specs.StateParts.{Tested, flowOf, stateOf}
 use Rattle.interpreter.specs.FlowParts.{FlowFits}
 use Rattle.interpreter.specs.declared.state.State.{State}
 use Rattle.interpreter.specs.declared.flow.Flow.{Flow}

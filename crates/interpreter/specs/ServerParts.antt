@@ -1,0 +1,19 @@
+-- What the functions inside the chunk server say. Nothing of 01 is defined here: see Server.antt.
+use mathlib.Core.Path.{_≡_}
+use mathlib.Core.List.{[]}
+use Prim.Native.Nat.{ℕ, _≤_}
+use lib.ListN.{length, take, drop}
+use Rattle.registers.specs.Text.{Text}
+use Rattle.interpreter.specs.FlowParts.{flowBox, FlowFits}
+use Rattle.interpreter.specs.declared.flow.Flow.{Flow}
+use Rattle.interpreter.specs.declared.server.Progress.{Progress}
+use Rattle.interpreter.specs.Server.{Service, service, serves, linesOf}
+
+-- how far the code got means this
+abbrev pub serviceAt : Flow → ℕ → ℕ → Text → Text → Text → Service
+serviceAt f read written line out output = service (flowBox f line out) read (take written output) (drop written output)
+
+pub record FlowServed (f : Flow) (line out input output : Text) (r : Progress) (lines left outputs : Text) : Type 0 where
+  pub fits : FlowFits (r .flow)
+  pub within : r .written ≤ length outputs
+  pub service : serviceAt (r .flow) (r .read) (r .written) lines left outputs ≡ serves (service (flowBox f line out) 0 [] output) (linesOf input)

@@ -1,0 +1,41 @@
+-- What the functions inside say that take a state apart and put it together. Nothing of 01 is defined here: see State.antt.
+use mathlib.Core.Path.{_≡_}
+use mathlib.Core.Bool.{Bool}
+use lib.ListN.{length}
+use Rattle.registers.specs.Text.{Text}
+use Rattle.registers.specs.Settings.{count}
+use Rattle.registers.specs.Status.{most}
+use Rattle.interpreter.specs.Box.{mostAnswer}
+use Rattle.interpreter.specs.State.{possibleState}
+use Rattle.interpreter.specs.declared.state.State.{State}
+use Rattle.interpreter.specs.declared.flow.Flow.{Flow}
+
+-- refusal 4 on a state, whose arrays are as long as the code makes them
+pub record Tested (s : State) (r : Bool) : Type 0 where
+  pub is : r ≡ possibleState s
+  pub values : length (s .settings .values) ≡ count
+  pub errors : length (s .status .errors) ≡ most
+  pub answer : length (s .answer) ≡ mostAnswer
+
+-- a state's small part, and a state put together
+abbrev pub flowOf : State → Flow
+flowOf s =
+    record {
+      present = record { settings = s .settings; status = s .status };
+      filled = s .filled;
+      overlong = s .overlong;
+      waiting = s .waiting;
+      count = 0;
+    }
+
+abbrev pub stateOf : Flow → Text → Text → State
+stateOf f line answer =
+    record {
+      settings = f .present .settings;
+      status = f .present .status;
+      line = line;
+      filled = f .filled;
+      overlong = f .overlong;
+      answer = answer;
+      waiting = f .waiting;
+    }
