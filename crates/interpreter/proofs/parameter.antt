@@ -1,5 +1,6 @@
 pub mod Cuts
 pub mod Counting
 pub mod Sorts
+pub mod Limits
 pub mod Words
 pub mod Deeds

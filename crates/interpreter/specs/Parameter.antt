@@ -13,6 +13,7 @@ use Rattle.registers.specs.Number.{number as readNumber, sign, point, switchedO
 use Rattle.registers.specs.Rounding.{rounded}
 use Rattle.registers.specs.Settings.{Kind, bool, words, number, kindOf, lowest, highest, within, conflict}
 use Rattle.registers.specs.Status.{widest}
+use Rattle.registers.specs.declared.number.Decimal.{Decimal}
 use Rattle.registers.specs.declared.settings.Settings.{Settings}
 use Rattle.registers.specs.declared.status.Register.{Register}
 use Rattle.interpreter.specs.Cuts.{cutAt, trim}
@@ -22,8 +23,6 @@ use Rattle.interpreter.specs.declared.deed.Change.the-variants.{Put, Sto
 use Rattle.interpreter.specs.declared.deed.Query.the-variants.{Limit, Value, Stored}
 use Rattle.interpreter.specs.declared.deed.Role.{Role}
 use Rattle.interpreter.specs.declared.deed.Role.the-variants.{Setting as setting, Register as register, Order, Question}
-use Rattle.interpreter.specs.declared.parameter.Given.{Given}
-use Rattle.interpreter.specs.declared.parameter.Given.the-variants.{Word, Figure}
 
 -- check 2: "commas part the parameters"; none where nothing stands behind the header
 unfoldable pub parameters : Text → List Text
@@ -49,6 +48,11 @@ greatest (Order d) asked = 0
 greatest (Question d) asked = 0
 
 -- ---- checks 5 and 6
+
+-- a parameter: a word by its place in the row's list, or a number
+pub data Given : Type 0 where
+  Word : ℕ → Given
+  Figure : Decimal → Given
 
 -- a word of the row, by its place in the row's list: "-141 if it .. isn't a word of that row"
 unfoldable pub findWord : ℕ → List String → Text → Checked Given

@@ -15,27 +15,19 @@ use registers::settings::Values;
 use registers::status::Register;
 use registers::text;
 ghost use mathlib.Core.Path.{_≡_};
-ghost use mathlib.Core.Bool.{true, _||_};
-ghost use Prim.Native.Nat.{_+_, _^_, _≤_, _<_};
-ghost use lib.ListN.{length};
-ghost use Rattle.registers.specs.Text.{digit};
-ghost use Rattle.registers.specs.Number.{sign, point};
+ghost use mathlib.Core.Bool.{true, not, _&&_};
+ghost use Prim.Native.Nat.{_+_, _≤_, _<_};
 ghost use Rattle.registers.specs.Rounding.{rounded};
 ghost use Rattle.registers.specs.Settings.{kindOf};
 ghost use Rattle.interpreter.specs.RowsParts.{wordTable};
-ghost use Rattle.interpreter.specs.Parameter.{parameter, wordsOf, takesNumbers, least, greatest, valueGiven, limitAt, limitGiven, registerGiven, deedOf};
-ghost use Rattle.interpreter.specs.ParameterParts.{meantGiven, meantDeed, CountedIn, takenWords, TakesOf, aWord, aFigure, isNumber, fitIn, switchedTo, placed, putFit, storeTo, settled, wordsFor, numbersFor, bareDeed, givenDeed, partsOf};
+ghost use Rattle.interpreter.specs.Parameter.{Word, Figure, parameter, wordsOf, takesNumbers, least, greatest, valueGiven, deedOf};
+ghost use Rattle.interpreter.specs.ParameterParts.{meantGiven, meantDeed, CountedIn, takenWords, TakesOf, aWord, aFigure, isNumber, fitIn, putFit, storeTo, registerTo, settled, partsOf};
 
-// A parameter: a word of the row by its place in the row's list, or a number.
-pub(crate) enum Given {
-    Word(usize),
-    Figure(Decimal),
-}
-
-// Checks 5 and 6 on a parameter.
+// Checks 5 and 6 on a parameter: a word of the row by its place in the row's list, or a number.
 pub(crate) enum Parameter {
     Refused(Error),
-    Given(Given),
+    Word(usize),
+    Figure(Decimal),
 }
 
 // Checks 5 to 8 on a unit's parameters.
@@ -109,49 +101,16 @@ pub(crate) fn setting_takes(row: usize) -> Takes
     }
 }
 
-// What the parameter of a unit may be: a setting's query takes MINimum and MAXimum, a register numbers.
-fn takes_for(role: Role, asked: bool) -> Takes
-    requires { ⌜ settled role ≡ true ⌝ }
-    ensures { λ r. ⌜ TakesOf (wordsFor role asked) (numbersFor role asked) r ⌝ }
-{
-    match role {
-        Role::Setting(row) => {
-            if asked {
-                return Takes {
-                    first: 50,
-                    count: 2,
-                    numbers: false,
-                };
-            }
-            setting_takes(row)
-        }
-        _ => Takes {
-            first: 0,
-            count: 0,
-            numbers: true,
-        },
-    }
-}
-
-fn starts_number(b: u8) -> bool
-    ensures { λ r. ⌜ r ≡ (digit b || sign b || point b) ⌝ }
-{
-    let d = text::is_digit(b);
-    d | ((b == 43) | (b == 45)) | (b == 46)
-}
-
 // Check 5 on a parameter that starts with a letter. A word with other bytes than letters, digits and
 // underscore is none of the table, so the search refuses it by the same number.
 fn find_word(words: &[u8], takes: Takes, text: &[u8]) -> Parameter
     requires { ⌜ (now words ≡ wordTable) × (takes .first + takes .count ≤ 52) ⌝ }
     ensures { λ r. ⌜ meantGiven r ≡ aWord (takenWords takes) (now (text .entry)) ⌝ }
 {
-    let first = takes.first;
-    let count = takes.count;
     let mut n: usize = 0;
-    while n < count {
-        if rows::is_word(words, text, first + n) {
-            return Parameter::Given(Given::Word(n));
+    while n < takes.count {
+        if rows::is_word(words, text, takes.first + n) {
+            return Parameter::Word(n);
         }
         n += 1;
     }
@@ -165,20 +124,20 @@ fn read_figure(text: &[u8]) -> Parameter
     let reading = number::read(text);
     match reading {
         Reading::Refused(e) => Parameter::Refused(e),
-        Reading::Number(d) => Parameter::Given(Given::Figure(d)),
+        Reading::Number(d) => Parameter::Figure(d),
     }
 }
 
-// Checks 5 and 6.
-fn read_parameter(words: &[u8], takes: Takes, text: &[u8]) -> Parameter
+// Checks 5 and 6. A digit, a sign or a point starts a number, and no query takes one.
+fn read_parameter(words: &[u8], takes: Takes, asked: bool, text: &[u8]) -> Parameter
     requires { ⌜ (now words ≡ wordTable) × (takes .first + takes .count ≤ 52) ⌝ }
-    ensures { λ r. ⌜ meantGiven r ≡ parameter (takenWords takes) (takes .numbers) (now (text .entry)) ⌝ }
+    ensures { λ r. ⌜ meantGiven r ≡ parameter (takenWords takes) (takes .numbers && not asked) (now (text .entry)) ⌝ }
 {
     let b = text::byte_at(text, 0);
     if text::is_letter(b) {
         return find_word(words, takes, text);
     }
-    if takes.numbers & starts_number(b) {
+    if (takes.numbers & !asked) & (text::is_digit(b) | ((b == 43) | (b == 45)) | (b == 46)) {
         return read_figure(text);
     }
     Parameter::Refused(Error::DataType)
@@ -195,96 +154,75 @@ fn is_number(row: usize) -> bool
     }
 }
 
-// A number of which 10 to the power tens steps make one, where it is within the limits of a setting.
-fn round_to(settings: Settings, row: usize, d: Decimal, tens: u32) -> Fit
-    ensures { λ r. ⌜ r ≡ fitIn settings row (rounded (10 ^ tens) d) ⌝ }
-{
-    rounding::round_in(d, tens, Settings::lowest(row), settings.highest(row))
-}
-
-fn switched(d: Decimal) -> i32
-    ensures { λ r. ⌜ r ≡ switchedTo d ⌝ }
-{
-    if d.switches_on() { 1 } else { 0 }
-}
-
-// A value of a setting, where it is within the limits.
-fn fit_in(settings: Settings, row: usize, value: i32) -> Fit
-    ensures { λ r. ⌜ r ≡ fitIn settings row value ⌝ }
-{
-    if settings.within(row, value) {
-        return Fit::Within(value);
-    }
-    Fit::Outside
-}
-
-// The value of a number for a setting, where it is within the limits.
+// The value of a number for a setting, where it is within the limits. A row of words takes none: check
+// 5 refused it.
 fn figure_value(settings: Settings, row: usize, d: Decimal) -> Fit
-    ensures { λ r. ⌜ r ≡ fitIn settings row (valueGiven settings row (kindOf row) (Given.Figure d)) ⌝ }
+    ensures { λ r. ⌜ r ≡ fitIn settings row (valueGiven settings row (kindOf row) (Figure d)) ⌝ }
 {
+    let low = Settings::lowest(row);
+    let high = settings.highest(row);
     let values = Settings::values_of(row);
     match values {
-        Values::Tenths => round_to(settings, row, d, 1),
-        Values::Whole => round_to(settings, row, d, 0),
-        Values::Bool => fit_in(settings, row, switched(d)),
-        Values::Word => fit_in(settings, row, 0),
+        Values::Tenths => rounding::round_in(d, 1, low, high),
+        Values::Whole => rounding::round_in(d, 0, low, high),
+        Values::Bool => {
+            if d.switches_on() {
+                return Fit::Within(1);
+            }
+            Fit::Within(0)
+        }
+        Values::Word => Fit::Within(0),
     }
 }
 
-// MINimum is the first of the two words, MAXimum the other.
-fn limit_at(settings: Settings, row: usize, word: usize) -> i32
-    ensures { λ r. ⌜ r ≡ limitAt settings row word ⌝ }
+// The value of a word for a setting, which is within the limits. MINimum is the first of a number's two
+// words, MAXimum the other.
+fn word_value(settings: Settings, row: usize, word: usize) -> i32
+    requires { ⌜ word < 52 ⌝ }
+    ensures { λ r. ⌜ r ≡ valueGiven settings row (kindOf row) (Word word) ⌝ }
 {
+    if !is_number(row) {
+        return word as i32;
+    }
     if word == 0 {
         return Settings::lowest(row);
     }
     settings.highest(row)
 }
 
-// The value of a word for a setting.
-fn word_value(settings: Settings, row: usize, word: usize) -> i32
-    requires { ⌜ word < 52 ⌝ }
-    ensures { λ r. ⌜ r ≡ valueGiven settings row (kindOf row) (Given.Word word) ⌝ }
+// Check 4: the most parameters that a row may have in one of its forms. What sets takes as many as it
+// may have, a query does without.
+pub(crate) fn most(role: Role, asked: bool) -> usize
+    ensures { λ r. ⌜ r ≡ greatest role asked ⌝ }
 {
-    if is_number(row) {
-        return limit_at(settings, row, word);
+    match role {
+        Role::Setting(row) => (!asked | is_number(row)) as usize,
+        Role::Register(_) => !asked as usize,
+        Role::Order(_) | Role::Question(_) => 0,
     }
-    word as i32
 }
 
-// Check 8 on a value for a setting, where check 7 let one pass.
-fn put(settings: Settings, row: usize, fit: Fit) -> Decision
-    ensures { λ r. ⌜ meantDeed r ≡ putFit settings row fit ⌝ }
+fn obey_query(query: Query) -> Decision
+    ensures { λ r. ⌜ r ≡ Decision.Obey (Deed.Query query) ⌝ }
+{
+    Decision::Obey(Deed::Query(query))
+}
+
+// Check 8 on a value of a setting, where check 7 let one pass. A query asks for it.
+fn put(settings: Settings, row: usize, asked: bool, fit: Fit) -> Decision
+    ensures { λ r. ⌜ meantDeed r ≡ putFit settings row asked fit ⌝ }
 {
     match fit {
         Fit::Outside => Decision::Refused(Error::DataOutOfRange),
         Fit::Within(value) => {
+            if asked {
+                return obey_query(Query::Limit { row, value });
+            }
             if settings.conflicts(row, value) {
                 return Decision::Refused(Error::SettingsConflict);
             }
             Decision::Obey(Deed::Change(Change::Put { row, value }))
         }
-    }
-}
-
-// The value that a parameter gives to a setting, where it is within the limits.
-fn given_value(settings: Settings, row: usize, given: Given) -> Fit
-    requires { ⌜ placed 52 given ≡ true ⌝ }
-    ensures { λ r. ⌜ r ≡ fitIn settings row (valueGiven settings row (kindOf row) given) ⌝ }
-{
-    match given {
-        Given::Word(word) => fit_in(settings, row, word_value(settings, row, word)),
-        Given::Figure(d) => figure_value(settings, row, d),
-    }
-}
-
-// The value that the query of a number asks for; a number in a query is refused before.
-fn limit_given(settings: Settings, row: usize, given: Given) -> i32
-    ensures { λ r. ⌜ r ≡ limitGiven settings row given ⌝ }
-{
-    match given {
-        Given::Word(word) => limit_at(settings, row, word),
-        Given::Figure(_) => 0,
     }
 }
 
@@ -303,75 +241,59 @@ fn store(register: Register, d: Decimal) -> Decision
     }
 }
 
-// A register has no words, so the first arm never comes.
-fn store_given(register: Register, given: Given) -> Decision
-    requires { ⌜ placed 0 given ≡ true ⌝ }
-    ensures { λ r. ⌜ meantDeed r ≡ storeTo register (registerGiven given) ⌝ }
+// Checks 5 to 8 on a setting.
+fn decide_setting(
+    words: &[u8],
+    settings: Settings,
+    row: usize,
+    asked: bool,
+    parts: usize,
+    text: &[u8],
+) -> Decision
+    requires { ⌜ (now words ≡ wordTable) × (row < 16) ⌝ }
+    requires { ⌜ (least (Role.Setting row) asked ≤ parts) × (parts ≤ greatest (Role.Setting row) asked) ⌝ }
+    ensures { λ r. ⌜ meantDeed r ≡ deedOf settings (Role.Setting row) asked (partsOf parts (now (text .entry))) ⌝ }
 {
-    match given {
-        Given::Word(_) => Decision::Refused(Error::InvalidCharacterData),
-        Given::Figure(d) => store(register, d),
+    if parts == 0 {
+        return obey_query(Query::Value(row));
     }
-}
-
-// Check 4: the most parameters that a row may have in one of its forms. What sets takes as many as it
-// may have, a query does without.
-pub(crate) fn most(role: Role, asked: bool) -> usize
-    ensures { λ r. ⌜ r ≡ greatest role asked ⌝ }
-{
-    match role {
-        Role::Setting(row) => {
-            if asked & !is_number(row) {
-                return 0;
-            }
-            1
+    let parameter = read_parameter(words, setting_takes(row), asked, text);
+    match parameter {
+        Parameter::Refused(e) => Decision::Refused(e),
+        Parameter::Word(word) => {
+            put(
+                settings,
+                row,
+                asked,
+                Fit::Within(word_value(settings, row, word)),
+            )
         }
-        Role::Register(_) => {
-            if asked {
-                return 0;
-            }
-            1
-        }
-        Role::Order(_) | Role::Question(_) => 0,
+        Parameter::Figure(d) => put(settings, row, asked, figure_value(settings, row, d)),
     }
 }
 
-fn obey_query(query: Query) -> Decision
-    ensures { λ r. ⌜ r ≡ Decision.Obey (Deed.Query query) ⌝ }
+// Checks 5 to 7 on a register, which takes no words.
+fn decide_register(words: &[u8], register: Register, asked: bool, text: &[u8]) -> Decision
+    requires { ⌜ now words ≡ wordTable ⌝ }
+    ensures { λ r. ⌜ meantDeed r ≡ registerTo register asked (now (text .entry)) ⌝ }
 {
-    Decision::Obey(Deed::Query(query))
-}
-
-// A unit without parameter.
-fn bare_deed(role: Role) -> Decision
-    ensures { λ r. ⌜ r ≡ Decision.Obey (bareDeed role) ⌝ }
-{
-    match role {
-        Role::Setting(row) => obey_query(Query::Value(row)),
-        Role::Register(register) => obey_query(Query::Stored(register)),
-        Role::Order(deed) | Role::Question(deed) => Decision::Obey(deed),
+    if asked {
+        return obey_query(Query::Stored(register));
+    }
+    let takes = Takes {
+        first: 0,
+        count: 0,
+        numbers: true,
+    };
+    let parameter = read_parameter(words, takes, false, text);
+    match parameter {
+        Parameter::Refused(e) => Decision::Refused(e),
+        Parameter::Word(_) => Decision::Refused(Error::InvalidCharacterData),
+        Parameter::Figure(d) => store(register, d),
     }
 }
 
-// Checks 7 and 8 on a parameter. Orders and questions have none.
-fn given_deed(settings: Settings, role: Role, asked: bool, given: Given) -> Decision
-    requires { ⌜ (settled role ≡ true) × (placed (length (wordsFor role asked)) given ≡ true) ⌝ }
-    ensures { λ r. ⌜ meantDeed r ≡ givenDeed settings role asked given ⌝ }
-{
-    match role {
-        Role::Setting(row) => {
-            if asked {
-                let value = limit_given(settings, row, given);
-                return obey_query(Query::Limit { row, value });
-            }
-            put(settings, row, given_value(settings, row, given))
-        }
-        Role::Register(register) => store_given(register, given),
-        _ => bare_deed(role),
-    }
-}
-
-// Checks 5 to 8, where check 4 let the number of parameters pass.
+// Checks 5 to 8, where check 4 let the number of parameters pass. Orders and questions have none.
 pub(crate) fn decide(
     words: &[u8],
     settings: Settings,
@@ -384,12 +306,9 @@ pub(crate) fn decide(
     requires { ⌜ (least role asked ≤ parts) × (parts ≤ greatest role asked) ⌝ }
     ensures { λ r. ⌜ meantDeed r ≡ deedOf settings role asked (partsOf parts (now (text .entry))) ⌝ }
 {
-    if parts == 0 {
-        return bare_deed(role);
-    }
-    let parameter = read_parameter(words, takes_for(role, asked), text);
-    match parameter {
-        Parameter::Refused(e) => Decision::Refused(e),
-        Parameter::Given(given) => given_deed(settings, role, asked, given),
+    match role {
+        Role::Setting(row) => decide_setting(words, settings, row, asked, parts, text),
+        Role::Register(register) => decide_register(words, register, asked, text),
+        Role::Order(deed) | Role::Question(deed) => Decision::Obey(deed),
     }
 }

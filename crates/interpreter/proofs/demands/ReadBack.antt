@@ -19,9 +19,7 @@ use Rattle.registers.specs.Answer.{inPlaces, decimal, tenths}
 use Rattle.registers.specs.Settings.{Kind, bool, words, number, table, settingAt, kindOf, lowestOf, highestOf, voltage, twelveVolts, wideRange, lowest, highest, within, conflict, answerOf}
 use Rattle.registers.specs.declared.settings.Settings.{Settings}
 use Rattle.registers.proofs.Tests.{and-both, below-at}
-use Rattle.interpreter.specs.Parameter.{findWord, parameter, wordsOf, takesNumbers, valueGiven, settingDeed}
-use Rattle.interpreter.specs.declared.parameter.Given.{Given}
-use Rattle.interpreter.specs.declared.parameter.Given.the-variants.{Word, Figure}
+use Rattle.interpreter.specs.Parameter.{Given, Word, Figure, findWord, parameter, wordsOf, takesNumbers, valueGiven, settingDeed}
 use Rattle.interpreter.specs.declared.deed.Deed.the-variants.{Change}
 use Rattle.interpreter.specs.declared.deed.Change.the-variants.{Put}
 

@@ -1,23 +1,21 @@
 -- Checks 7 and 8 on a value, and how what checks 5 and 6 say of a parameter is carried on.
 use mathlib.Core.Path.{_≡_, refl, sym, _∙_}
-use mathlib.Core.Bool.{Bool, true, false, not, false≢true}
+use mathlib.Core.Bool.{Bool, true, false, not, _&&_, false≢true}
 use mathlib.Core.List.{[], _∷_}
 use Prim.Native.Nat.{ℕ, _≤_, _<_}
 use native.Mathlib.Omega.{arith}
 use lib.Dec.{T}
-use types.Run.{OneOf, miss}
-use denote.Enum.Declared.{tagOf}
 use lib.IntN.{ℤ, pos, negsuc, natAbs}
 use lib.Signed.{leZ, mag, nonNeg}
 use mir.Syntax.{w16, w32}
 use mir.Val.{Fits, ofZ, toZ}
 use mir.Facts.{toZ-ofZ, toZ-pos}
-use borrow.Author.Tests.{leb-true}
+use borrow.Author.Tests.{leb-true, ne-eqb}
 use Rattle.registers.specs.Text.{Text, if_then_else_}
 use Rattle.registers.specs.Check.{Checked, refused, passed, _>>=_, _>>_, check}
 use Rattle.registers.specs.Errors.{numberOf}
 use Rattle.registers.specs.Rounding.{rounded, fitted}
-use Rattle.registers.specs.Settings.{kindOf, lowest, highest, within, conflict}
+use Rattle.registers.specs.Settings.{Kind, bool, words, number, kindOf, lowest, highest, within, conflict}
 use Rattle.registers.specs.Status.{widest}
 use Rattle.registers.specs.declared.error.Error.{Error}
 use Rattle.registers.specs.declared.number.Decimal.{Decimal}
@@ -27,16 +25,16 @@ use Rattle.registers.specs.declared.settings.Settings.{Settings}
 use Rattle.registers.specs.declared.status.Register.{Register}
 use Rattle.registers.specs.declared.status.Register.the-variants.{Ese, Sre, Enable, Ntr, Ptr}
 use Rattle.registers.proofs.rounding.Laws.{rounded-once}
-use Rattle.interpreter.specs.Parameter.{parameter, wordsOf, takesNumbers, valueGiven, least, greatest, settingDeed, limitDeed, registerDeed, deedOf}
-use Rattle.interpreter.specs.ParameterParts.{meantGiven, fitIn, putFit, storeTo, wordsFor, numbersFor, bareDeed, givenDeed}
-use Rattle.interpreter.specs.declared.deed.Deed.the-variants.{Change}
+use Rattle.interpreter.specs.Parameter.{Given, Word, Figure, parameter, wordsOf, takesNumbers, asksLimits, limitWords, limitAt, limitGiven, valueGiven, least, greatest, settingDeed, limitDeed, registerDeed, deedOf}
+use Rattle.interpreter.specs.ParameterParts.{meantGiven, fitIn, putFit, storeTo, registerTo, partsOf}
+use Rattle.interpreter.specs.declared.deed.Deed.the-variants.{Change, Query}
 use Rattle.interpreter.specs.declared.deed.Change.the-variants.{Put, Store}
-use Rattle.interpreter.specs.declared.deed.Role.{Role}
-use Rattle.interpreter.specs.declared.deed.Role.the-variants.{Setting, Register as register, Order, Question}
-use Rattle.interpreter.specs.declared.parameter.Given.{Given}
+use Rattle.interpreter.specs.declared.deed.Query.the-variants.{Limit, Value}
+use Rattle.interpreter.specs.declared.deed.Role.the-variants.{Setting, Register as register}
 use Rattle.interpreter.specs.declared.parameter.Parameter.{Parameter}
-use Rattle.interpreter.specs.declared.parameter.Parameter.the-variants.{Refused as noParameter, Given as aParameter}
-use Rattle.interpreter.proofs.deed.Role as roles
+use Rattle.interpreter.specs.declared.parameter.Parameter.the-variants.{Refused as noParameter, Word as wordGiven, Figure as figureGiven}
+use Rattle.interpreter.proofs.parameter.Limits.{limit-within}
+use Rattle.interpreter.proofs.parameter.Words.{asked-word}
 
 -- a signed number of 32 bits comes back from its bits
 pub back : (z : ℤ) → mag z < 2147483648 → toZ w32 (ofZ w32 z) ≡ z
@@ -48,8 +46,11 @@ module _ {m : Checked Given} {p : Parameter} (is : meantGiven p ≡ m) where
   pub refused-by : {e : Error} → p ≡ noParameter e → m ≡ refused (numberOf e)
   refused-by told = rw (← is, told)
 
-  pub given-by : {g : Given} → p ≡ aParameter g → m ≡ passed g
-  given-by told = rw (← is, told)
+  pub word-by : {n : ℕ} → p ≡ wordGiven n → m ≡ passed (Word n)
+  word-by told = rw (← is, told)
+
+  pub figure-by : {d : Decimal} → p ≡ figureGiven d → m ≡ passed (Figure d)
+  figure-by told = rw (← is, told)
 
 -- ---- checks 7 and 8 on a value of a setting
 
@@ -57,13 +58,17 @@ pub fitted-in : (k : ℕ) (s : Settings) (i : ℕ) (d : Decimal) → fitted k (l
 unfolding fitted fitIn within
 fitted-in k s i d = refl
 
-pub fit-put : (s : Settings) (i : ℕ) (v : ℤ)
-    → putFit s i (fitIn s i v) ≡ (check 222 (within s i v) >> check 221 (not (conflict s i v)) >> passed (Change (Put i v)))
-unfolding fitIn if_then_else_ check _>>_
+pub fit-within : (s : Settings) (i : ℕ) (v : ℤ) → within s i v ≡ true → Within v ≡ fitIn s i v
+unfolding fitIn if_then_else_
+fit-within s i v e = rw e
+
+fit-put : (s : Settings) (i : ℕ) (v : ℤ)
+    → (check 222 (within s i v) >> check 221 (not (conflict s i v)) >> passed (Change (Put i v))) ≡ putFit s i false (fitIn s i v)
+unfolding fitIn putFit if_then_else_ check _>>_
 fit-put s i v = go (within s i v)
   where
     go : (w : Bool)
-        → putFit s i (if w then Within v else Outside) ≡ (check 222 w >> check 221 (not (conflict s i v)) >> passed (Change (Put i v)))
+        → (check 222 w >> check 221 (not (conflict s i v)) >> passed (Change (Put i v))) ≡ putFit s i false (if w then Within v else Outside)
     go true = refl
     go false = refl
 
@@ -100,42 +105,62 @@ module _ (x : Register) (d : Decimal) {f : Fit} (is : f ≡ fitted 1 (pos 0) (po
   unfolding storeTo check _>>_
   store-outside told = rw (rounded-once 1 (pos 0) (pos (widest x)) d .outside (sym is ∙ told))
 
--- ---- checks 5 to 8, by what the header is for
+-- ---- checks 5 to 8 on a setting
 
 -- without a parameter, where none is needed
-pub bare-is : (s : Settings) (r : Role) (asked : Bool) → least r asked ≤ 0 → deedOf s r asked [] ≡ passed (bareDeed r)
+pub value-asked : (s : Settings) (i : ℕ) (asked : Bool) → least (Setting i) asked ≤ 0 → passed (Query (Value i)) ≡ deedOf s (Setting i) asked []
 unfolding deedOf least if_then_else_
-bare-is s (Setting i) true h = refl
-bare-is s (Setting i) false h = absurd (omega arith)
-bare-is s (register x) true h = refl
-bare-is s (register x) false h = absurd (omega arith)
-bare-is s (Order d) asked h = refl
-bare-is s (Question d) asked h = refl
+value-asked s i true h = refl
+value-asked s i false h = absurd (omega arith)
 
--- with one, where one may be
-pub given-is : (s : Settings) (r : Role) (asked : Bool) (t : Text) → 1 ≤ greatest r asked
-    → deedOf s r asked (t ∷ []) ≡ (parameter (wordsFor r asked) (numbersFor r asked) t >>= givenDeed s r asked)
-unfolding deedOf greatest if_then_else_ settingDeed limitDeed registerDeed givenDeed storeTo _>>=_
-given-is s (Setting i) true t h = refl
-given-is s (Setting i) false t h = go (parameter (wordsOf (kindOf i)) (takesNumbers (kindOf i)) t)
+-- with one, where one may be: what a parameter gives is asked for, or is set
+pub setting-is : (s : Settings) (i : ℕ) → i < 16 → (asked : Bool) (t : Text) → 1 ≤ greatest (Setting i) asked
+    → deedOf s (Setting i) asked (t ∷ [])
+    ≡ (parameter (wordsOf (kindOf i)) (takesNumbers (kindOf i) && not asked) t >>= λ g. putFit s i asked (fitIn s i (valueGiven s i (kindOf i) g)))
+unfolding deedOf greatest if_then_else_ settingDeed limitDeed valueGiven putFit _>>=_
+setting-is s i h false t one =
+    rw (and-right (takesNumbers (kindOf i))) (go (parameter (wordsOf (kindOf i)) (takesNumbers (kindOf i)) t))
   where
+    and-right : (b : Bool) → (b && true) ≡ b
+    and-right true = refl
+    and-right false = refl
+
     go : (m : Checked Given)
         → (m >>= λ g.
         let v = valueGiven s i (kindOf i) g in
         check 222 (within s i v) >> check 221 (not (conflict s i v)) >> passed (Change (Put i v)))
-        ≡ (m >>= givenDeed s (Setting i) false)
+        ≡ (m >>= λ g. putFit s i false (fitIn s i (valueGiven s i (kindOf i) g)))
     go (refused n) = refl
-    go (passed g) = sym (fit-put s i (valueGiven s i (kindOf i) g))
-given-is s (register x) true t h = absurd (omega arith)
-given-is s (register x) false t h = refl
-given-is s (Order d) asked t h = absurd (omega arith)
-given-is s (Question d) asked t h = absurd (omega arith)
+    go (passed g) = fit-put s i (valueGiven s i (kindOf i) g)
+setting-is s i h true t one = kinded (kindOf i) one
+  where
+    found : (m : Checked Given) → parameter limitWords false t ≡ m → (k : ℕ) (low high : ℤ)
+        → (m >>= λ g. passed (Query (Limit i (limitGiven s i g))))
+        ≡ (m >>= λ g. putFit s i true (fitIn s i (valueGiven s i (number k low high) g)))
+    found (refused n) e k low high = refl
+    found (passed (Word n)) e k low high = rw (← fit-within s i (limitAt s i n) (limit-within s i h n))
+    found (passed (Figure d)) e k low high = absurd (asked-word limitWords t d e)
 
--- an order and a question have no parameter to look at
-pub given-none : (s : Settings) (r : Role) → OneOf (2 ∷ 3 ∷ []) (tagOf roles.the-type r) → (asked : Bool) (g : Given)
-    → givenDeed s r asked g ≡ passed (bareDeed r)
-unfolding givenDeed
-given-none s (Setting i) h asked g = absurd (miss (2 ∷ 3 ∷ []) 0 tt h)
-given-none s (register x) h asked g = absurd (miss (2 ∷ 3 ∷ []) 1 tt h)
-given-none s (Order d) h asked g = refl
-given-none s (Question d) h asked g = refl
+    kinded : (k : Kind) → 1 ≤ asksLimits k
+        → limitDeed s i t ≡ (parameter (wordsOf k) (takesNumbers k && false) t >>= λ g. putFit s i true (fitIn s i (valueGiven s i k g)))
+    kinded bool h = absurd (omega arith)
+    kinded (words ws) h = absurd (omega arith)
+    kinded (number k low high) h = found (parameter limitWords false t) refl k low high
+
+-- ---- checks 5 to 7 on a register
+
+module _ (x : Register) (t : Text) where
+  pub register-refused : {n : ℕ} → parameter [] true t ≡ refused n → refused n ≡ registerTo x false t
+  unfolding registerTo registerDeed _>>=_
+  register-refused e = rw e
+
+  pub register-figure : {d : Decimal} → parameter [] true t ≡ passed (Figure d) → storeTo x (rounded 1 d) ≡ registerTo x false t
+  unfolding registerTo registerDeed storeTo _>>=_
+  register-figure e = rw e
+
+-- a parameter is there where check 4 asked for one
+pub register-is : (s : Settings) (x : Register) (asked : Bool) (n : ℕ) (t : Text) → least (register x) asked ≤ n
+    → registerTo x asked t ≡ deedOf s (register x) asked (partsOf n t)
+unfolding registerTo deedOf least if_then_else_
+register-is s x true n t h = refl
+register-is s x false n t h = let some : (n ≡ 0 → ⊥) = (λ (e : n ≡ 0). omega arith) in rw (ne-eqb n 0 some)

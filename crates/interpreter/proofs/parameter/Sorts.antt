@@ -1,16 +1,18 @@
 -- What a setting's kind says of its parameters, in the four sorts of values that the code tells apart.
 use mathlib.Core.Path.{_≡_, refl, ap, sym, _∙_}
-use mathlib.Core.Bool.{Bool, true, false, not, _&&_, false≢true}
+use mathlib.Core.Bool.{Bool, true, false, not, _&&_, _||_, false≢true}
 use mathlib.Core.List.{List, [], _∷_}
 use Prim.Native.Nat.{ℕ, zero, suc, _+_, _≤_, _<_}
 use native.Mathlib.Omega.{arith}
 use lib.Dec.{leb, ltb, eqb}
 use lib.ListN.{length, getD, take, drop}
 use lib.IntN.{ℤ, pos}
+use mir.Val.{boolByte}
 use types.Run.{OneOf, miss}
 use denote.Enum.Declared.{tagOf}
 use borrow.Author.Tests.{eqb-true, eqb-false, leb-true, ltb-true, ltb-false}
 use Rattle.registers.specs.Text.{if_then_else_}
+use Rattle.registers.specs.Number.{switchedOn}
 use Rattle.registers.specs.Rounding.{rounded}
 use Rattle.registers.specs.Settings.{Kind, bool, words, number, table, settingAt, kindOf, valuesIn, highest}
 use Rattle.registers.specs.declared.number.Decimal.{Decimal}
@@ -21,11 +23,10 @@ use Rattle.registers.proofs.Tests.{below-at}
 use Rattle.registers.proofs.settings.Laws.{behind-is}
 use Rattle.registers.proofs.settings.Values as values
 use Rattle.interpreter.specs.RowsParts.{wordList}
-use Rattle.interpreter.specs.Parameter.{least, greatest, asksLimits, takesNumbers, wordsOf, limitAt, valueGiven}
-use Rattle.interpreter.specs.ParameterParts.{TakesOf, isNumber, switchedTo, wordsFor, numbersFor}
+use Rattle.interpreter.specs.Parameter.{Word, Figure, least, greatest, asksLimits, takesNumbers, wordsOf, limitAt, valueGiven}
+use Rattle.interpreter.specs.ParameterParts.{TakesOf, isNumber}
 use Rattle.interpreter.specs.declared.deed.Role.{Role}
 use Rattle.interpreter.specs.declared.deed.Role.the-variants.{Setting, Register, Order, Question}
-use Rattle.interpreter.specs.declared.parameter.Given.the-variants.{Word, Figure}
 use Rattle.interpreter.proofs.deed.Role as roles
 
 -- ---- what two functions say of every row, by computing both for all sixteen
@@ -56,7 +57,7 @@ kinds-agree f g e b i = go (ltb i 16) refl
 
 -- ten steps of step 0.1 make one
 abbrev pub figureIn : Decimal → Values → ℤ
-figureIn d BoolValue = switchedTo d
+figureIn d BoolValue = if switchedOn d then pos 1 else pos 0
 figureIn d WordValue = pos 0
 figureIn d Tenths = rounded 10 d
 figureIn d Whole = rounded 1 d
@@ -64,9 +65,28 @@ figureIn d Whole = rounded 1 d
 -- where the code has been told the sort
 pub figure-in : (i : ℕ) {v told : Values} → told ≡ v → told ≡ valuesIn (kindOf i) → (s : Settings) (d : Decimal)
     → figureIn d v ≡ valueGiven s i (kindOf i) (Figure d)
-unfolding listed settingAt table if_then_else_ valueGiven switchedTo
+unfolding listed settingAt table if_then_else_ valueGiven
 figure-in i is of s d =
     ap (figureIn d) (sym is ∙ of) ∙ kinds-agree (λ k. figureIn d (valuesIn k)) (λ k. valueGiven s i k (Figure d)) refl refl i
+
+abbrev pub numberIn : Values → Bool
+numberIn BoolValue = false
+numberIn WordValue = false
+numberIn Tenths = true
+numberIn Whole = true
+
+pub number-in : (k : Kind) {v told : Values} → told ≡ v → told ≡ valuesIn k → isNumber k ≡ numberIn v
+unfolding if_then_else_
+number-in k is of = go k ∙ ap numberIn (sym of ∙ is)
+  where
+    sort : (t : Bool) → true ≡ numberIn (if t then Tenths else Whole)
+    sort true = refl
+    sort false = refl
+
+    go : (k : Kind) → isNumber k ≡ numberIn (valuesIn k)
+    go bool = refl
+    go (words ws) = refl
+    go (number n low high) = sort (eqb n 10)
 
 -- ---- numbers, which are of two sorts
 
@@ -134,23 +154,19 @@ pub words-few : (i : ℕ) → i < 16 → length (wordsOf (kindOf i)) ≤ 52
 unfolding settingAt table
 words-few i h = leb-true (length (wordsOf (kindOf i))) 52 (below-at 16 (λ k. leb (length (wordsOf (kindOf k))) 52) refl i h)
 
--- what is no setting takes no words
-pub takes-none : (r : Role) → OneOf (1 ∷ 2 ∷ 3 ∷ []) (tagOf roles.the-type r) → (asked : Bool)
-    → TakesOf (wordsFor r asked) (numbersFor r asked) (record { first = 0; count = 0; numbers = true })
-takes-none (Setting i) h asked = absurd (miss (1 ∷ 2 ∷ 3 ∷ []) 0 tt h)
-takes-none (Register x) h asked = record { words = refl; numbers = refl; room = omega arith }
-takes-none (Order d) h asked = record { words = refl; numbers = refl; room = omega arith }
-takes-none (Question d) h asked = record { words = refl; numbers = refl; room = omega arith }
-
 -- ---- check 4: a number's query may have one parameter; what sets takes as many as it may have, and a query does without
 
-pub setting-most : (k : Kind) (asked fails : Bool) → (asked && not (isNumber k)) ≡ fails
-    → (if fails then 0 else 1) ≡ (if asked then asksLimits k else 1)
+pub setting-most : (k : Kind) (asked : Bool) → boolByte (not asked || isNumber k) ≡ (if asked then asksLimits k else 1)
 unfolding if_then_else_
-setting-most k false fails e = rw (← e)
-setting-most bool true fails e = rw (← e)
-setting-most (words ws) true fails e = rw (← e)
-setting-most (number n low high) true fails e = rw (← e)
+setting-most k false = refl
+setting-most bool true = refl
+setting-most (words ws) true = refl
+setting-most (number n low high) true = refl
+
+pub register-most : (asked : Bool) → boolByte (not asked) ≡ (if asked then 0 else 1)
+unfolding if_then_else_
+register-most true = refl
+register-most false = refl
 
 pub most-none : (r : Role) → OneOf (2 ∷ 3 ∷ []) (tagOf roles.the-type r) → (asked : Bool) → 0 ≡ greatest r asked
 unfolding greatest

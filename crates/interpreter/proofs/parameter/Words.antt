@@ -8,8 +8,8 @@ use native.Mathlib.Omega.{arith}
 use native.Mathlib.Numerals.{add-one}
 use lib.ListN.{length, take, drop, length-take, length-drop, drop-of-length-le}
 use lib.Seq.{drop-cons, getD-drop, getD-take}
-use lib.Dec.{ltb, eqb}
-use borrow.Author.Tests.{lt-ltb, ltb-true, eqb-true}
+use lib.Dec.{eqb}
+use borrow.Author.Tests.{eqb-true}
 use Rattle.registers.specs.Text.{Text, if_then_else_, bytes, between, small, letter, digit, wordByte, capital, every, first, same}
 use Rattle.registers.specs.Check.{Checked, refused, passed, _>>=_, _>>_, check}
 use Rattle.registers.specs.Words.{shortForm, longForm, matches}
@@ -17,10 +17,8 @@ use Rattle.registers.specs.Number.{number, sign, point}
 use Rattle.registers.specs.declared.number.Decimal.{Decimal}
 use Rattle.registers.proofs.Tests.{and-both, and-true}
 use Rattle.interpreter.specs.RowsParts.{wordList, wordAt}
-use Rattle.interpreter.specs.Parameter.{findWord, parameter}
-use Rattle.interpreter.specs.ParameterParts.{aWord, aFigure, placed}
-use Rattle.interpreter.specs.declared.parameter.Given.{Given}
-use Rattle.interpreter.specs.declared.parameter.Given.the-variants.{Word, Figure}
+use Rattle.interpreter.specs.Parameter.{Given, Word, Figure, findWord, parameter}
+use Rattle.interpreter.specs.ParameterParts.{aWord, aFigure}
 use Rattle.interpreter.proofs.Lists.{every-at}
 
 -- so many words of the table, from a place on
@@ -157,22 +155,37 @@ no-word t n e = go (number t) e
     go (refused m) e = never e
     go (passed d) e = let z : _≡_ {A = ℕ} 0 1 = cc in omega arith
 
-pub given-placed : (ws : List String) (numbers : Bool) (t : Text) (g : Given) → parameter ws numbers t ≡ passed g
-    → placed (length ws) g ≡ true
+pub word-placed : (ws : List String) (numbers : Bool) (t : Text) (n : ℕ) → parameter ws numbers t ≡ passed (Word n) → n < length ws
 unfolding parameter aFigure check _>>_ if_then_else_
-given-placed ws numbers t (Figure d) e = refl
-given-placed ws numbers t (Word n) e =
-    go (letter (first t)) (every wordByte t) (digit (first t) || sign (first t) || point (first t)) numbers e
+word-placed ws numbers t n e = go (letter (first t)) (every wordByte t) (digit (first t) || sign (first t) || point (first t)) numbers e
   where
     go : (l w d b : Bool)
         → (if l then (check 141 w >> findWord 0 ws t) else (if d then (check 104 b >> aFigure t) else refused 104)) ≡ passed (Word n)
-        → ltb n (length ws) ≡ true
-    go true true d b e = lt-ltb n (length ws) (omega (arith, found-below 0 ws t n e))
+        → n < length ws
+    go true true d b e = omega (arith, found-below 0 ws t n e)
     go true false d b e = absurd (never e)
     go false w true true e = absurd (no-word t n e)
     go false w true false e = absurd (never e)
     go false w false b e = absurd (never e)
 
-pub placed-more : (g : Given) {m n : ℕ} → m ≤ n → placed m g ≡ true → placed n g ≡ true
-placed-more (Word k) {m} {n} h e = lt-ltb k n (omega (arith, ltb-true k m e))
-placed-more (Figure d) h e = refl
+-- a word is no number, and a query takes none
+no-figure : (i : ℕ) (ws : List String) (t : Text) (d : Decimal) → findWord i ws t ≡ passed (Figure d) → ⊥
+unfolding findWord if_then_else_
+no-figure i [] t d e = never e
+no-figure i (w ∷ ws) t d e = go (matches w t) (no-figure (suc i) ws t d) e
+  where
+    go : (b : Bool) → (findWord (suc i) ws t ≡ passed (Figure d) → ⊥) → (if b then passed (Word i) else findWord (suc i) ws t) ≡ passed (Figure d) → ⊥
+    go true ih e = let z : _≡_ {A = ℕ} 0 1 = cc in omega arith
+    go false ih e = ih e
+
+pub asked-word : (ws : List String) (t : Text) (d : Decimal) → parameter ws false t ≡ passed (Figure d) → ⊥
+unfolding parameter aFigure check _>>_ if_then_else_
+asked-word ws t d e = go (letter (first t)) (every wordByte t) (digit (first t) || sign (first t) || point (first t)) e
+  where
+    go : (l w b : Bool)
+        → (if l then (check 141 w >> findWord 0 ws t) else (if b then (check 104 false >> aFigure t) else refused 104)) ≡ passed (Figure d)
+        → ⊥
+    go true true b e = no-figure 0 ws t d e
+    go true false b e = never e
+    go false w true e = never e
+    go false w false e = never e

@@ -1,19 +1,57 @@
-use mathlib.Core.Path.{_≡_, _∙_}
+use mathlib.Core.Path.{_≡_, refl, sym, ap, _∙_}
+use mathlib.Core.Bool.{false}
+use Prim.Native.Nat.{ℕ}
+use mir.Syntax.{w32}
+use mir.Val.{ofZ, toZ}
 use borrow.Author.Needs.{needs}
-use Rattle.registers.specs.Settings.{kindOf}
+use Rattle.registers.specs.Text.{if_then_else_}
+use Rattle.registers.specs.Rounding.{rounded, fitted}
+use Rattle.registers.specs.Settings.{kindOf, lowest}
+use Rattle.registers.specs.declared.rounding.Fit.{Fit}
+use Rattle.registers.specs.declared.rounding.Fit.the-variants.{Within}
 use Rattle.registers.specs.declared.settings.Values.{Values}
-use Rattle.interpreter.specs.Parameter.{valueGiven}
-use Rattle.interpreter.specs.declared.parameter.Given.{Given}
-use Rattle.interpreter.proofs.parameter.Deeds.{back}
-use Rattle.interpreter.proofs.parameter.Sorts.{figureIn, figure-in}
+use Rattle.interpreter.specs.Parameter.{Figure, valueGiven}
+use Rattle.interpreter.specs.ParameterParts.{fitIn}
+use Rattle.interpreter.proofs.parameter.Deeds.{back, fitted-in, fit-within}
+use Rattle.interpreter.proofs.parameter.Limits.{figure-within}
+use Rattle.interpreter.proofs.parameter.Sorts.{figureIn, figure-in, numberIn, number-in}
 use Rattle.interpreter.proofs.parameter.figure_value.Statement.{statement}
 use Rattle.interpreter.proofs.parameter.figure_value.Tie as tie
 
--- the value, once the sort of the values is told
+abbrev entry : tie.After-values-of → tie.Start
+entry p = p .before .before .before
+
+-- what is to be answered, and what is answered once the sort of the values is told
+abbrev answer : tie.After-values-of → Fit
+answer p = let a = entry p .args in fitIn (a .settings) (a .row) (valueGiven (a .settings) (a .row) (kindOf (a .row)) (Figure (a .d)))
+
 value-in : (p : tie.After-values-of) {v : Values} → p .values-of .result ≡ v
-    → let a = p .before .args in
-    figureIn (a .d) v ≡ valueGiven (a .settings) (a .row) (kindOf (a .row)) (Given.Figure (a .d))
-value-in p told = let a = p .before .args in figure-in (a .row) told (p .values-of .ensures) (a .settings) (a .d)
+    → let a = entry p .args in
+    figureIn (a .d) v ≡ valueGiven (a .settings) (a .row) (kindOf (a .row)) (Figure (a .d))
+value-in p told = let a = entry p .args in figure-in (a .row) told (p .values-of .ensures) (a .settings) (a .d)
+
+number-is : (p : tie.After-values-of) {v : Values} → p .values-of .result ≡ v → (k : ℕ) → figureIn (entry p .args .d) v ≡ rounded k (entry p .args .d)
+    → fitted k (toZ w32 (ofZ w32 (p .before .before .lowest .result))) (toZ w32 (ofZ w32 (p .before .highest .result))) (entry p .args .d) ≡ answer p
+number-is p told k is =
+    let a = entry p .args in
+    let low = p .before .before .lowest in
+    let high = p .before .highest in
+    ap (λ z. fitted k z (toZ w32 (ofZ w32 (high .result))) (a .d)) (back (low .result) (low .ok) ∙ low .ensures)
+    ∙ ap (λ z. fitted k (lowest (a .row)) z (a .d)) (back (high .result) (high .ok) ∙ high .ensures)
+    ∙ fitted-in k (a .settings) (a .row) (a .d)
+    ∙ ap (fitIn (a .settings) (a .row)) (sym is ∙ value-in p told)
+
+other-is : (p : tie.After-values-of) {v : Values} → p .values-of .result ≡ v → numberIn v ≡ false → Within (figureIn (entry p .args .d) v) ≡ answer p
+other-is p told none =
+    let a = entry p .args in
+    let other = number-in (kindOf (a .row)) told (p .values-of .ensures) ∙ none in
+    ap Within (value-in p told) ∙ fit-within (a .settings) (a .row) _ (figure-within (a .settings) (a .row) other (a .d))
+
+lowest-requires : tie.Need-lowest-requires
+lowest-requires c κs = search needs
+
+highest-requires : tie.Need-highest-requires
+highest-requires c κs = search needs
 
 values-of-requires : tie.Need-values-of-requires
 values-of-requires c κs = search needs
@@ -21,60 +59,57 @@ values-of-requires c κs = search needs
 enum-told : tie.Need-enum-told
 enum-told c = search needs
 
-round-to-requires : tie.Need-round-to-requires
-round-to-requires c κs = search needs
+round-in-requires : tie.Need-round-in-requires
+round-in-requires c κs = search needs
 
 enum-told-2 : tie.Need-enum-told-2
 enum-told-2 c = search needs
 
-round-to-requires-2 : tie.Need-round-to-requires-2
-round-to-requires-2 c κs = search needs
+round-in-requires-2 : tie.Need-round-in-requires-2
+round-in-requires-2 c κs = search needs
 
 enum-told-3 : tie.Need-enum-told-3
 enum-told-3 c = search needs
 
-switched-requires : tie.Need-switched-requires
-switched-requires c κs = search needs
+switches-on-requires : tie.Need-switches-on-requires
+switches-on-requires c κs = search needs
 
-fit-in-requires : tie.Need-fit-in-requires
-fit-in-requires c κs = search needs
+returns : tie.Need-returns
+unfolding if_then_else_
+returns c = rw (sym (c .before .switches-on .ensures) ∙ c .if1 .taken) at (other-is (c .before .before .before .before) (c .before .before .enum-told3 .given .1) refl)
 
 enum-told-4 : tie.Need-enum-told-4
 enum-told-4 c = search needs
 
-fit-in-requires-2 : tie.Need-fit-in-requires-2
-fit-in-requires-2 c κs = search needs
-
-returns : tie.Need-returns
-returns c = rw (← value-in (c .before .before .before) (c .before .enum-told .given .1)) (c .round-to .ensures)
-
 returns-2 : tie.Need-returns-2
-returns-2 c = rw (← value-in (c .before .before .before) (c .before .enum-told2 .given .1)) (c .round-to2 .ensures)
+returns-2 c = c .round-in .ensures ∙ number-is (c .before .before .before) (c .before .enum-told .given .1) 10 refl
 
 returns-3 : tie.Need-returns-3
-returns-3 c =
-    let b = c .before .switched in
-    let e = value-in (c .before .before .before .before) (c .before .before .enum-told3 .given .1) in
-    c .fit-in .ensures ∙ rw (back (b .result) (b .ok), b .ensures, ← e)
+returns-3 c = c .round-in2 .ensures ∙ number-is (c .before .before .before) (c .before .enum-told2 .given .1) 1 refl
 
 returns-4 : tie.Need-returns-4
-returns-4 c = rw (← value-in (c .before .before .before) (c .before .enum-told4 .given .1)) (c .fit-in2 .ensures)
+unfolding if_then_else_
+returns-4 c = rw (sym (c .before .switches-on .ensures) ∙ c .if1 .left) at (other-is (c .before .before .before .before) (c .before .before .enum-told3 .given .1) refl)
+
+returns-5 : tie.Need-returns-5
+returns-5 c = other-is (c .before .before) (c .enum-told4 .given .1) refl
 
 pub figure-value-spec : {M : Type 1} → statement M
 figure-value-spec =
     tie.close
     (tie.spec
+    lowest-requires
+    highest-requires
     values-of-requires
     enum-told
-    round-to-requires
+    round-in-requires
     enum-told-2
-    round-to-requires-2
+    round-in-requires-2
     enum-told-3
-    switched-requires
-    fit-in-requires
-    enum-told-4
-    fit-in-requires-2
+    switches-on-requires
     returns
+    enum-told-4
     returns-2
     returns-3
-    returns-4)
+    returns-4
+    returns-5)

@@ -7,10 +7,10 @@ use Rattle.interpreter.proofs.parameter.find_word.Statement.{statement}
 use Rattle.interpreter.proofs.parameter.find_word.Tie as tie
 
 abbrev Inv-loop : tie.InvT-loop
-Inv-loop words text first count n₀ n = Searching first count text n
+Inv-loop words takes text n₀ n = Searching (takes .first) (takes .count) text n
 
 abbrev μ-loop : tie.MeasureT-loop
-μ-loop words text first count n₀ n = count - n
+μ-loop words takes text n₀ n = takes .count - n
 
 loop-holds : tie.Need-loop-holds Inv-loop μ-loop
 loop-holds c = record { room = c .before .before .pre .1; left = refl }
@@ -22,7 +22,7 @@ is-word-requires : tie.Need-is-word-requires Inv-loop μ-loop
 is-word-requires c κs = search needs
 
 returns : tie.Need-returns Inv-loop μ-loop
-returns c = search-hit (c .before .before .before .loop .inv) (omega arith) (sym (c .before .is-word .ensures) ∙ c .if1 .taken)
+returns c = search-hit (c .before .before .before .before .before .loop .inv) (omega arith) (sym (c .before .is-word .ensures) ∙ c .if2 .taken)
 
 add-n : tie.Need-add-n Inv-loop μ-loop
 add-n c = search needs
@@ -31,10 +31,10 @@ loop-less : tie.Need-loop-less Inv-loop μ-loop
 loop-less c = search needs
 
 loop-again : tie.Need-loop-again Inv-loop μ-loop
-loop-again c = search-miss (c .before .before .before .loop .inv) (omega arith) (sym (c .before .is-word .ensures) ∙ c .if1 .left)
+loop-again c = search-miss (c .before .before .before .before .before .loop .inv) (omega arith) (sym (c .before .is-word .ensures) ∙ c .if2 .left)
 
 returns-2 : tie.Need-returns-2 Inv-loop μ-loop
-returns-2 c = search-end (c .before .loop .inv) (c .loop-test .left)
+returns-2 c = search-end (c .before .before .loop .inv) (c .if1 .left)
 
 pub find-word-spec : {M : Type 1} → statement M
 find-word-spec =

@@ -1,6 +1,7 @@
 use mathlib.Core.Path.{sym, _∙_}
 use borrow.Author.Needs.{needs}
 use Rattle.registers.specs.Check.{_>>_, check}
+use Rattle.interpreter.specs.ParameterParts.{putFit}
 use Rattle.interpreter.proofs.parameter.Deeds.{back}
 use Rattle.interpreter.proofs.parameter.put.Statement.{statement}
 use Rattle.interpreter.proofs.parameter.put.Tie as tie
@@ -11,24 +12,46 @@ enum-told c = search needs
 enum-known-fit : tie.Need-enum-known-fit
 enum-known-fit c = search needs
 
+obey-query-requires : tie.Need-obey-query-requires
+obey-query-requires c κs = search needs
+
+returns : tie.Need-returns
+unfolding putFit
+returns c =
+    let fit = c .before .before .before .fit .given in
+    let b = back (fit .0 .0) (c .before .before .known-told .given .0 .1) in
+    rw (fit .1, c .before .if1 .taken, c .obey-query .ensures, b)
+
 conflicts-requires : tie.Need-conflicts-requires
 conflicts-requires c κs = search needs
 
-returns : tie.Need-returns
-unfolding check _>>_
-returns c =
-    let b = back (c .before .before .before .fit .given .0 .0) (c .before .before .known-told .given .0 .1) in
-    rw (c .before .before .before .fit .given .1, sym (rw b at (c .before .conflicts .ensures)) ∙ c .if1 .taken)
-
 returns-2 : tie.Need-returns-2
-returns-2 c = rw (c .enum-told .given .1)
+unfolding putFit check _>>_
+returns-2 c =
+    let fit = c .before .before .before .before .fit .given in
+    let b = back (fit .0 .0) (c .before .before .before .known-told .given .0 .1) in
+    rw (fit .1, c .before .before .if1 .left, sym (rw b at (c .before .conflicts .ensures)) ∙ c .if2 .taken)
 
 returns-3 : tie.Need-returns-3
-unfolding check _>>_
-returns-3 c =
-    let b = back (c .before .before .before .fit .given .0 .0) (c .before .before .known-told .given .0 .1) in
-    rw (c .before .before .before .fit .given .1, sym (rw b at (c .before .conflicts .ensures)) ∙ c .if1 .left, b)
+unfolding putFit
+returns-3 c = rw (c .enum-told .given .1)
+
+returns-4 : tie.Need-returns-4
+unfolding putFit check _>>_
+returns-4 c =
+    let fit = c .before .before .before .before .fit .given in
+    let b = back (fit .0 .0) (c .before .before .before .known-told .given .0 .1) in
+    rw (fit .1, c .before .before .if1 .left, sym (rw b at (c .before .conflicts .ensures)) ∙ c .if2 .left, b)
 
 pub put-spec : {M : Type 1} → statement M
 put-spec =
-    tie.close (tie.spec enum-told enum-known-fit conflicts-requires returns returns-2 returns-3)
+    tie.close
+    (tie.spec
+    enum-told
+    enum-known-fit
+    obey-query-requires
+    returns
+    conflicts-requires
+    returns-2
+    returns-3
+    returns-4)

@@ -1,23 +1,18 @@
 use mathlib.Core.Path.{_≡_, sym, _∙_}
-use mathlib.Core.Bool.{false, _||_}
+use mathlib.Core.Bool.{false, not, _&&_}
 use borrow.Author.Needs.{needs}
-use Rattle.registers.specs.Text.{letter, digit, first}
-use Rattle.registers.specs.Number.{sign, point}
+use Rattle.registers.specs.Text.{letter, first}
 use Rattle.interpreter.specs.ParameterParts.{takenWords}
 use Rattle.interpreter.proofs.parameter.Words.{starts-word, starts-figure, starts-neither}
 use Rattle.interpreter.proofs.parameter.read_parameter.Statement.{statement}
 use Rattle.interpreter.proofs.parameter.read_parameter.Tie as tie
 
--- a first byte that is no letter: the parameter, and whether it starts a number that is taken
+-- a first byte that is no letter
 abbrev entry : tie.Else1 → tie.Start
 entry l = l .before .before .before .before .before
 
 no-letter : (l : tie.Else1) → letter (first (entry l .args .text .now)) ≡ false
 no-letter l = sym (rw (l .before .before .byte-at .ensures) at (l .before .is-letter .ensures)) ∙ l .if1 .left
-
-starts : (n : tie.After-starts-number) → let t = entry (n .before) .args .text .now in
-    n .starts-number .result ≡ (digit (first t) || sign (first t) || point (first t))
-starts n = rw (n .before .before .before .byte-at .ensures) at (n .starts-number .ensures)
 
 byte-at-requires : tie.Need-byte-at-requires
 byte-at-requires c κs = search needs
@@ -33,27 +28,28 @@ returns c =
     let a = c .before .before .before .before .before .before .args in
     let b = c .before .before .before .byte-at .ensures in
     let letter = sym (rw b at (c .before .before .is-letter .ensures)) ∙ c .before .if1 .taken in
-    c .find-word .ensures ∙ starts-word (takenWords (a .takes)) (a .takes .numbers) (a .text .now) letter
+    c .find-word .ensures ∙ starts-word (takenWords (a .takes)) (a .takes .numbers && not (a .asked)) (a .text .now) letter
 
-starts-number-requires : tie.Need-starts-number-requires
-starts-number-requires c κs = search needs
+is-digit-requires : tie.Need-is-digit-requires
+is-digit-requires c κs = search needs
 
 read-figure-requires : tie.Need-read-figure-requires
 read-figure-requires c κs = search needs
 
 returns-2 : tie.Need-returns-2
 returns-2 c =
-    let n = c .before .before .before in
-    let a = entry (n .before) .args in
-    let taken = rw (starts n) at (c .before .if2 .taken) in
-    c .read-figure .ensures ∙ starts-figure (takenWords (a .takes)) (a .takes .numbers) (a .text .now) (no-letter (n .before)) taken
+    let l = c .before .before .before .before in
+    let a = entry l .args in
+    let taken = rw (c .before .before .is-digit .ensures, l .before .before .byte-at .ensures) at (c .before .if2 .taken) in
+    c .read-figure .ensures
+    ∙ starts-figure (takenWords (a .takes)) (a .takes .numbers && not (a .asked)) (a .text .now) (no-letter l) taken
 
 returns-3 : tie.Need-returns-3
 returns-3 c =
-    let n = c .before .before in
-    let a = entry (n .before) .args in
-    let left = rw (starts n) at (c .if2 .left) in
-    starts-neither (takenWords (a .takes)) (a .takes .numbers) (a .text .now) (no-letter (n .before)) left
+    let l = c .before .before .before in
+    let a = entry l .args in
+    let left = rw (c .before .is-digit .ensures, l .before .before .byte-at .ensures) at (c .if2 .left) in
+    starts-neither (takenWords (a .takes)) (a .takes .numbers && not (a .asked)) (a .text .now) (no-letter l) left
 
 pub read-parameter-spec : {M : Type 1} → statement M
 read-parameter-spec =
@@ -63,7 +59,7 @@ read-parameter-spec =
     is-letter-requires
     find-word-requires
     returns
-    starts-number-requires
+    is-digit-requires
     read-figure-requires
     returns-2
     returns-3)

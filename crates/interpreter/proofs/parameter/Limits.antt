@@ -1,0 +1,89 @@
+-- Check 7 never refuses a word, nor on or off: their values are within the limits.
+use mathlib.Core.Path.{_≡_, refl, sym}
+use mathlib.Core.Bool.{Bool, true, false, not, _&&_, false≢true}
+use Prim.Native.Nat.{ℕ, zero, suc, pred, _<_}
+use native.Mathlib.Omega.{arith}
+use lib.Dec.{eqb}
+use lib.ListN.{length}
+use lib.IntN.{ℤ, pos, negsuc}
+use lib.Signed.{leZ}
+use borrow.Author.Tests.{eqb-true, le-leb}
+use Rattle.registers.specs.Text.{if_then_else_}
+use Rattle.registers.specs.Number.{switchedOn}
+use Rattle.registers.specs.Settings.{Kind, bool, words, number, table, settingAt, kindOf, lowestOf, highestOf, lowest, highest, within, voltage, wideRange, twelveVolts}
+use Rattle.registers.specs.declared.number.Decimal.{Decimal}
+use Rattle.registers.specs.declared.settings.Settings.{Settings}
+use Rattle.registers.proofs.Tests.{below-at, and-true}
+use Rattle.interpreter.specs.Parameter.{Word, Figure, wordsOf, limitAt, valueGiven}
+use Rattle.interpreter.specs.ParameterParts.{isNumber}
+
+same-le : (z : ℤ) → leZ z z ≡ true
+same-le (pos n) = le-leb n n (omega arith)
+same-le (negsuc n) = le-leb n n (omega arith)
+
+-- the range moves the highest value of the voltage alone, which is a number
+plain-highest : (s : Settings) (i : ℕ) → isNumber (kindOf i) ≡ false → highestOf (kindOf i) ≡ highest s i
+unfolding highest if_then_else_ settingAt table
+plain-highest s i h = go (eqb i voltage) refl
+  where
+    go : (t : Bool) → eqb i voltage ≡ t → highestOf (kindOf i) ≡ (if t && not (wideRange s) then twelveVolts else highestOf (kindOf i))
+    go true e = absurd (false≢true (sym (rw (eqb-true i voltage e) at h)))
+    go false e = refl
+
+low-high : (s : Settings) (i : ℕ) → i < 16 → leZ (lowest i) (highest s i) ≡ true
+unfolding lowest highest if_then_else_ settingAt table
+low-high s i h = go (wideRange s)
+  where
+    go : (w : Bool) → leZ (lowestOf (kindOf i)) (if eqb i voltage && not w then twelveVolts else highestOf (kindOf i)) ≡ true
+    go true = below-at 16 (λ k. leZ (lowestOf (kindOf k)) (if eqb k voltage && not true then twelveVolts else highestOf (kindOf k))) refl i h
+    go false = below-at 16 (λ k. leZ (lowestOf (kindOf k)) (if eqb k voltage && not false then twelveVolts else highestOf (kindOf k))) refl i h
+
+module _ (s : Settings) (i : ℕ) where
+  -- a place in the list of a row's words
+  place-within : isNumber (kindOf i) ≡ false → (n : ℕ) → n < length (wordsOf (kindOf i)) → within s i (pos n) ≡ true
+  unfolding within lowest
+  place-within h n l = rw (← plain-highest s i h) (go (kindOf i) h l)
+    where
+      go : (k : Kind) → isNumber k ≡ false → n < length (wordsOf k) → (leZ (lowestOf k) (pos n) && leZ (pos n) (highestOf k)) ≡ true
+      go bool h l = and-true (le-leb 0 n (omega arith)) (le-leb n 1 (omega arith))
+      go (words ws) h l = and-true (le-leb 0 n (omega arith)) (le-leb n (pred (length ws)) (omega arith))
+      go (number m low high) h l = absurd (false≢true (sym h))
+
+  -- on and off of a bool; a row of words counts as off
+  switched-within : (on : Bool) → kindOf i ≡ bool → within s i (if on then pos 1 else pos 0) ≡ true
+  unfolding if_then_else_
+  switched-within true e = place-within (rw e) 1 (rw e (omega arith))
+  switched-within false e = place-within (rw e) 0 (rw e (omega arith))
+
+  zero-within : isNumber (kindOf i) ≡ false → within s i (pos 0) ≡ true
+  unfolding within lowest
+  zero-within h = rw (← plain-highest s i h) (go (kindOf i) h)
+    where
+      go : (k : Kind) → isNumber k ≡ false → (leZ (lowestOf k) (pos 0) && leZ (pos 0) (highestOf k)) ≡ true
+      go bool h = refl
+      go (words ws) h = le-leb 0 (pred (length ws)) (omega arith)
+      go (number m low high) h = absurd (false≢true (sym h))
+
+  pub limit-within : i < 16 → (n : ℕ) → within s i (limitAt s i n) ≡ true
+  unfolding within
+  limit-within h zero = and-true (same-le (lowest i)) (low-high s i h)
+  limit-within h (suc n) = and-true (low-high s i h) (same-le (highest s i))
+
+  pub word-within : i < 16 → (n : ℕ) → n < length (wordsOf (kindOf i)) → within s i (valueGiven s i (kindOf i) (Word n)) ≡ true
+  unfolding valueGiven
+  word-within h n l = go (kindOf i) refl
+    where
+      go : (k : Kind) → kindOf i ≡ k → within s i (valueGiven s i k (Word n)) ≡ true
+      go bool e = place-within (rw e) n l
+      go (words ws) e = place-within (rw e) n l
+      go (number m low high) e = limit-within h n
+
+  -- a number for a row of other values
+  pub figure-within : isNumber (kindOf i) ≡ false → (d : Decimal) → within s i (valueGiven s i (kindOf i) (Figure d)) ≡ true
+  unfolding valueGiven
+  figure-within h d = go (kindOf i) refl
+    where
+      go : (k : Kind) → kindOf i ≡ k → within s i (valueGiven s i k (Figure d)) ≡ true
+      go bool e = switched-within (switchedOn d) e
+      go (words ws) e = zero-within h
+      go (number m low high) e = absurd (false≢true (sym (rw e at h)))

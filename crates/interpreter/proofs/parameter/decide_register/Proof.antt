@@ -1,0 +1,73 @@
+use mathlib.Core.Path.{_≡_, _∙_}
+use mathlib.Core.Bool.{true}
+use mathlib.Core.List.{[]}
+use native.Mathlib.Omega.{arith}
+use borrow.Author.Needs.{needs}
+use Rattle.interpreter.specs.Parameter.{parameter}
+use Rattle.interpreter.specs.ParameterParts.{meantGiven, registerTo}
+use Rattle.interpreter.proofs.parameter.Deeds.{refused-by, word-by, figure-by, register-refused, register-figure}
+use Rattle.interpreter.proofs.parameter.Words.{word-placed}
+use Rattle.interpreter.proofs.parameter.decide_register.Statement.{statement}
+use Rattle.interpreter.proofs.parameter.decide_register.Tie as tie
+
+abbrev entry : tie.After-read-parameter → tie.Start
+entry p = p .before .before .before .before
+
+read-is : (p : tie.After-read-parameter) → meantGiven (p .read-parameter .result) ≡ parameter [] true (entry p .args .text .now)
+read-is p = p .read-parameter .ensures
+
+obey-query-requires : tie.Need-obey-query-requires
+obey-query-requires c κs = search needs
+
+returns : tie.Need-returns
+unfolding registerTo
+returns c = rw (c .obey-query .ensures, c .before .if1 .taken)
+
+read-parameter-requires : tie.Need-read-parameter-requires
+read-parameter-requires c κs = search needs
+
+enum-known-parameter : tie.Need-enum-known-parameter
+enum-known-parameter c = search needs
+
+enum-told : tie.Need-enum-told
+enum-told c = search needs
+
+enum-known-parameter-2 : tie.Need-enum-known-parameter-2
+enum-known-parameter-2 c = search needs
+
+store-requires : tie.Need-store-requires
+store-requires c κs = search needs
+
+returns-2 : tie.Need-returns-2
+returns-2 c =
+    let p = c .before .before .before in
+    let a = entry p .args in
+    rw (p .before .if1 .left) (register-refused (a .register) (a .text .now) (refused-by (read-is p) (c .before .parameter .given .1)))
+
+returns-3 : tie.Need-returns-3
+returns-3 c =
+    let p = c .before .before in
+    let told = c .enum-told .given in
+    absurd (omega (arith, word-placed [] true (entry p .args .text .now) (told .0 .0) (word-by (read-is p) (told .1))))
+
+returns-4 : tie.Need-returns-4
+returns-4 c =
+    let p = c .before .before .before .before in
+    let a = entry p .args in
+    rw (p .before .if1 .left)
+    (c .store .ensures ∙ register-figure (a .register) (a .text .now) (figure-by (read-is p) (c .before .before .parameter2 .given .1)))
+
+pub decide-register-spec : {M : Type 1} → statement M
+decide-register-spec =
+    tie.close
+    (tie.spec
+    obey-query-requires
+    returns
+    read-parameter-requires
+    enum-known-parameter
+    enum-told
+    enum-known-parameter-2
+    store-requires
+    returns-2
+    returns-3
+    returns-4)

@@ -1,0 +1,136 @@
+use mathlib.Core.Path.{_≡_, sym, ap, _∙_}
+use mathlib.Core.Bool.{not, _&&_}
+use Prim.Native.Nat.{ℕ, _<_}
+use native.Mathlib.Omega.{arith}
+use lib.ListN.{length}
+use borrow.Author.Tests.{ne-eqb}
+use borrow.Author.Needs.{needs}
+use Rattle.registers.specs.Text.{if_then_else_}
+use Rattle.registers.specs.Check.{Checked, _>>=_}
+use Rattle.registers.specs.Settings.{kindOf}
+use Rattle.registers.specs.declared.rounding.Fit.the-variants.{Within}
+use Rattle.interpreter.specs.Parameter.{Given, parameter, wordsOf, takesNumbers, valueGiven, deedOf}
+use Rattle.interpreter.specs.ParameterParts.{meantGiven, fitIn, putFit, partsOf}
+use Rattle.interpreter.specs.declared.deed.Role.the-variants.{Setting}
+use Rattle.interpreter.specs.declared.parameter.Parameter.the-variants.{Word}
+use Rattle.interpreter.proofs.parameter.Deeds.{back, refused-by, word-by, figure-by, fit-within, value-asked, setting-is}
+use Rattle.interpreter.proofs.parameter.Limits.{word-within}
+use Rattle.interpreter.proofs.parameter.Sorts.{words-few}
+use Rattle.interpreter.proofs.parameter.Words.{word-placed}
+use Rattle.interpreter.proofs.parameter.decide_setting.Statement.{statement}
+use Rattle.interpreter.proofs.parameter.decide_setting.Tie as tie
+
+-- once the parameter is read: what was read, and what is left to do with it
+abbrev entry : tie.After-read-parameter → tie.Start
+entry p = p .before .before .before .before .before
+
+abbrev given : tie.After-read-parameter → Checked Given
+given p = let a = entry p .args in parameter (wordsOf (kindOf (a .row))) (takesNumbers (kindOf (a .row)) && not (a .asked)) (a .text .now)
+
+read-is : (p : tie.After-read-parameter) → meantGiven (p .read-parameter .result) ≡ given p
+read-is p = let takes = p .before .setting-takes .ensures in rw (takes .words, takes .numbers) at (p .read-parameter .ensures)
+
+deed-is : (p : tie.After-read-parameter)
+    → let a = entry p .args in
+    deedOf (a .settings) (Setting (a .row)) (a .asked) (partsOf (a .parts) (a .text .now))
+    ≡ (given p >>= λ g. putFit (a .settings) (a .row) (a .asked) (fitIn (a .settings) (a .row) (valueGiven (a .settings) (a .row) (kindOf (a .row)) g)))
+unfolding if_then_else_
+deed-is p =
+    let a = entry p .args in
+    let some = p .before .before .if1 .left in
+    let most = entry p .pre .1 .1 in
+    rw (ne-eqb (a .parts) 0 some) (setting-is (a .settings) (a .row) (entry p .pre .0 .1) (a .asked) (a .text .now) (omega arith))
+
+placed : (p : tie.After-read-parameter) {n : ℕ} → p .read-parameter .result ≡ Word n → n < length (wordsOf (kindOf (entry p .args .row)))
+placed p {n} told = word-placed _ _ (entry p .args .text .now) n (word-by (read-is p) told)
+
+obey-query-requires : tie.Need-obey-query-requires
+obey-query-requires c κs = search needs
+
+returns : tie.Need-returns
+unfolding if_then_else_
+returns c =
+    let s = c .before .before .before .before in
+    let a = s .args in
+    let none = c .before .if1 .taken in
+    let least = s .pre .1 .0 in
+    rw (c .obey-query .ensures, none) (value-asked (a .settings) (a .row) (a .asked) (rw none at least))
+
+setting-takes-requires : tie.Need-setting-takes-requires
+setting-takes-requires c κs = search needs
+
+read-parameter-requires : tie.Need-read-parameter-requires
+read-parameter-requires c κs = search needs
+
+enum-known-parameter : tie.Need-enum-known-parameter
+enum-known-parameter c = search needs
+
+enum-known-parameter-2 : tie.Need-enum-known-parameter-2
+enum-known-parameter-2 c = search needs
+
+word-value-requires : tie.Need-word-value-requires
+word-value-requires c κs =
+    let p = c .before .before .before in
+    let row = entry p .args .row in
+    let few = words-few row (entry p .pre .0 .1) in
+    omega (arith, placed p (c .before .parameter2 .given .1))
+
+put-requires : tie.Need-put-requires
+put-requires c κs = search needs
+
+enum-known-parameter-3 : tie.Need-enum-known-parameter-3
+enum-known-parameter-3 c = search needs
+
+figure-value-requires : tie.Need-figure-value-requires
+figure-value-requires c κs = search needs
+
+put-requires-2 : tie.Need-put-requires-2
+put-requires-2 c κs = search needs
+
+returns-2 : tie.Need-returns-2
+unfolding _>>=_
+returns-2 c =
+    let p = c .before .before .before in
+    sym (deed-is p ∙ rw (refused-by (read-is p) (c .before .parameter .given .1)))
+
+returns-3 : tie.Need-returns-3
+unfolding _>>=_
+returns-3 c =
+    let p = c .before .before .before .before .before in
+    let a = entry p .args in
+    let told = c .before .before .before .parameter2 .given in
+    let value = c .before .word-value in
+    c .put .ensures
+    ∙ ap (λ z. putFit (a .settings) (a .row) (a .asked) (Within z)) (back (value .result) (value .ok) ∙ value .ensures)
+    ∙ ap (putFit (a .settings) (a .row) (a .asked))
+    (fit-within (a .settings) (a .row) _ (word-within (a .settings) (a .row) (entry p .pre .0 .1) (told .0 .0) (placed p (told .1))))
+    ∙ sym (deed-is p ∙ rw (word-by (read-is p) (told .1)))
+
+returns-4 : tie.Need-returns-4
+unfolding _>>=_
+returns-4 c =
+    let p = c .before .before .before .before .before in
+    let a = entry p .args in
+    let told = c .before .before .before .parameter3 .given in
+    c .put2 .ensures
+    ∙ ap (putFit (a .settings) (a .row) (a .asked)) (c .before .figure-value .ensures)
+    ∙ sym (deed-is p ∙ rw (figure-by (read-is p) (told .1)))
+
+pub decide-setting-spec : {M : Type 1} → statement M
+decide-setting-spec =
+    tie.close
+    (tie.spec
+    obey-query-requires
+    returns
+    setting-takes-requires
+    read-parameter-requires
+    enum-known-parameter
+    enum-known-parameter-2
+    word-value-requires
+    put-requires
+    enum-known-parameter-3
+    figure-value-requires
+    put-requires-2
+    returns-2
+    returns-3
+    returns-4)
