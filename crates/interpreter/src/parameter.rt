@@ -21,7 +21,7 @@ ghost use Rattle.registers.specs.Rounding.{rounded};
 ghost use Rattle.registers.specs.Settings.{kindOf};
 ghost use Rattle.interpreter.specs.RowsParts.{wordTable};
 ghost use Rattle.interpreter.specs.Parameter.{Word, Figure, parameter, wordsOf, takesNumbers, least, greatest, valueGiven, deedOf};
-ghost use Rattle.interpreter.specs.ParameterParts.{meantGiven, meantDeed, CountedIn, takenWords, TakesOf, aWord, aFigure, isNumber, fitIn, putFit, storeTo, registerTo, settled, partsOf};
+ghost use Rattle.interpreter.specs.ParameterParts.{meantGiven, meantDeed, CountedIn, takenWords, TakesOf, aWord, isNumber, fitIn, putFit, storeTo, registerTo, settled, partsOf};
 
 // Checks 5 and 6 on a parameter: a word of the row by its place in the row's list, or a number.
 pub(crate) enum Parameter {
@@ -117,17 +117,6 @@ fn find_word(words: &[u8], takes: Takes, text: &[u8]) -> Parameter
     Parameter::Refused(Error::InvalidCharacterData)
 }
 
-// Check 6.
-fn read_figure(text: &[u8]) -> Parameter
-    ensures { λ r. ⌜ meantGiven r ≡ aFigure (now (text .entry)) ⌝ }
-{
-    let reading = number::read(text);
-    match reading {
-        Reading::Refused(e) => Parameter::Refused(e),
-        Reading::Number(d) => Parameter::Figure(d),
-    }
-}
-
 // Checks 5 and 6. A digit, a sign or a point starts a number, and no query takes one.
 fn read_parameter(words: &[u8], takes: Takes, asked: bool, text: &[u8]) -> Parameter
     requires { ⌜ (now words ≡ wordTable) × (takes .first + takes .count ≤ 52) ⌝ }
@@ -137,10 +126,15 @@ fn read_parameter(words: &[u8], takes: Takes, asked: bool, text: &[u8]) -> Param
     if text::is_letter(b) {
         return find_word(words, takes, text);
     }
-    if (takes.numbers & !asked) & (text::is_digit(b) | ((b == 43) | (b == 45)) | (b == 46)) {
-        return read_figure(text);
+    let starts = text::is_digit(b) | ((b == 43) | (b == 45)) | (b == 46);
+    if !(takes.numbers & !asked & starts) {
+        return Parameter::Refused(Error::DataType);
     }
-    Parameter::Refused(Error::DataType)
+    let reading = number::read(text);
+    match reading {
+        Reading::Refused(e) => Parameter::Refused(e),
+        Reading::Number(d) => Parameter::Figure(d),
+    }
 }
 
 // Whether a setting's values are numbers.
@@ -165,12 +159,7 @@ fn figure_value(settings: Settings, row: usize, d: Decimal) -> Fit
     match values {
         Values::Tenths => rounding::round_in(d, 1, low, high),
         Values::Whole => rounding::round_in(d, 0, low, high),
-        Values::Bool => {
-            if d.switches_on() {
-                return Fit::Within(1);
-            }
-            Fit::Within(0)
-        }
+        Values::Bool => Fit::Within(d.switches_on() as i32),
         Values::Word => Fit::Within(0),
     }
 }
@@ -230,8 +219,7 @@ fn put(settings: Settings, row: usize, asked: bool, fit: Fit) -> Decision
 fn store(register: Register, d: Decimal) -> Decision
     ensures { λ r. ⌜ meantDeed r ≡ storeTo register (rounded 1 d) ⌝ }
 {
-    let widest = register.widest() as i32;
-    let fit = rounding::round_in(d, 0, 0, widest);
+    let fit = rounding::round_in(d, 0, 0, register.widest() as i32);
     match fit {
         Fit::Outside => Decision::Refused(Error::DataOutOfRange),
         Fit::Within(value) => Decision::Obey(Deed::Change(Change::Store {

@@ -8,7 +8,7 @@ use lib.Dec.{T}
 use lib.IntN.{ℤ, pos, negsuc, natAbs}
 use lib.Signed.{leZ, mag, nonNeg}
 use mir.Syntax.{w16, w32}
-use mir.Val.{Fits, ofZ, toZ}
+use mir.Val.{Fits, ofZ, toZ, boolByte}
 use mir.Facts.{toZ-ofZ, toZ-pos}
 use borrow.Author.Tests.{leb-true, ne-eqb}
 use Rattle.registers.specs.Text.{Text, if_then_else_}
@@ -39,6 +39,12 @@ use Rattle.interpreter.proofs.parameter.Words.{asked-word}
 -- a signed number of 32 bits comes back from its bits
 pub back : (z : ℤ) → mag z < 2147483648 → toZ w32 (ofZ w32 z) ≡ z
 back z h = toZ-ofZ (record { sfits = h })
+
+-- on and off as a number
+pub switched-byte : (b : Bool) → toZ w32 (boolByte b) ≡ (if b then pos 1 else pos 0)
+unfolding if_then_else_
+switched-byte true = refl
+switched-byte false = refl
 
 -- ---- what checks 5 and 6 say, where the code has been told their answer
 

@@ -6,7 +6,7 @@ use lib.ListN.{length}
 use borrow.Author.Tests.{ne-eqb}
 use borrow.Author.Needs.{needs}
 use Rattle.registers.specs.Text.{if_then_else_}
-use Rattle.registers.specs.Check.{Checked, _>>=_}
+use Rattle.registers.specs.Check.{Checked, passed, _>>=_}
 use Rattle.registers.specs.Settings.{kindOf}
 use Rattle.registers.specs.declared.rounding.Fit.the-variants.{Within}
 use Rattle.interpreter.specs.Parameter.{Given, parameter, wordsOf, takesNumbers, valueGiven, deedOf}
@@ -40,6 +40,13 @@ deed-is p =
     let some = p .before .before .if1 .left in
     let most = entry p .pre .1 .1 in
     rw (ne-eqb (a .parts) 0 some) (setting-is (a .settings) (a .row) (entry p .pre .0 .1) (a .asked) (a .text .now) (omega arith))
+
+carried : (p : tie.After-read-parameter) {g : Given} → given p ≡ passed g
+    → let a = entry p .args in
+    putFit (a .settings) (a .row) (a .asked) (fitIn (a .settings) (a .row) (valueGiven (a .settings) (a .row) (kindOf (a .row)) g))
+    ≡ deedOf (a .settings) (Setting (a .row)) (a .asked) (partsOf (a .parts) (a .text .now))
+unfolding _>>=_
+carried p e = sym (deed-is p ∙ rw e)
 
 placed : (p : tie.After-read-parameter) {n : ℕ} → p .read-parameter .result ≡ Word n → n < length (wordsOf (kindOf (entry p .args .row)))
 placed p {n} told = word-placed _ _ (entry p .args .text .now) n (word-by (read-is p) told)
@@ -94,7 +101,6 @@ returns-2 c =
     sym (deed-is p ∙ rw (refused-by (read-is p) (c .before .parameter .given .1)))
 
 returns-3 : tie.Need-returns-3
-unfolding _>>=_
 returns-3 c =
     let p = c .before .before .before .before .before in
     let a = entry p .args in
@@ -104,17 +110,13 @@ returns-3 c =
     ∙ ap (λ z. putFit (a .settings) (a .row) (a .asked) (Within z)) (back (value .result) (value .ok) ∙ value .ensures)
     ∙ ap (putFit (a .settings) (a .row) (a .asked))
     (fit-within (a .settings) (a .row) _ (word-within (a .settings) (a .row) (entry p .pre .0 .1) (told .0 .0) (placed p (told .1))))
-    ∙ sym (deed-is p ∙ rw (word-by (read-is p) (told .1)))
+    ∙ carried p (word-by (read-is p) (told .1))
 
 returns-4 : tie.Need-returns-4
-unfolding _>>=_
 returns-4 c =
     let p = c .before .before .before .before .before in
-    let a = entry p .args in
     let told = c .before .before .before .parameter3 .given in
-    c .put2 .ensures
-    ∙ ap (putFit (a .settings) (a .row) (a .asked)) (c .before .figure-value .ensures)
-    ∙ sym (deed-is p ∙ rw (figure-by (read-is p) (told .1)))
+    c .put2 .ensures ∙ rw (c .before .figure-value .ensures) (carried p (figure-by (read-is p) (told .1)))
 
 pub decide-setting-spec : {M : Type 1} → statement M
 decide-setting-spec =

@@ -4,7 +4,6 @@ use Prim.Native.Nat.{ℕ}
 use mir.Syntax.{w32}
 use mir.Val.{ofZ, toZ}
 use borrow.Author.Needs.{needs}
-use Rattle.registers.specs.Text.{if_then_else_}
 use Rattle.registers.specs.Rounding.{rounded, fitted}
 use Rattle.registers.specs.Settings.{kindOf, lowest}
 use Rattle.registers.specs.declared.rounding.Fit.{Fit}
@@ -12,7 +11,7 @@ use Rattle.registers.specs.declared.rounding.Fit.the-variants.{Within}
 use Rattle.registers.specs.declared.settings.Values.{Values}
 use Rattle.interpreter.specs.Parameter.{Figure, valueGiven}
 use Rattle.interpreter.specs.ParameterParts.{fitIn}
-use Rattle.interpreter.proofs.parameter.Deeds.{back, fitted-in, fit-within}
+use Rattle.interpreter.proofs.parameter.Deeds.{back, switched-byte, fitted-in, fit-within}
 use Rattle.interpreter.proofs.parameter.Limits.{figure-within}
 use Rattle.interpreter.proofs.parameter.Sorts.{figureIn, figure-in, numberIn, number-in}
 use Rattle.interpreter.proofs.parameter.figure_value.Statement.{statement}
@@ -74,25 +73,25 @@ enum-told-3 c = search needs
 switches-on-requires : tie.Need-switches-on-requires
 switches-on-requires c κs = search needs
 
-returns : tie.Need-returns
-unfolding if_then_else_
-returns c = rw (sym (c .before .switches-on .ensures) ∙ c .if1 .taken) at (other-is (c .before .before .before .before) (c .before .before .enum-told3 .given .1) refl)
+cast-t9 : tie.Need-cast-t9
+cast-t9 c = search needs
 
 enum-told-4 : tie.Need-enum-told-4
 enum-told-4 c = search needs
 
+returns : tie.Need-returns
+returns c = c .round-in .ensures ∙ number-is (c .before .before .before) (c .before .enum-told .given .1) 10 refl
+
 returns-2 : tie.Need-returns-2
-returns-2 c = c .round-in .ensures ∙ number-is (c .before .before .before) (c .before .enum-told .given .1) 10 refl
+returns-2 c = c .round-in2 .ensures ∙ number-is (c .before .before .before) (c .before .enum-told2 .given .1) 1 refl
 
 returns-3 : tie.Need-returns-3
-returns-3 c = c .round-in2 .ensures ∙ number-is (c .before .before .before) (c .before .enum-told2 .given .1) 1 refl
+returns-3 c =
+    let on = c .switches-on in
+    ap Within (switched-byte (on .result)) ∙ rw (← on .ensures) at (other-is (c .before .before .before) (c .before .enum-told3 .given .1) refl)
 
 returns-4 : tie.Need-returns-4
-unfolding if_then_else_
-returns-4 c = rw (sym (c .before .switches-on .ensures) ∙ c .if1 .left) at (other-is (c .before .before .before .before) (c .before .before .enum-told3 .given .1) refl)
-
-returns-5 : tie.Need-returns-5
-returns-5 c = other-is (c .before .before) (c .enum-told4 .given .1) refl
+returns-4 c = other-is (c .before .before) (c .enum-told4 .given .1) refl
 
 pub figure-value-spec : {M : Type 1} → statement M
 figure-value-spec =
@@ -107,9 +106,9 @@ figure-value-spec =
     round-in-requires-2
     enum-told-3
     switches-on-requires
-    returns
+    cast-t9
     enum-told-4
+    returns
     returns-2
     returns-3
-    returns-4
-    returns-5)
+    returns-4)

@@ -1,8 +1,11 @@
 use mathlib.Core.Path.{_≡_, sym, _∙_}
 use mathlib.Core.Bool.{false, not, _&&_}
+use borrow.Author.Tests.{not-true, not-false}
 use borrow.Author.Needs.{needs}
 use Rattle.registers.specs.Text.{letter, first}
-use Rattle.interpreter.specs.ParameterParts.{takenWords}
+use Rattle.registers.specs.Check.{_>>=_}
+use Rattle.interpreter.specs.Parameter.{parameter}
+use Rattle.interpreter.specs.ParameterParts.{takenWords, aFigure}
 use Rattle.interpreter.proofs.parameter.Words.{starts-word, starts-figure, starts-neither}
 use Rattle.interpreter.proofs.parameter.read_parameter.Statement.{statement}
 use Rattle.interpreter.proofs.parameter.read_parameter.Tie as tie
@@ -13,6 +16,16 @@ entry l = l .before .before .before .before .before
 
 no-letter : (l : tie.Else1) → letter (first (entry l .args .text .now)) ≡ false
 no-letter l = sym (rw (l .before .before .byte-at .ensures) at (l .before .is-letter .ensures)) ∙ l .if1 .left
+
+-- one that starts a number, which is taken
+figure-is : (f : tie.Else2)
+    → let a = entry (f .before .before .before) .args in
+    aFigure (a .text .now) ≡ parameter (takenWords (a .takes)) (a .takes .numbers && not (a .asked)) (a .text .now)
+figure-is f =
+    let l = f .before .before .before in
+    let a = entry l .args in
+    let left = rw (f .before .before .is-digit .ensures, l .before .before .byte-at .ensures) at (f .if2 .left) in
+    starts-figure (takenWords (a .takes)) (a .takes .numbers && not (a .asked)) (a .text .now) (no-letter l) (not-false _ left)
 
 byte-at-requires : tie.Need-byte-at-requires
 byte-at-requires c κs = search needs
@@ -33,23 +46,33 @@ returns c =
 is-digit-requires : tie.Need-is-digit-requires
 is-digit-requires c κs = search needs
 
-read-figure-requires : tie.Need-read-figure-requires
-read-figure-requires c κs = search needs
-
 returns-2 : tie.Need-returns-2
 returns-2 c =
-    let l = c .before .before .before .before in
-    let a = entry l .args in
-    let taken = rw (c .before .before .is-digit .ensures, l .before .before .byte-at .ensures) at (c .before .if2 .taken) in
-    c .read-figure .ensures
-    ∙ starts-figure (takenWords (a .takes)) (a .takes .numbers && not (a .asked)) (a .text .now) (no-letter l) taken
-
-returns-3 : tie.Need-returns-3
-returns-3 c =
     let l = c .before .before .before in
     let a = entry l .args in
-    let left = rw (c .before .is-digit .ensures, l .before .before .byte-at .ensures) at (c .if2 .left) in
-    starts-neither (takenWords (a .takes)) (a .takes .numbers && not (a .asked)) (a .text .now) (no-letter l) left
+    let taken = rw (c .before .before .is-digit .ensures, l .before .before .byte-at .ensures) at (c .if2 .taken) in
+    starts-neither (takenWords (a .takes)) (a .takes .numbers && not (a .asked)) (a .text .now) (no-letter l) (not-true _ taken)
+
+read-requires : tie.Need-read-requires
+read-requires c κs = search needs
+
+enum-known-reading : tie.Need-enum-known-reading
+enum-known-reading c = search needs
+
+enum-known-reading-2 : tie.Need-enum-known-reading-2
+enum-known-reading-2 c = search needs
+
+returns-3 : tie.Need-returns-3
+unfolding aFigure _>>=_
+returns-3 c =
+    let read = c .before .before .before in
+    rw (← figure-is (read .before), ← read .read .ensures, c .before .reading .given .1)
+
+returns-4 : tie.Need-returns-4
+unfolding aFigure _>>=_
+returns-4 c =
+    let read = c .before .before .before in
+    rw (← figure-is (read .before), ← read .read .ensures, c .before .reading2 .given .1)
 
 pub read-parameter-spec : {M : Type 1} → statement M
 read-parameter-spec =
@@ -60,6 +83,9 @@ read-parameter-spec =
     find-word-requires
     returns
     is-digit-requires
-    read-figure-requires
     returns-2
-    returns-3)
+    read-requires
+    enum-known-reading
+    enum-known-reading-2
+    returns-3
+    returns-4)

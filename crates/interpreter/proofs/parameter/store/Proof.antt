@@ -10,8 +10,8 @@ use Rattle.interpreter.proofs.parameter.store.Tie as tie
 widest-requires : tie.Need-widest-requires
 widest-requires c κs = search needs
 
-cast-widest : tie.Need-cast-widest
-cast-widest c = search needs
+cast-round-in : tie.Need-cast-round-in
+cast-round-in c = search needs
 
 round-in-requires : tie.Need-round-in-requires
 round-in-requires c κs = search needs
@@ -50,7 +50,7 @@ store-spec =
     tie.close
     (tie.spec
     widest-requires
-    cast-widest
+    cast-round-in
     round-in-requires
     enum-told
     enum-known-fit
