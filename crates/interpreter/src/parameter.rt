@@ -132,8 +132,8 @@ fn read_parameter(words: &[u8], takes: Takes, asked: bool, text: &[u8]) -> Param
     }
     let reading = number::read(text);
     match reading {
-        Reading::Refused(e) => Parameter::Refused(e),
-        Reading::Number(d) => Parameter::Figure(d),
+        Reading::Refused(e) => return Parameter::Refused(e),
+        Reading::Number(d) => return Parameter::Figure(d),
     }
 }
 
@@ -202,7 +202,7 @@ fn put(settings: Settings, row: usize, asked: bool, fit: Fit) -> Decision
     ensures { λ r. ⌜ meantDeed r ≡ putFit settings row asked fit ⌝ }
 {
     match fit {
-        Fit::Outside => Decision::Refused(Error::DataOutOfRange),
+        Fit::Outside => return Decision::Refused(Error::DataOutOfRange),
         Fit::Within(value) => {
             if asked {
                 return obey_query(Query::Limit { row, value });
@@ -210,7 +210,7 @@ fn put(settings: Settings, row: usize, asked: bool, fit: Fit) -> Decision
             if settings.conflicts(row, value) {
                 return Decision::Refused(Error::SettingsConflict);
             }
-            Decision::Obey(Deed::Change(Change::Put { row, value }))
+            return Decision::Obey(Deed::Change(Change::Put { row, value }));
         }
     }
 }
@@ -221,8 +221,8 @@ fn store(register: Register, d: Decimal) -> Decision
 {
     let fit = rounding::round_in(d, 0, 0, register.widest() as i32);
     match fit {
-        Fit::Outside => Decision::Refused(Error::DataOutOfRange),
-        Fit::Within(value) => Decision::Obey(Deed::Change(Change::Store {
+        Fit::Outside => return Decision::Refused(Error::DataOutOfRange),
+        Fit::Within(value) => return Decision::Obey(Deed::Change(Change::Store {
             register,
             value: value as u16,
         })),
@@ -247,16 +247,14 @@ fn decide_setting(
     }
     let parameter = read_parameter(words, setting_takes(row), asked, text);
     match parameter {
-        Parameter::Refused(e) => Decision::Refused(e),
+        Parameter::Refused(e) => return Decision::Refused(e),
         Parameter::Word(word) => {
-            put(
-                settings,
-                row,
-                asked,
-                Fit::Within(word_value(settings, row, word)),
-            )
+            let value = word_value(settings, row, word);
+            return put(settings, row, asked, Fit::Within(value));
         }
-        Parameter::Figure(d) => put(settings, row, asked, figure_value(settings, row, d)),
+        Parameter::Figure(d) => {
+            return put(settings, row, asked, figure_value(settings, row, d));
+        }
     }
 }
 
@@ -275,9 +273,9 @@ fn decide_register(words: &[u8], register: Register, asked: bool, text: &[u8]) -
     };
     let parameter = read_parameter(words, takes, false, text);
     match parameter {
-        Parameter::Refused(e) => Decision::Refused(e),
-        Parameter::Word(_) => Decision::Refused(Error::InvalidCharacterData),
-        Parameter::Figure(d) => store(register, d),
+        Parameter::Refused(e) => return Decision::Refused(e),
+        Parameter::Word(_) => return Decision::Refused(Error::InvalidCharacterData),
+        Parameter::Figure(d) => return store(register, d),
     }
 }
 
@@ -295,8 +293,8 @@ pub(crate) fn decide(
     ensures { λ r. ⌜ meantDeed r ≡ deedOf settings role asked (partsOf parts (now (text .entry))) ⌝ }
 {
     match role {
-        Role::Setting(row) => decide_setting(words, settings, row, asked, parts, text),
-        Role::Register(register) => decide_register(words, register, asked, text),
-        Role::Order(deed) | Role::Question(deed) => Decision::Obey(deed),
+        Role::Setting(row) => return decide_setting(words, settings, row, asked, parts, text),
+        Role::Register(register) => return decide_register(words, register, asked, text),
+        Role::Order(deed) | Role::Question(deed) => return Decision::Obey(deed),
     }
 }

@@ -15,20 +15,14 @@ decide-setting-requires c κs =
     let pre = rw (role .1) at (c .before .before .before .before .before .pre) in
     ((pre .0 .0, ltb-true (role .0 .0) 16 (pre .0 .1)), pre .1)
 
+returns : tie.Need-returns
+returns c = rw (c .before .before .role .given .1) (c .decide-setting .ensures)
+
 enum-known-role-2 : tie.Need-enum-known-role-2
 enum-known-role-2 c = search needs
 
 decide-register-requires : tie.Need-decide-register-requires
 decide-register-requires c κs = search needs
-
-enum-known-role-3 : tie.Need-enum-known-role-3
-enum-known-role-3 c = search needs
-
-enum-known-role-4 : tie.Need-enum-known-role-4
-enum-known-role-4 c = search needs
-
-returns : tie.Need-returns
-returns c = rw (c .before .before .role .given .1) (c .decide-setting .ensures)
 
 returns-2 : tie.Need-returns-2
 returns-2 c =
@@ -37,6 +31,12 @@ returns-2 c =
     let role = c .before .before .role2 .given in
     let least = rw (role .1) at (s .pre .1 .0) in
     rw (role .1) (c .decide-register .ensures ∙ register-is (a .settings) (role .0 .0) (a .asked) (a .parts) (a .text .now) least)
+
+enum-known-role-3 : tie.Need-enum-known-role-3
+enum-known-role-3 c = search needs
+
+enum-known-role-4 : tie.Need-enum-known-role-4
+enum-known-role-4 c = search needs
 
 returns-3 : tie.Need-returns-3
 unfolding deedOf
@@ -52,11 +52,11 @@ decide-spec =
     (tie.spec
     enum-known-role
     decide-setting-requires
+    returns
     enum-known-role-2
     decide-register-requires
+    returns-2
     enum-known-role-3
     enum-known-role-4
-    returns
-    returns-2
     returns-3
     returns-4)

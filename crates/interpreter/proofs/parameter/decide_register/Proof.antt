@@ -29,26 +29,26 @@ read-parameter-requires c κs = search needs
 enum-known-parameter : tie.Need-enum-known-parameter
 enum-known-parameter c = search needs
 
-enum-told : tie.Need-enum-told
-enum-told c = search needs
-
-enum-known-parameter-2 : tie.Need-enum-known-parameter-2
-enum-known-parameter-2 c = search needs
-
-store-requires : tie.Need-store-requires
-store-requires c κs = search needs
-
 returns-2 : tie.Need-returns-2
 returns-2 c =
     let p = c .before .before .before in
     let a = entry p .args in
     rw (p .before .if1 .left) (register-refused (a .register) (a .text .now) (refused-by (read-is p) (c .before .parameter .given .1)))
 
+enum-told : tie.Need-enum-told
+enum-told c = search needs
+
 returns-3 : tie.Need-returns-3
 returns-3 c =
     let p = c .before .before in
     let told = c .enum-told .given in
     absurd (omega (arith, word-placed [] true (entry p .args .text .now) (told .0 .0) (word-by (read-is p) (told .1))))
+
+enum-known-parameter-2 : tie.Need-enum-known-parameter-2
+enum-known-parameter-2 c = search needs
+
+store-requires : tie.Need-store-requires
+store-requires c κs = search needs
 
 returns-4 : tie.Need-returns-4
 returns-4 c =
@@ -65,9 +65,9 @@ decide-register-spec =
     returns
     read-parameter-requires
     enum-known-parameter
+    returns-2
     enum-told
+    returns-3
     enum-known-parameter-2
     store-requires
-    returns-2
-    returns-3
     returns-4)

@@ -72,6 +72,12 @@ read-parameter-requires c κs = search needs
 enum-known-parameter : tie.Need-enum-known-parameter
 enum-known-parameter c = search needs
 
+returns-2 : tie.Need-returns-2
+unfolding _>>=_
+returns-2 c =
+    let p = c .before .before .before in
+    sym (deed-is p ∙ rw (refused-by (read-is p) (c .before .parameter .given .1)))
+
 enum-known-parameter-2 : tie.Need-enum-known-parameter-2
 enum-known-parameter-2 c = search needs
 
@@ -85,21 +91,6 @@ word-value-requires c κs =
 put-requires : tie.Need-put-requires
 put-requires c κs = search needs
 
-enum-known-parameter-3 : tie.Need-enum-known-parameter-3
-enum-known-parameter-3 c = search needs
-
-figure-value-requires : tie.Need-figure-value-requires
-figure-value-requires c κs = search needs
-
-put-requires-2 : tie.Need-put-requires-2
-put-requires-2 c κs = search needs
-
-returns-2 : tie.Need-returns-2
-unfolding _>>=_
-returns-2 c =
-    let p = c .before .before .before in
-    sym (deed-is p ∙ rw (refused-by (read-is p) (c .before .parameter .given .1)))
-
 returns-3 : tie.Need-returns-3
 returns-3 c =
     let p = c .before .before .before .before .before in
@@ -111,6 +102,15 @@ returns-3 c =
     ∙ ap (putFit (a .settings) (a .row) (a .asked))
     (fit-within (a .settings) (a .row) _ (word-within (a .settings) (a .row) (entry p .pre .0 .1) (told .0 .0) (placed p (told .1))))
     ∙ carried p (word-by (read-is p) (told .1))
+
+enum-known-parameter-3 : tie.Need-enum-known-parameter-3
+enum-known-parameter-3 c = search needs
+
+figure-value-requires : tie.Need-figure-value-requires
+figure-value-requires c κs = search needs
+
+put-requires-2 : tie.Need-put-requires-2
+put-requires-2 c κs = search needs
 
 returns-4 : tie.Need-returns-4
 returns-4 c =
@@ -127,12 +127,12 @@ decide-setting-spec =
     setting-takes-requires
     read-parameter-requires
     enum-known-parameter
+    returns-2
     enum-known-parameter-2
     word-value-requires
     put-requires
+    returns-3
     enum-known-parameter-3
     figure-value-requires
     put-requires-2
-    returns-2
-    returns-3
     returns-4)

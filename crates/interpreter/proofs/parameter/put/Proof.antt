@@ -9,15 +9,19 @@ use Rattle.interpreter.proofs.parameter.put.Tie as tie
 enum-told : tie.Need-enum-told
 enum-told c = search needs
 
+returns : tie.Need-returns
+unfolding putFit
+returns c = rw (c .enum-told .given .1)
+
 enum-known-fit : tie.Need-enum-known-fit
 enum-known-fit c = search needs
 
 obey-query-requires : tie.Need-obey-query-requires
 obey-query-requires c κs = search needs
 
-returns : tie.Need-returns
+returns-2 : tie.Need-returns-2
 unfolding putFit
-returns c =
+returns-2 c =
     let fit = c .before .before .before .fit .given in
     let b = back (fit .0 .0) (c .before .before .known-told .given .0 .1) in
     rw (fit .1, c .before .if1 .taken, c .obey-query .ensures, b)
@@ -25,16 +29,12 @@ returns c =
 conflicts-requires : tie.Need-conflicts-requires
 conflicts-requires c κs = search needs
 
-returns-2 : tie.Need-returns-2
+returns-3 : tie.Need-returns-3
 unfolding putFit check _>>_
-returns-2 c =
+returns-3 c =
     let fit = c .before .before .before .before .fit .given in
     let b = back (fit .0 .0) (c .before .before .before .known-told .given .0 .1) in
     rw (fit .1, c .before .before .if1 .left, sym (rw b at (c .before .conflicts .ensures)) ∙ c .if2 .taken)
-
-returns-3 : tie.Need-returns-3
-unfolding putFit
-returns-3 c = rw (c .enum-told .given .1)
 
 returns-4 : tie.Need-returns-4
 unfolding putFit check _>>_
@@ -48,10 +48,10 @@ put-spec =
     tie.close
     (tie.spec
     enum-told
+    returns
     enum-known-fit
     obey-query-requires
-    returns
-    conflicts-requires
     returns-2
+    conflicts-requires
     returns-3
     returns-4)

@@ -59,14 +59,14 @@ read-requires c κs = search needs
 enum-known-reading : tie.Need-enum-known-reading
 enum-known-reading c = search needs
 
-enum-known-reading-2 : tie.Need-enum-known-reading-2
-enum-known-reading-2 c = search needs
-
 returns-3 : tie.Need-returns-3
 unfolding aFigure _>>=_
 returns-3 c =
     let read = c .before .before .before in
     rw (← figure-is (read .before), ← read .read .ensures, c .before .reading .given .1)
+
+enum-known-reading-2 : tie.Need-enum-known-reading-2
+enum-known-reading-2 c = search needs
 
 returns-4 : tie.Need-returns-4
 unfolding aFigure _>>=_
@@ -86,6 +86,6 @@ read-parameter-spec =
     returns-2
     read-requires
     enum-known-reading
-    enum-known-reading-2
     returns-3
+    enum-known-reading-2
     returns-4)

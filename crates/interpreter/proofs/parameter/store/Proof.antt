@@ -7,6 +7,10 @@ use Rattle.interpreter.proofs.parameter.Deeds.{back, widest-back, store
 use Rattle.interpreter.proofs.parameter.store.Statement.{statement}
 use Rattle.interpreter.proofs.parameter.store.Tie as tie
 
+fitted-is : (c : tie.After-round-in)
+    → c .round-in .result ≡ fitted 1 (pos 0) (pos (widest (c .before .before .args .register))) (c .before .before .args .d)
+fitted-is c = rw (c .before .widest .ensures, widest-back (c .before .before .args .register)) at (c .round-in .ensures)
+
 widest-requires : tie.Need-widest-requires
 widest-requires c κs = search needs
 
@@ -19,24 +23,20 @@ round-in-requires c κs = search needs
 enum-told : tie.Need-enum-told
 enum-told c = search needs
 
-enum-known-fit : tie.Need-enum-known-fit
-enum-known-fit c = search needs
-
-fitted-is : (c : tie.After-round-in)
-    → c .round-in .result ≡ fitted 1 (pos 0) (pos (widest (c .before .before .args .register))) (c .before .before .args .d)
-fitted-is c = rw (c .before .widest .ensures, widest-back (c .before .before .args .register)) at (c .round-in .ensures)
-
-cast-t9 : tie.Need-cast-t9
-cast-t9 c =
-    let a = c .before .before .before .before .before .args in
-    let fit = c .before .fit .given in
-    rw (back (fit .0 .0) (c .known-told .given .0 .1))
-    (store-natural (a .register) (a .d) (fitted-is (c .before .before .before)) (fit .0 .0) (fit .1))
-
 returns : tie.Need-returns
 returns c =
     let a = c .before .before .before .before .args in
     store-outside (a .register) (a .d) (fitted-is (c .before .before)) (c .enum-told .given .1)
+
+enum-known-fit : tie.Need-enum-known-fit
+enum-known-fit c = search needs
+
+cast-t8 : tie.Need-cast-t8
+cast-t8 c =
+    let a = c .before .before .before .before .before .args in
+    let fit = c .before .fit .given in
+    rw (back (fit .0 .0) (c .known-told .given .0 .1))
+    (store-natural (a .register) (a .d) (fitted-is (c .before .before .before)) (fit .0 .0) (fit .1))
 
 returns-2 : tie.Need-returns-2
 returns-2 c =
@@ -53,7 +53,7 @@ store-spec =
     cast-round-in
     round-in-requires
     enum-told
-    enum-known-fit
-    cast-t9
     returns
+    enum-known-fit
+    cast-t8
     returns-2)
