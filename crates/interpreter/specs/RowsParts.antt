@@ -12,14 +12,24 @@ use Rattle.registers.specs.Text.{Text, if_then_else_, bytes, same, capital, emp
 use Rattle.registers.specs.Words.{Node, must, may, shortForm, longForm, matches}
 use Rattle.interpreter.specs.Cuts.{joinFirst}
 use Rattle.interpreter.specs.Rows.{Row, rows, hasForm, fitsRow}
+use Rattle.interpreter.specs.declared.deed.Deed.{Deed}
+use Rattle.interpreter.specs.declared.deed.Deed.the-variants.{Inquire}
+use Rattle.interpreter.specs.declared.deed.Inquiry.the-variants.{NextError}
 use Rattle.interpreter.specs.declared.deed.Role.{Role}
-use Rattle.interpreter.specs.declared.deed.Role.the-variants.{Setting}
+use Rattle.interpreter.specs.declared.deed.Role.the-variants.{Setting, Register, Order, Question}
 use Rattle.interpreter.specs.declared.rows.Walk.{Walk}
 use Rattle.interpreter.specs.declared.rows.Walk.the-variants.{To, Missed}
 
 -- what a row is for
 unfoldable pub roleAt : ℕ → Role
 roleAt i = getD (map (λ (r : Row). r .role) rows) i (Setting i)
+
+-- the deed of an order or a question; of what is set it is the last row's
+abbrev pub deedIn : Role → Deed
+deedIn (Setting i) = Inquire NextError
+deedIn (Register x) = Inquire NextError
+deedIn (Order d) = d
+deedIn (Question d) = d
 
 -- ---- words: those of the headers, and from place 42 on those of the parameters, so that each row's words stand together
 

@@ -2,7 +2,7 @@
 use registers::status::Register;
 ghost use mathlib.Core.Path.{_≡_};
 ghost use Prim.Native.Nat.{_<_};
-ghost use Rattle.interpreter.specs.RowsParts.{roleAt};
+ghost use Rattle.interpreter.specs.RowsParts.{roleAt, deedIn};
 
 // A change of settings or registers.
 pub enum Change {
@@ -47,29 +47,44 @@ pub enum Role {
     Question(Deed),
 }
 
+// What a row does that is no setting and no register.
+fn deed_of(row: usize) -> Deed
+    requires { ⌜ row < 33 ⌝ }
+    ensures { λ r. ⌜ r ≡ deedIn (roleAt row) ⌝ }
+{
+    match row {
+        16 => Deed::Query(Query::Identity),
+        17 => Deed::Query(Query::SelfTest),
+        18 => Deed::Query(Query::Completed),
+        19 => Deed::Change(Change::Nothing),
+        20 => Deed::Complete,
+        21 => Deed::Change(Change::Reset),
+        22 => Deed::Clear,
+        25 => Deed::Inquire(Inquiry::StandardEvents),
+        26 => Deed::Inquire(Inquiry::StatusByte),
+        27 => Deed::Query(Query::Condition),
+        28 => Deed::Query(Query::OperationEvents),
+        _ => Deed::Inquire(Inquiry::NextError),
+    }
+}
+
 // What a row of 01's tables is for: the sixteen settings, then 'Registers and queue'.
 pub(crate) fn role_of(row: usize) -> Role
     requires { ⌜ row < 33 ⌝ }
     ensures { λ r. ⌜ r ≡ roleAt row ⌝ }
 {
+    if row < 16 {
+        return Role::Setting(row);
+    }
+    if (19 <= row) & (row < 23) {
+        return Role::Order(deed_of(row));
+    }
     match row {
-        16 => Role::Question(Deed::Query(Query::Identity)),
-        17 => Role::Question(Deed::Query(Query::SelfTest)),
-        18 => Role::Question(Deed::Query(Query::Completed)),
-        19 => Role::Order(Deed::Change(Change::Nothing)),
-        20 => Role::Order(Deed::Complete),
-        21 => Role::Order(Deed::Change(Change::Reset)),
-        22 => Role::Order(Deed::Clear),
-        23 => Role::Register(Register::Ese),
-        24 => Role::Register(Register::Sre),
-        25 => Role::Question(Deed::Inquire(Inquiry::StandardEvents)),
-        26 => Role::Question(Deed::Inquire(Inquiry::StatusByte)),
-        27 => Role::Question(Deed::Query(Query::Condition)),
-        28 => Role::Question(Deed::Query(Query::OperationEvents)),
-        29 => Role::Register(Register::Enable),
-        30 => Role::Register(Register::Ntr),
-        31 => Role::Register(Register::Ptr),
-        32 => Role::Question(Deed::Inquire(Inquiry::NextError)),
-        _ => Role::Setting(row),
+        23 => return Role::Register(Register::Ese),
+        24 => return Role::Register(Register::Sre),
+        29 => return Role::Register(Register::Enable),
+        30 => return Role::Register(Register::Ntr),
+        31 => return Role::Register(Register::Ptr),
+        _ => return Role::Question(deed_of(row)),
     }
 }

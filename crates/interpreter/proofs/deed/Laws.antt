@@ -1,35 +1,70 @@
--- Laws of the rows' roles.
-use mathlib.Core.Path.{_≡_, sym, _∙_, ap}
-use mathlib.Core.List.{List, [], _∷_, _++_, map}
-use Prim.Native.Nat.{ℕ, zero, suc, _+_, _<_}
-use native.Mathlib.Nat.{add-zero, zero-add}
+-- Laws of the rows' roles, by computing them for all rows.
+use mathlib.Core.Path.{_≡_, refl}
+use mathlib.Core.Bool.{Bool, true, false, _&&_}
+use mathlib.Core.List.{List, [], _∷_}
+use Prim.Native.Nat.{ℕ, zero, suc, _<_}
 use native.Mathlib.Omega.{arith}
-use lib.ListN.{length, getD}
-use Rattle.registers.specs.Settings.{Setting, table}
-use Rattle.interpreter.specs.Rows.{Row, rows, settingRows}
-use Rattle.interpreter.specs.RowsParts.{roleAt}
+use lib.Dec.{leb, ltb, eqb}
+use borrow.Author.Tests.{eqb-true, eqb-false}
+use Rattle.registers.specs.Text.{if_then_else_}
+use Rattle.registers.specs.Settings.{table}
+use Rattle.registers.specs.declared.status.Register.the-variants.{Ese, Sre, Enable, Ntr, Ptr}
+use Rattle.interpreter.specs.Rows.{rows, settingRows, otherRows}
+use Rattle.interpreter.specs.RowsParts.{roleAt, deedIn}
+use Rattle.interpreter.specs.declared.deed.Deed.{Deed}
+use Rattle.interpreter.specs.declared.deed.Deed.the-variants.{Change, Complete, Clear, Query, Inquire}
+use Rattle.interpreter.specs.declared.deed.Change.the-variants.{Nothing, Reset}
+use Rattle.interpreter.specs.declared.deed.Query.the-variants.{Identity, SelfTest, Completed, Condition, OperationEvents}
+use Rattle.interpreter.specs.declared.deed.Inquiry.the-variants.{StandardEvents, StatusByte, NextError}
 use Rattle.interpreter.specs.declared.deed.Role.{Role}
-use Rattle.interpreter.specs.declared.deed.Role.the-variants.{Setting as setting}
+use Rattle.interpreter.specs.declared.deed.Role.the-variants.{Setting, Register, Order, Question}
 
-setting-in : (i : ℕ) (ss : List Setting) (others : List Row) (k : ℕ) (d : Role) → k < length ss
-    → getD (map (λ (r : Row). r .role) (settingRows i ss ++ others)) k d ≡ setting (i + k)
-unfolding settingRows
-setting-in i [] others k d h = absurd (omega arith)
-setting-in i (s ∷ ss) others zero d h = ap setting (sym (add-zero i))
-setting-in i (s ∷ ss) others (suc k) d h =
-    let n : suc i + k ≡ i + suc k = omega arith in
-    setting-in (suc i) ss others k d (omega arith) ∙ ap setting n
+-- two functions agree on the numbers below n, where their lists do
+unfoldable pub listed : {A : Type 0} → ℕ → (ℕ → A) → List A
+listed zero f = []
+listed (suc n) f = f n ∷ listed n f
 
--- the first sixteen rows are the settings, by their number
-pub setting-role : (row : ℕ) → row < 16 → roleAt row ≡ setting row
-unfolding roleAt rows table
-setting-role row h = setting-in 0 table _ row (setting row) h ∙ ap setting (zero-add row)
+pub agree : {A : Type 0} (n : ℕ) (f g : ℕ → A) → listed n f ≡ listed n g → (i : ℕ) → i < n → f i ≡ g i
+unfolding listed
+agree zero f g e i h = absurd (omega arith)
+agree (suc n) f g e i h = go (eqb i n) refl (agree n f g (cc) i)
+  where
+    go : (t : Bool) → eqb i n ≡ t → (i < n → f i ≡ g i) → f i ≡ g i
+    go true q ih = rw (eqb-true i n q) cc
+    go false q ih = ih (omega (arith, eqb-false i n q))
 
--- a row that is none of the n from 16 on
-abbrev pub NoneOf : ℕ → ℕ → Type 0
-NoneOf row zero = Unit {0}
-NoneOf row (suc n) = NoneOf row n × (row ≡ 16 + n → ⊥)
+-- the code's two tables
 
-pub below-all : (row n : ℕ) → row < 16 + n → NoneOf row n → row < 16
-below-all row zero h p = rw (add-zero 16) at h
-below-all row (suc n) h p = let ne = p .1 in below-all row n (omega arith) (p .0)
+abbrev pub roleTold : ℕ → Role
+roleTold i =
+    if ltb i 16 then Setting i
+    else if leb 19 i && ltb i 23 then Order (deedIn (roleAt i))
+    else if eqb i 23 then Register Ese
+    else if eqb i 24 then Register Sre
+    else if eqb i 29 then Register Enable
+    else if eqb i 30 then Register Ntr
+    else if eqb i 31 then Register Ptr
+    else Question (deedIn (roleAt i))
+
+pub role-told : (i : ℕ) → i < 33 → roleTold i ≡ roleAt i
+unfolding listed roleAt rows settingRows otherRows table if_then_else_
+role-told i h = agree 33 roleTold roleAt refl i h
+
+abbrev pub deedTold : ℕ → Deed
+deedTold i =
+    if eqb i 16 then Query Identity
+    else if eqb i 17 then Query SelfTest
+    else if eqb i 18 then Query Completed
+    else if eqb i 19 then Change Nothing
+    else if eqb i 20 then Complete
+    else if eqb i 21 then Change Reset
+    else if eqb i 22 then Clear
+    else if eqb i 25 then Inquire StandardEvents
+    else if eqb i 26 then Inquire StatusByte
+    else if eqb i 27 then Query Condition
+    else if eqb i 28 then Query OperationEvents
+    else Inquire NextError
+
+pub deed-told : (i : ℕ) → i < 33 → deedTold i ≡ deedIn (roleAt i)
+unfolding listed roleAt rows settingRows otherRows table if_then_else_
+deed-told i h = agree 33 deedTold (λ k. deedIn (roleAt k)) refl i h

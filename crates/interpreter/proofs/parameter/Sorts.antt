@@ -10,7 +10,7 @@ use lib.IntN.{ℤ, pos}
 use mir.Val.{boolByte}
 use types.Run.{OneOf, miss}
 use denote.Enum.Declared.{tagOf}
-use borrow.Author.Tests.{eqb-true, eqb-false, leb-true, ltb-true, ltb-false}
+use borrow.Author.Tests.{leb-true, ltb-true, ltb-false}
 use Rattle.registers.specs.Text.{if_then_else_}
 use Rattle.registers.specs.Number.{switchedOn}
 use Rattle.registers.specs.Rounding.{rounded}
@@ -27,22 +27,10 @@ use Rattle.interpreter.specs.Parameter.{Word, Figure, least, greatest, a
 use Rattle.interpreter.specs.ParameterParts.{TakesOf, isNumber}
 use Rattle.interpreter.specs.declared.deed.Role.{Role}
 use Rattle.interpreter.specs.declared.deed.Role.the-variants.{Setting, Register, Order, Question}
+use Rattle.interpreter.proofs.deed.Laws.{listed, agree}
 use Rattle.interpreter.proofs.deed.Role as roles
 
 -- ---- what two functions say of every row, by computing both for all sixteen
-
-listed : {A : Type 0} → ℕ → (ℕ → A) → List A
-listed zero f = []
-listed (suc n) f = f n ∷ listed n f
-
-agree : {A : Type 0} (n : ℕ) (f g : ℕ → A) → listed n f ≡ listed n g → (i : ℕ) → i < n → f i ≡ g i
-unfolding listed
-agree zero f g e i h = absurd (omega arith)
-agree (suc n) f g e i h = go (eqb i n) refl (agree n f g (cc) i)
-  where
-    go : (t : Bool) → eqb i n ≡ t → (i < n → f i ≡ g i) → f i ≡ g i
-    go true q ih = rw (eqb-true i n q) cc
-    go false q ih = ih (omega (arith, eqb-false i n q))
 
 -- a row behind the table counts as a bool
 kinds-agree : {A : Type 0} (f g : Kind → A) → listed 16 (λ i. f (kindOf i)) ≡ listed 16 (λ i. g (kindOf i)) → f bool ≡ g bool
