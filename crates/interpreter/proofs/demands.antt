@@ -1,5 +1,6 @@
 pub mod Pieces
 pub mod Limits
+pub mod Tenths
 pub mod ReadBack
 pub mod HeaderBytes
 pub mod SentUnit

@@ -1,27 +1,32 @@
--- Demand 2, the round trip: every answer is read back as the value that it stands for, by one computed test over every value
--- of every setting.
+-- Demand 2, the round trip: every answer is read back as the value that it stands for. For tenths that is a law, for all other
+-- settings one computed test over every value.
 use mathlib.Core.Path.{_≡_, refl, ap}
-use mathlib.Core.Bool.{Bool, true, false, not, _&&_, _||_, false≢true}
-use Prim.Native.Nat.{ℕ, suc, _+_, _<_}
+use mathlib.Core.Bool.{Bool, true, false, not, _&&_, false≢true}
+use Prim.Native.Nat.{ℕ, suc, _+_, _≤_, _<_}
 use Prim.Native.Char.{code}
 use native.Mathlib.Omega.{arith}
-use lib.Dec.{leb, eqb}
+use lib.Dec.{leb, ltb, eqb}
 use lib.ListN.{length}
 use lib.IntN.{ℤ, pos, negsuc, natAbs}
-use lib.Signed.{leZ, mag}
-use borrow.Author.Tests.{leb-true, le-leb, eqb-true}
+use lib.Signed.{leZ, nonNeg, pos-natAbs}
+use borrow.Author.Tests.{ltb-true, leb-true, le-leb, eqb-true, ne-eqb}
 use Rattle.registers.specs.Text.{Text, if_then_else_, bytes, same, white, printable, digit, letter, wordByte, small, capital, every, empty, below}
 use Rattle.registers.specs.Check.{Checked, refused, passed, check, _>>=_, _>>_}
 use Rattle.registers.specs.Words.{shortForm, longForm, matches}
 use Rattle.registers.specs.Number.{afterSign, fractionOf, afterFraction, exponentOf, afterExponent, lowering, written, numeralFrom, decimalOf, valueOf, remains, number as readNumber, switchedOn}
+use Rattle.registers.specs.NumberParts.{held}
 use Rattle.registers.specs.Rounding.{nearest, sizeIn, rounded}
-use Rattle.registers.specs.Answer.{inPlaces, decimal, tenths}
+use Rattle.registers.specs.Answer.{inPlaces, decimal, tenths, signedText}
 use Rattle.registers.specs.Settings.{Kind, bool, words, number, table, settingAt, kindOf, lowestOf, highestOf, voltage, twelveVolts, wideRange, lowest, highest, within, conflict, answerOf}
 use Rattle.registers.specs.declared.settings.Settings.{Settings}
-use Rattle.registers.proofs.Tests.{and-both, below-at}
-use Rattle.interpreter.specs.Parameter.{Given, Word, Figure, findWord, parameter, wordsOf, takesNumbers, valueGiven, settingDeed}
+use Rattle.registers.proofs.Tests.{holds, and-both, below-at}
+use Rattle.registers.proofs.text.Laws.{digit-bounds}
+use Rattle.registers.proofs.answer.Decimals.{tenths-length, signed-length}
+use Rattle.interpreter.specs.Parameter.{Given, Word, Figure, findWord, parameter, limitWords, wordsOf, takesNumbers, valueGiven, settingDeed}
 use Rattle.interpreter.specs.declared.deed.Deed.the-variants.{Change}
 use Rattle.interpreter.specs.declared.deed.Change.the-variants.{Put}
+use Rattle.interpreter.proofs.Choices.{if-elim}
+use Rattle.interpreter.proofs.demands.Tenths.{tenths-rounded, tenths-read, tenths-some, tenths-bytes}
 
 -- ---- the test
 
@@ -55,22 +60,27 @@ readsBack k v = readTo k v (parameter (wordsOf k) (takesNumbers k) (answerOf k v
 unfoldable inTable : Kind → ℤ → Bool
 inTable k v = leZ (lowestOf k) v && leZ v (highestOf k)
 
-unfoldable atValue : ℕ → ℕ → Bool
-atValue i n =
-    (not (inTable (kindOf i) (pos n)) || readsBack (kindOf i) (pos n))
-    && (not (inTable (kindOf i) (negsuc n)) || readsBack (kindOf i) (negsuc n))
-
 -- no value of the kind is larger in size
-unfoldable sizeOf : Kind → ℕ
-sizeOf k = suc (natAbs (highestOf k) + natAbs (lowestOf k))
+abbrev sizeOf : Kind → ℕ
+sizeOf k = natAbs (lowestOf k) + natAbs (highestOf k)
 
-all-read-back : below 16 (λ i. below (sizeOf (kindOf i)) (λ n. atValue i n)) ≡ true
-unfolding sizeOf atValue inTable readsBack plainText readTo gives sameZ if_then_else_ bytes same printable white digit letter wordByte small capital
+-- with no value below zero, these are all the values and maybe some more
+unfoldable tested : Kind → Bool
+tested k = nonNeg (lowestOf k) && below (suc (sizeOf k)) (λ n. readsBack k (pos n))
+
+-- tenths have a law of theirs, which asks for their size alone
+unfoldable covered : Kind → Bool
+covered bool = tested bool
+covered (words ws) = tested (words ws)
+covered (number k low high) = if eqb k 10 then ltb (sizeOf (number k low high)) held else tested (number k low high)
+
+all-covered : below 16 (λ i. covered (kindOf i)) ≡ true
+unfolding covered tested readsBack plainText readTo gives sameZ if_then_else_ bytes same printable white digit letter wordByte small capital
     _>>=_ _>>_ check shortForm longForm matches afterSign fractionOf afterFraction exponentOf afterExponent lowering written numeralFrom decimalOf
-    valueOf remains readNumber switchedOn nearest sizeIn rounded inPlaces decimal tenths table settingAt answerOf findWord parameter
-all-read-back = refl
+    valueOf remains readNumber switchedOn nearest sizeIn rounded inPlaces decimal table settingAt answerOf findWord parameter
+all-covered = refl
 
--- ---- the test as a law
+-- ---- the test and the law together
 
 sameZ-eq : (x y : ℤ) → sameZ x y ≡ true → x ≡ y
 unfolding sameZ
@@ -87,6 +97,11 @@ sameZ-eq (negsuc a) (negsuc b) t =
     let m = leb-true a b (p .1) in
     let e : a ≡ b = omega arith in ap negsuc e
 
+sameZ-same : (x : ℤ) → sameZ x x ≡ true
+unfolding sameZ
+sameZ-same (pos n) = rw (le-leb n n (omega arith))
+sameZ-same (negsuc n) = rw (le-leb n n (omega arith))
+
 gives-value : (s : Settings) (i : ℕ) (k : Kind) (v : ℤ) (g : Given) → gives k v g ≡ true → valueGiven s i k g ≡ v
 unfolding gives valueGiven
 gives-value s i bool v (Word n) t = sameZ-eq _ v t
@@ -96,30 +111,59 @@ gives-value s i (words ws) v (Figure d) t = absurd (false≢true t)
 gives-value s i (number k low high) v (Word n) t = absurd (false≢true t)
 gives-value s i (number k low high) v (Figure d) t = sameZ-eq _ v t
 
-implied : (a b : Bool) → (not a || b) ≡ true → a ≡ true → b ≡ true
-implied true b t h = t
-implied false b t h = absurd (false≢true h)
+in-size : (low high v : ℤ) → leZ low v ≡ true → leZ v high ≡ true → natAbs v ≤ natAbs low + natAbs high
+in-size low (pos h) (pos n) l t = let p = leb-true n h t in omega arith
+in-size low (negsuc h) (pos n) l t = absurd (false≢true t)
+in-size (negsuc l) high (negsuc n) t h = let p = leb-true n l t in omega arith
+in-size (pos l) high (negsuc n) t h = absurd (false≢true t)
 
-in-size : (low high v : ℤ) → (leZ low v && leZ v high) ≡ true → mag v < suc (natAbs high + natAbs low)
-in-size low (pos h) (pos n) t = let p = leb-true n h (and-both (leZ low (pos n)) (leb n h) t .1) in omega arith
-in-size low (negsuc h) (pos n) t = absurd (false≢true (and-both (leZ low (pos n)) false t .1))
-in-size (negsuc l) high (negsuc n) t = let p = leb-true n l (and-both (leb n l) (leZ (negsuc n) high) t .0) in omega arith
-in-size (pos l) high (negsuc n) t = absurd (false≢true t)
+from-zero : (low v : ℤ) → nonNeg low ≡ true → leZ low v ≡ true → nonNeg v ≡ true
+from-zero low (pos n) z l = refl
+from-zero (pos m) (negsuc n) z l = l
+from-zero (negsuc m) (negsuc n) z l = z
 
-reads-back : (i : ℕ) → i < 16 → (v : ℤ) → inTable (kindOf i) v ≡ true → readsBack (kindOf i) v ≡ true
-unfolding inTable atValue sizeOf
-reads-back i h v t = go v t
-  where
-    at : (n : ℕ) → n < sizeOf (kindOf i) → atValue i n ≡ true
-    at n l = below-at (sizeOf (kindOf i)) (λ n. atValue i n) (below-at 16 (λ i. below (sizeOf (kindOf i)) (λ n. atValue i n)) all-read-back i h) n l
+digit-plain : (b : ℕ) → digit b ≡ true → plainByte b ≡ true
+unfolding printable
+digit-plain b d =
+    let h = digit-bounds b (holds d) in
+    rw (le-leb 33 b (omega arith), le-leb b 126 (omega arith), ne-eqb b 44 (λ e. omega arith), ne-eqb b 59 (λ e. omega arith))
 
-    go : (v : ℤ) → inTable (kindOf i) v ≡ true → readsBack (kindOf i) v ≡ true
-    go (pos n) t =
-        implied _ _ (and-both (not (inTable (kindOf i) (pos n)) || readsBack (kindOf i) (pos n)) _
-        (at n (in-size (lowestOf (kindOf i)) (highestOf (kindOf i)) (pos n) t)) .0) t
-    go (negsuc n) t =
-        implied _ _ (and-both (not (inTable (kindOf i) (pos n)) || readsBack (kindOf i) (pos n)) _
-        (at n (in-size (lowestOf (kindOf i)) (highestOf (kindOf i)) (negsuc n) t)) .1) t
+module _ (k : Kind) (v : ℤ) (t : inTable k v ≡ true) where
+  limits : (leZ (lowestOf k) v ≡ true) × (leZ v (highestOf k) ≡ true)
+  unfolding inTable
+  limits = and-both (leZ (lowestOf k) v) (leZ v (highestOf k)) t
+
+  size-is : natAbs v ≤ sizeOf k
+  size-is = in-size (lowestOf k) (highestOf k) v (limits .0) (limits .1)
+
+  by-test : tested k ≡ true → readsBack k v ≡ true
+  unfolding tested
+  by-test c =
+      let p = and-both (nonNeg (lowestOf k)) _ c in
+      let e = pos-natAbs v (holds (from-zero (lowestOf k) v (p .0) (limits .0))) in
+      let l = size-is in
+      rw e at (below-at (suc (sizeOf k)) (λ n. readsBack k (pos n)) (p .1) (natAbs v) (omega arith))
+
+module _ (v : ℤ) (h : natAbs v < held) where
+  tenths-plain : plainText (signedText tenths v) ≡ true
+  unfolding plainText printable
+  tenths-plain =
+      let l = signed-length tenths 22 tenths-length v in
+      rw (tenths-some v, tenths-bytes plainByte refl refl digit-plain v h, le-leb (length (signedText tenths v)) 30 (omega arith))
+
+  by-law : (low high : ℤ) → readsBack (number 10 low high) v ≡ true
+  unfolding readsBack readTo gives answerOf if_then_else_
+  by-law low high = rw (tenths-read limitWords v h, tenths-rounded v, sameZ-same v) tenths-plain
+
+reads-back : (k : Kind) → covered k ≡ true → (v : ℤ) → inTable k v ≡ true → readsBack k v ≡ true
+unfolding covered
+reads-back bool c v t = by-test bool v t c
+reads-back (words ws) c v t = by-test (words ws) v t c
+reads-back (number k low high) c v t =
+    let row = number k low high in
+    if-elim (λ (b : Bool). b ≡ true → readsBack row v ≡ true) (eqb k 10)
+    (λ q c. let l = size-is row v t in let h = ltb-true (sizeOf row) held c in rw (eqb-true k 10 q) (by-law v (omega arith) low high))
+    (λ _ c. by-test row v t c) c
 
 read-deed : (s : Settings) (i : ℕ) (v : ℤ) (m : Checked Given) → readTo (kindOf i) v m ≡ true → within s i v ≡ true → conflict s i v ≡ false
     → (m >>= λ g. let x = valueGiven s i (kindOf i) g in check 222 (within s i x) >> check 221 (not (conflict s i x)) >> passed (Change (Put i x)))
@@ -149,7 +193,9 @@ module _ (s : Settings) (i : ℕ) (h : i < 16) (v : ℤ) (w : within s i v ≡ t
   both : (readTo (kindOf i) v (parameter (wordsOf (kindOf i)) (takesNumbers (kindOf i)) (answerOf (kindOf i) v)) ≡ true)
       × (plainText (answerOf (kindOf i) v) ≡ true)
   unfolding readsBack
-  both = and-both _ (plainText (answerOf (kindOf i) v)) (reads-back i h v (under-table s i v w))
+  both =
+      let c = below-at 16 (λ i. covered (kindOf i)) all-covered i h in
+      and-both _ (plainText (answerOf (kindOf i) v)) (reads-back (kindOf i) c v (under-table s i v w))
 
   pub answer-sets : conflict s i v ≡ false → settingDeed s i (answerOf (kindOf i) v) ≡ passed (Change (Put i v))
   unfolding settingDeed

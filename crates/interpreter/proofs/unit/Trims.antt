@@ -17,14 +17,14 @@ unfolding trimEnd if_then_else_
 white-more [] x h = rw h
 white-more (y ∷ l) x h = rw (white-more l x h)
 
-some-last : (l : Text) (x : ℕ) → empty (l ++ x ∷ []) ≡ false
-some-last [] x = refl
-some-last (y ∷ l) x = refl
+pub some-behind : (l : Text) (x : ℕ) (r : Text) → empty (l ++ x ∷ r) ≡ false
+some-behind [] x r = refl
+some-behind (y ∷ l) x r = refl
 
 dark-more : (l : Text) (x : ℕ) → white x ≡ false → trimEnd (l ++ x ∷ []) ≡ l ++ x ∷ []
 unfolding trimEnd if_then_else_
 dark-more [] x h = rw h
-dark-more (y ∷ l) x h = rw (dark-more l x h, and-fails (white y) (empty (l ++ x ∷ [])) (some-last l x))
+dark-more (y ∷ l) x h = rw (dark-more l x h, and-fails (white y) (empty (l ++ x ∷ [])) (some-behind l x []))
 
 -- what a text up to a place keeps, by the byte before that place
 module _ (l : Text) (e : ℕ) (pos : 0 < e) (h : e ≤ length l) where
