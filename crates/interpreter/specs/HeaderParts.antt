@@ -5,7 +5,7 @@ use mathlib.Core.List.{List, [], _∷_, _++_}
 use Prim.Native.Nat.{ℕ, _+_, _≤_}
 use lib.Dec.{eqb}
 use lib.ListN.{length, take, drop}
-use Rattle.registers.specs.Text.{Text, if_then_else_, letter, wordByte, empty, first, rest, start}
+use Rattle.registers.specs.Text.{Text, if_then_else_, letter, wordByte, empty, first, rest}
 use Rattle.registers.specs.Check.{Checked, refused, passed}
 use Rattle.registers.specs.Words.{must}
 use Rattle.interpreter.specs.Cuts.{last, front, cutAt}
@@ -52,22 +52,16 @@ placeOf true b = common
 placeOf false true = root
 placeOf false false = here
 
--- where the names begin
-abbrev pub namesAt : Bool → Bool → ℕ
-namesAt true b = 1
-namesAt false true = 1
-namesAt false false = 0
-
 -- ---- what each function finds
 
 unfoldable pub headed : Heading → Text → Bool → Checked Header
 headed h body q =
-    if h .good then passed (record { place = placeOf (h .star) (h .root); names = cutAt 58 (drop (namesAt (h .star) (h .root)) body); query = q }) else refused 102
+    if h .good then passed (record { place = placeOf (h .star) (h .root); names = cutAt 58 (drop (h .start) body); query = q }) else refused 102
 
 pub record HeadingRead (body : Text) (h : Heading) : Type 0 where
   pub is : (asked : Bool) → headerOf body asked ≡ headed h body asked
-  pub names : h .good ≡ well (not (h .star)) 2 (drop (namesAt (h .star) (h .root)) body)
-  pub within : namesAt (h .star) (h .root) ≤ length body
+  pub names : h .good ≡ well (not (h .star)) 2 (drop (h .start) body)
+  pub within : h .start ≤ length body
 
 -- what entering a header's names behind a path finds and leaves
 pub record EnteredAt (path names : Text) (asked : Bool) (r : Entered) (buffer : Text) : Type 0 where

@@ -60,14 +60,7 @@ fn hold(mut flow: Flow, line: &mut [u8; LINE], part: &[u8]) -> Flow
 }
 
 // A newline: a waiting answer is first discarded, and the line that was held is run.
-fn newline(
-    rows: &[u8],
-    words: &[u8],
-    flow: Flow,
-    path: &mut [u8; LINE],
-    line: &[u8; LINE],
-    out: &mut [u8; ANSWER],
-) -> Flow
+fn newline(rows: &[u8], words: &[u8], flow: Flow, line: &[u8; LINE], out: &mut [u8; ANSWER]) -> Flow
     requires { ⌜ (now rows ≡ rowTable) × (now words ≡ wordTable) ⌝ }
     requires { ⌜ FlowFits flow × (flow .count < 2 ^ 63) ⌝ }
     ensures { λ r. ⌜ FlowFed flow (now (line .entry)) (now (out .entry)) (10 ∷ []) r (now (line .entry)) (now (out .exit)) ⌝ }
@@ -75,15 +68,7 @@ fn newline(
     let filled = flow.filled;
     let bytes: &[u8] = line;
     let present = line::discard(flow.present, flow.waiting);
-    let ran = line::run_line(
-        rows,
-        words,
-        present,
-        path,
-        &bytes[0..filled],
-        flow.overlong,
-        out,
-    );
+    let ran = line::run_line(rows, words, present, &bytes[0..filled], flow.overlong, out);
     let next = ran.present;
     Flow {
         present: next,
@@ -99,7 +84,6 @@ pub(crate) fn feed_line(
     rows: &[u8],
     words: &[u8],
     flow: Flow,
-    path: &mut [u8; LINE],
     line: &mut [u8; LINE],
     out: &mut [u8; ANSWER],
     bytes: &[u8],
@@ -112,18 +96,13 @@ pub(crate) fn feed_line(
 {
     let n = bytes.len();
     let end = bytes::scan::find(bytes, at, n, 10);
-    let held = hold(flow, line, &bytes[at..end]);
-    if end == n {
-        return Advance {
-            flow: held,
-            next: end,
-        };
+    let mut flow = hold(flow, line, &bytes[at..end]);
+    let mut next = end;
+    if end < n {
+        flow = newline(rows, words, flow, line, out);
+        next += 1;
     }
-    let next = newline(rows, words, held, path, line, out);
-    Advance {
-        flow: next,
-        next: end + 1,
-    }
+    Advance { flow, next }
 }
 
 // Takes bytes in, line by line, with the line and the answer in place.
@@ -131,7 +110,6 @@ pub(crate) fn feed(
     rows: &[u8],
     words: &[u8],
     start: Flow,
-    path: &mut [u8; LINE],
     line: &mut [u8; LINE],
     out: &mut [u8; ANSWER],
     bytes: &[u8],
@@ -143,7 +121,7 @@ pub(crate) fn feed(
     let mut flow = start;
     let mut at: usize = 0;
     while at < bytes.len() {
-        let fed = feed_line(rows, words, flow, path, line, out, bytes, at);
+        let fed = feed_line(rows, words, flow, line, out, bytes, at);
         flow = fed.flow;
         at = fed.next;
     }

@@ -13,9 +13,10 @@ ghost use Rattle.interpreter.specs.Header.{asks};
 ghost use Rattle.interpreter.specs.RowsParts.{rowTable, wordTable};
 ghost use Rattle.interpreter.specs.HeaderParts.{closed, pathOf, nameByte, well, bodyOf, HeadingRead, EnteredAt, LookedUp};
 
-// A header's grammar, and how it starts.
+// A header's grammar, where its names start, and what leads them.
 struct Heading {
     good: bool,
+    start: usize,
     star: bool,
     root: bool,
 }
@@ -88,27 +89,14 @@ fn read_body(body: &[u8]) -> Heading
     ensures { λ r. ⌜ HeadingRead (now (body .entry)) r ⌝ }
 {
     let b = text::byte_at(body, 0);
-    if b == 42 {
-        let good = well_named(&body[1..], false);
-        return Heading {
-            good,
-            star: true,
-            root: false,
-        };
-    }
-    if b == 58 {
-        let good = well_named(&body[1..], true);
-        return Heading {
-            good,
-            star: false,
-            root: true,
-        };
-    }
-    let good = well_named(body, true);
+    let star = b == 42;
+    let root = b == 58;
+    let start = (star | root) as usize;
     Heading {
-        good,
-        star: false,
-        root: false,
+        good: well_named(&body[start..], !star),
+        start,
+        star,
+        root,
     }
 }
 
@@ -166,19 +154,14 @@ pub(crate) fn look_up(
     if !h.good {
         return Looked::Bad;
     }
+    let start = h.start;
+    let names = &body[start..];
     if h.star {
-        let row = rows::find(rows, words, &body[1..], true, asked);
+        let row = rows::find(rows, words, names, true, asked);
         return Looked::At { row, used, asked };
     }
-    if h.root {
-        let r = enter(rows, words, path, 0, &body[1..], asked);
-        return Looked::At {
-            row: r.row,
-            used: r.used,
-            asked,
-        };
-    }
-    let r = enter(rows, words, path, used, body, asked);
+    let from = if h.root { 0 } else { used };
+    let r = enter(rows, words, path, from, names, asked);
     Looked::At {
         row: r.row,
         used: r.used,

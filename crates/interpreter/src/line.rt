@@ -84,15 +84,9 @@ fn run_unit(
     }
 }
 
-// The units of a line, which is cut at every `;`, up to the first that is refused. It starts at the root: no path.
-fn run_units(
-    rows: &[u8],
-    words: &[u8],
-    present: Present,
-    path: &mut [u8; LINE],
-    line: &[u8],
-    out: &mut [u8],
-) -> Ran
+// The units of a line, which is cut at every `;`, up to the first that is refused. The path lives as long as
+// its line: it starts at the root, and is gone at the newline.
+fn run_units(rows: &[u8], words: &[u8], present: Present, line: &[u8], out: &mut [u8]) -> Ran
     requires { ⌜ (now rows ≡ rowTable) × (now words ≡ wordTable) ⌝ }
     requires { ⌜ (length (now line) ≤ mostLine) × (length (now out) ≡ mostAnswer) × (present .status .queued ≤ most) ⌝ }
     ensures { λ r. ⌜ UnitsRan present (now (line .entry)) r (now (out .exit)) ⌝ }
@@ -103,10 +97,11 @@ fn run_units(
         used: 0,
         obeyed: true,
     };
+    let mut path = [0u8; LINE];
     let mut at: usize = 0;
     loop {
         let end = bytes::scan::find(line, at, line.len(), 59);
-        done = run_unit(rows, words, done, path, &line[at..end], out);
+        done = run_unit(rows, words, done, &mut path, &line[at..end], out);
         let more = done.obeyed & (end < line.len());
         if !more {
             let next = done.present;
@@ -124,7 +119,6 @@ pub(crate) fn run_line(
     rows: &[u8],
     words: &[u8],
     present: Present,
-    path: &mut [u8; LINE],
     line: &[u8],
     overlong: bool,
     out: &mut [u8],
@@ -146,7 +140,7 @@ pub(crate) fn run_line(
             answered: 0,
         };
     }
-    let mut ran = run_units(rows, words, present, path, line, out);
+    let mut ran = run_units(rows, words, present, line, out);
     let answered = ran.answered;
     if answered == 0 {
         return ran;

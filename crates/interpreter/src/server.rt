@@ -34,7 +34,6 @@ fn lines(
     rows: &[u8],
     words: &[u8],
     start: Flow,
-    path: &mut [u8; LINE],
     line: &mut [u8; LINE],
     out: &mut [u8; ANSWER],
     input: &[u8],
@@ -48,7 +47,7 @@ fn lines(
     let mut read: usize = 0;
     let mut written: usize = 0;
     while (read < input.len()) & (ANSWER <= output.len() - written) {
-        let fed = flow::feed_line(rows, words, flow, path, line, out, input, read);
+        let fed = flow::feed_line(rows, words, flow, line, out, input, read);
         flow = fed.flow;
         read = fed.next;
         written = flow::paste(out, flow.waiting, output, written);
@@ -81,7 +80,6 @@ pub fn serve(state: State, input: &[u8], output: &mut [u8]) -> Served
         &tables::rows(),
         &tables::words(),
         state::flow_of(state),
-        &mut [0u8; LINE],
         &mut line,
         &mut answer,
         input,

@@ -156,7 +156,6 @@ impl State {
             &tables::rows(),
             &tables::words(),
             flow_of(self),
-            &mut [0u8; LINE],
             &mut line,
             &mut answer,
             bytes,

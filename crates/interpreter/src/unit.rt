@@ -6,6 +6,7 @@ use crate::header::Looked;
 use crate::parameter;
 use crate::parameter::Decision;
 use crate::rows;
+use crate::state::LINE;
 use registers::error::Error;
 use registers::settings::Settings;
 use registers::text;
@@ -14,6 +15,7 @@ ghost use mathlib.Core.Bool.{true, _||_};
 ghost use Prim.Native.Nat.{_+_, _≤_};
 ghost use lib.ListN.{length, take, drop};
 ghost use Rattle.registers.specs.Text.{every, white, printable};
+ghost use Rattle.interpreter.specs.Box.{mostLine};
 ghost use Rattle.interpreter.specs.Cuts.{trim, trimEnd};
 ghost use Rattle.interpreter.specs.RowsParts.{rowTable, wordTable};
 ghost use Rattle.interpreter.specs.HeaderParts.{closed};
@@ -112,12 +114,12 @@ pub(crate) fn read(
     rows: &[u8],
     words: &[u8],
     settings: Settings,
-    path: &mut [u8],
+    path: &mut [u8; LINE],
     used: usize,
     unit: &[u8],
 ) -> Reading
     requires { ⌜ (now rows ≡ rowTable) × (now words ≡ wordTable) ⌝ }
-    requires { ⌜ (used + length (now unit) ≤ length (now path)) × (closed (take used (now path)) ≡ true) ⌝ }
+    requires { ⌜ (used + length (now unit) ≤ mostLine) × (closed (take used (now path)) ≡ true) ⌝ }
     ensures { λ r. ⌜ UnitRead settings (take used (now (path .entry))) (now (unit .entry)) r (now (path .exit)) ⌝ }
 {
     if !all_allowed(unit) {

@@ -81,16 +81,16 @@ module _ (bytes : Text) (at end : ℕ) (is : end ≡ at + indexOf 10 (slice at (
   pub part-plain : newlines (take (end - at) (drop at bytes)) ≡ 0
   part-plain = rw here (none-before (drop at bytes))
 
-  pub line-open : end ≡ length bytes → firstLine (drop at bytes) ≡ take (end - at) (drop at bytes)
+  pub line-open : length bytes ≤ end → firstLine (drop at bytes) ≡ take (end - at) (drop at bytes)
   unfolding firstLine
   line-open e =
       let d = length-drop at bytes in
       let p = here in
       take-all (indexOf 10 (drop at bytes) + 1) (drop at bytes) (omega arith) ∙ sym (take-all (end - at) (drop at bytes) (omega arith))
 
-  pub line-ended : (end ≡ length bytes → ⊥) → firstLine (drop at bytes) ≡ take (end - at) (drop at bytes) ++ 10 ∷ []
+  pub line-ended : end < length bytes → firstLine (drop at bytes) ≡ take (end - at) (drop at bytes) ++ 10 ∷ []
   unfolding firstLine
-  line-ended ne =
+  line-ended more =
       let d = length-drop at bytes in
       let p = here in
       let h : indexOf 10 (drop at bytes) < length (drop at bytes) = omega arith in

@@ -1,6 +1,6 @@
 -- Laws of a header's grammar: one state for each byte against names cut at colons, and the `?` at the end.
 use mathlib.Core.Path.{_≡_, refl, sym, _∙_, ap}
-use mathlib.Core.Bool.{Bool, true, false, not, _&&_, false≢true}
+use mathlib.Core.Bool.{Bool, true, false, not, _&&_, _||_, false≢true}
 use mathlib.Core.List.{List, [], _∷_}
 use Prim.Native.Nat.{ℕ, suc, _+_, _-_, _≤_, _<_}
 use native.Mathlib.Numerals.{add-one}
@@ -8,7 +8,8 @@ use native.Mathlib.Omega.{arith}
 use lib.Dec.{eqb}
 use lib.ListN.{length, getD, take, drop, drop-of-length-le}
 use lib.Seq.{drop-cons, take-all}
-use borrow.Author.Tests.{eq-eqb, ne-eqb, eqb-true}
+use borrow.Author.Tests.{eq-eqb, ne-eqb, eqb-true, eqb-false}
+use mir.Val.{boolByte}
 use Rattle.registers.specs.Text.{Text, if_then_else_, letter, small, digit, wordByte, every, first}
 use Rattle.registers.specs.Check.{Checked, refused, passed, check, _>>_}
 use Rattle.registers.proofs.Tests.{and-both, and-assoc}
@@ -157,14 +158,14 @@ same-checks h false false k = refl
 same-checks h true false k = absurd (false≢true (sym k))
 same-checks h false true k = absurd (false≢true k)
 
-abbrev heading : Bool → Bool → Bool → Heading
-heading g s r = record { good = g; star = s; root = r }
+abbrev heading : Bool → ℕ → Bool → Bool → Heading
+heading g n s r = record { good = g; start = n; star = s; root = r }
 
 module _ (body : Text) (good asked : Bool) where
   abbrev made : Place → List Text → Header
   made p names = record { place = p; names = names; query = asked }
 
-  head-star : first body ≡ 42 → good ≡ well false 2 (drop 1 body) → headerOf body asked ≡ headed (heading good true false) body asked
+  head-star : first body ≡ 42 → good ≡ well false 2 (drop 1 body) → headerOf body asked ≡ headed (heading good 1 true false) body asked
   unfolding headerOf headed placed if_then_else_
   head-star e q =
       rw (e, rest-drop body, and-end (name (drop 1 body)))
@@ -175,21 +176,21 @@ module _ (body : Text) (good asked : Bool) where
       go true k = rw (name-uncut (drop 1 body) (sym (one-name (drop 1 body)) ∙ sym q ∙ k))
       go false k = refl
 
-  head-root : first body ≡ 58 → good ≡ well true 2 (drop 1 body) → headerOf body asked ≡ headed (heading good false true) body asked
+  head-root : first body ≡ 58 → good ≡ well true 2 (drop 1 body) → headerOf body asked ≡ headed (heading good 1 false true) body asked
   unfolding headerOf headed placed if_then_else_
   head-root e q =
       let names = cutAt 58 (drop 1 body) in
       rw (e, rest-drop body) (same-checks (made root names) good (every name names) (q ∙ joined-names (drop 1 body)))
 
   head-here : (first body ≡ 42 → ⊥) → (first body ≡ 58 → ⊥) → good ≡ well true 2 body
-      → headerOf body asked ≡ headed (heading good false false) body asked
+      → headerOf body asked ≡ headed (heading good 0 false false) body asked
   unfolding headerOf headed placed if_then_else_
   head-here n m q =
       let names = cutAt 58 body in
       rw (ne-eqb (first body) 42 n, ne-eqb (first body) 58 m)
       (same-checks (made here names) good (every name names) (q ∙ joined-names body))
 
-pub first-some : (t : Text) (b : ℕ) → first t ≡ suc b → 1 ≤ length t
+first-some : (t : Text) (b : ℕ) → first t ≡ suc b → 1 ≤ length t
 first-some [] b e = absurd (omega arith)
 first-some (x ∷ t) b e = omega arith
 
@@ -197,20 +198,46 @@ module _ (body : Text) (good : Bool) where
   abbrev behind : Text
   behind = take (length body - 1) (drop 1 body)
 
-  pub read-star : first body ≡ 42 → good ≡ well false 2 behind → HeadingRead body (heading good true false)
+  read-star : first body ≡ 42 → good ≡ well false 2 behind → HeadingRead body (heading good 1 true false)
   read-star e q =
       let some = first-some body 41 e in
       let w = q ∙ ap (well false 2) (rest-is body 1 some) in
       record { is = λ asked. head-star body good asked e w; names = w; within = some }
 
-  pub read-root : first body ≡ 58 → good ≡ well true 2 behind → HeadingRead body (heading good false true)
+  read-root : first body ≡ 58 → good ≡ well true 2 behind → HeadingRead body (heading good 1 false true)
   read-root e q =
       let some = first-some body 57 e in
       let w = q ∙ ap (well true 2) (rest-is body 1 some) in
       record { is = λ asked. head-root body good asked e w; names = w; within = some }
 
-  pub read-here : (first body ≡ 42 → ⊥) → (first body ≡ 58 → ⊥) → good ≡ well true 2 body → HeadingRead body (heading good false false)
+  read-here : (first body ≡ 42 → ⊥) → (first body ≡ 58 → ⊥) → good ≡ well true 2 body → HeadingRead body (heading good 0 false false)
   read-here n m q = record { is = λ asked. head-here body good asked n m q; names = q; within = omega arith }
+
+-- the names begin behind a star or a colon
+abbrev behindLead : Bool → Bool → ℕ
+behindLead s r = boolByte (s || r)
+
+module _ (body : Text) (b : ℕ) (is : b ≡ first body) where
+  pub lead-within : behindLead (eqb b 42) (eqb b 58) ≤ length body
+  lead-within = go (eqb b 42) (eqb b 58) refl refl
+    where
+      go : (s r : Bool) → eqb b 42 ≡ s → eqb b 58 ≡ r → behindLead s r ≤ length body
+      go true r e f = first-some body 41 (sym is ∙ eqb-true b 42 e)
+      go false true e f = first-some body 57 (sym is ∙ eqb-true b 58 f)
+      go false false e f = omega arith
+
+  pub read-heading : (good : Bool) → let n = behindLead (eqb b 42) (eqb b 58) in
+      good ≡ well (not (eqb b 42)) 2 (take (length body - n) (drop n body)) → HeadingRead body (heading good n (eqb b 42) (eqb b 58))
+  read-heading good = go (eqb b 42) (eqb b 58) refl refl
+    where
+      go : (s r : Bool) → eqb b 42 ≡ s → eqb b 58 ≡ r → let n = behindLead s r in
+          good ≡ well (not s) 2 (take (length body - n) (drop n body)) → HeadingRead body (heading good n s r)
+      go true true e f q = absurd (let x = eqb-true b 42 e in let y = eqb-true b 58 f in omega arith)
+      go true false e f q = read-star body good (sym is ∙ eqb-true b 42 e) q
+      go false true e f q = read-root body good (sym is ∙ eqb-true b 58 f) q
+      go false false e f q =
+          read-here body good (λ k. eqb-false b 42 e (is ∙ k)) (λ k. eqb-false b 58 f (is ∙ k))
+          (q ∙ ap (well true 2) (rest-is body 0 (omega arith)))
 
 -- ---- the `?` at the end
 

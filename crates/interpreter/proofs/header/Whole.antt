@@ -12,7 +12,7 @@ use Rattle.registers.specs.Check.{refused, passed}
 use Rattle.interpreter.specs.Cuts.{cutAt}
 use Rattle.interpreter.specs.Header.{Header, header, asks}
 use Rattle.interpreter.specs.RowsParts.{rowOf, named}
-use Rattle.interpreter.specs.HeaderParts.{closed, bodyOf, well, headerOf, headed, placeOf, namesAt, HeadingRead, EnteredAt, LookedUp}
+use Rattle.interpreter.specs.HeaderParts.{closed, bodyOf, well, headerOf, headed, placeOf, HeadingRead, EnteredAt, LookedUp}
 use Rattle.interpreter.specs.declared.header.Heading.{Heading}
 use Rattle.interpreter.specs.declared.header.Entered.{Entered}
 use Rattle.interpreter.specs.declared.header.Looked.the-variants.{At}
@@ -47,47 +47,41 @@ module _ {t b : Text} {asked : Bool} {h : Heading} (r : Read t b asked h) where
   unfolding headed if_then_else_
   look-bad e = whole ∙ rw e
 
-  pub star-some : h .star ≡ true → 1 ≤ length b
-  star-some e = rw e at (r .heading .within)
-
-  pub root-some : h .star ≡ false → h .root ≡ true → 1 ≤ length b
-  root-some e f = rw (e, f) at (r .heading .within)
-
-  -- the names of a header that leads with a byte
+  -- the names where they stand
   abbrev names : Text
-  names = take (length b - 1) (drop 1 b)
+  names = take (length b - h .start) (drop (h .start) b)
+
+  whole-names : names ≡ drop (h .start) b
+  whole-names = rest-is b (h .start) (r .heading .within)
 
   pub names-fit : length names ≤ length t
-  names-fit = let a = length-take (length b - 1) (drop 1 b) in let d = length-drop 1 b in let l = r .fits in omega arith
+  names-fit = let a = length-take (length b - h .start) (drop (h .start) b) in let d = length-drop (h .start) b in let l = r .fits in omega arith
 
   module _ (good : h .good ≡ true) where
     abbrev read : Header
-    read = record { place = placeOf (h .star) (h .root); names = cutAt 58 (drop (namesAt (h .star) (h .root)) b); query = asked }
+    read = record { place = placeOf (h .star) (h .root); names = cutAt 58 (drop (h .start) b); query = asked }
 
     read-is : header t ≡ passed read
     unfolding headed if_then_else_
     read-is = whole ∙ rw good
 
-    names-well : well (not (h .star)) 2 (drop (namesAt (h .star) (h .root)) b) ≡ true
+    names-well : well (not (h .star)) 2 (drop (h .start) b) ≡ true
     names-well = sym (r .heading .names) ∙ good
 
-    pub root-well : h .star ≡ false → h .root ≡ true → well true 2 names ≡ true
-    root-well e f = rw (rest-is b 1 (root-some e f)) (rw (e, f) at names-well)
+    pub joined-well : h .star ≡ false → well true 2 names ≡ true
+    joined-well e = rw whole-names (rw e at names-well)
 
-    pub here-well : h .star ≡ false → h .root ≡ false → well true 2 b ≡ true
-    here-well e f = rw (e, f) at names-well
-
-    star-names : h .star ≡ true → named (drop 1 b) ≡ cutAt 58 (drop 1 b)
+    star-names : h .star ≡ true → named (drop (h .start) b) ≡ cutAt 58 (drop (h .start) b)
     star-names e =
-        let w : well false 2 (drop 1 b) ≡ true = rw e at names-well in
-        let n = sym (one-name (drop 1 b)) ∙ w in
-        own-names (drop 1 b) (joined-names (drop 1 b) ∙ rw (name-uncut (drop 1 b) n, n))
+        let w : well false 2 (drop (h .start) b) ≡ true = rw e at names-well in
+        let n = sym (one-name (drop (h .start) b)) ∙ w in
+        own-names (drop (h .start) b) (joined-names (drop (h .start) b) ∙ rw (name-uncut (drop (h .start) b) n, n))
 
     module _ (p buffer : Text) where
       pub look-star : h .star ≡ true → (row used : ℕ) → row ≡ rowOf true (named names) asked
           → take used buffer ≡ p → closed p ≡ true → used ≤ length p → LookedUp p t (At row used asked) buffer
       look-star e row used f left shut l =
-          let ns = ap named (rest-is b 1 (star-some e)) ∙ star-names e in
+          let ns = ap named whole-names ∙ star-names e in
           let found = f ∙ ap (λ (n : List Text). rowOf true n asked) ns in (
             read,
             read-is,
@@ -97,7 +91,7 @@ module _ {t b : Text} {asked : Bool} {h : Heading} (r : Read t b asked h) where
       pub look-root : h .star ≡ false → h .root ≡ true → (x : Entered) → EnteredAt [] names asked x buffer
           → LookedUp p t (At (x .row) (x .used) asked) buffer
       look-root e f x m =
-          let y = rw (rest-is b 1 (root-some e f)) at m in (
+          let y = rw whole-names at m in (
             read,
             read-is,
             record {
@@ -109,16 +103,17 @@ module _ {t b : Text} {asked : Bool} {h : Heading} (r : Read t b asked h) where
             },
           )
 
-      pub look-here : h .star ≡ false → h .root ≡ false → (x : Entered) → EnteredAt p b asked x buffer
+      pub look-here : h .star ≡ false → h .root ≡ false → (x : Entered) → EnteredAt p names asked x buffer
           → LookedUp p t (At (x .row) (x .used) asked) buffer
-      look-here e f x m = (
-        read,
-        read-is,
-        record {
-          query = refl;
-          at = rw (e, f) (m .row);
-          left = rw (e, f) (m .left);
-          shut = m .shut;
-          short = let k = m .room in let l = r .fits in omega arith;
-        },
-      )
+      look-here e f x m =
+          let y = rw whole-names at m in (
+            read,
+            read-is,
+            record {
+              query = refl;
+              at = rw (e, f) (y .row);
+              left = rw (e, f) (y .left);
+              shut = m .shut;
+              short = let k = m .room in let l = names-fit in omega arith;
+            },
+          )

@@ -4,7 +4,6 @@ use native.Mathlib.Omega.{arith}
 use native.Mathlib.Nat.{sub-zero}
 use lib.ListN.{length, take, length-take}
 use Rattle.registers.specs.Text.{if_then_else_}
-use Rattle.registers.specs.Errors as errors
 use Rattle.interpreter.specs.Line.{byte, piece, newlines}
 use Rattle.interpreter.proofs.line.Newline.{ended}
 use borrow.Author.Needs.{needs}
@@ -25,23 +24,23 @@ part-run-line-end c = search needs
 
 run-line-requires : tie.Need-run-line-requires
 run-line-requires c κs =
-    let p = c .before .before .before .before .before .before .before .pre in
+    let p = c .before .before .before .before .before .before .pre in
     let held = p .1 .0 .filled in
-    let g = c .run-line-arg3 .given in
-    (p .0, (rw (sub-zero, length-take) (omega arith), search needs, c .before .before .before .discard .ensures .queued (p .1 .0 .queued)))
+    let g = c .run-line-arg2 .given in
+    (p .0, (rw (sub-zero, length-take) (omega arith), search needs, c .before .before .discard .ensures .queued (p .1 .0 .queued)))
 
-add-t15 : tie.Need-add-t15
-add-t15 c = search needs
+add-t13 : tie.Need-add-t13
+add-t13 c = search needs
 
 returns : tie.Need-returns
 unfolding piece byte newlines if_then_else_
 returns c =
-    let a = c .before .before .before .before .before .before .before .before .before .before .args in
+    let a = c .before .before .before .before .before .before .before .before .before .args in
     let f = a .flow in
-    let g = c .before .before .before .run-line-arg3 .given in
+    let g = c .before .before .before .run-line-arg2 .given in
     let outs : length (a .out .now) ≡ 1024 = search needs in
     let room : 0 < length (a .out .now) = omega arith in
-    let d = c .before .before .before .before .before .before .discard in
+    let d = c .before .before .before .before .before .discard in
     let w = c .before .before .run-line .ensures in
     record {
       fits = record { filled = zero-le; waiting = w .room; queued = w .queued };
@@ -58,5 +57,5 @@ newline-spec =
     part-run-line-start
     part-run-line-end
     run-line-requires
-    add-t15
+    add-t13
     returns)

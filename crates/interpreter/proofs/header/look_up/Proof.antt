@@ -1,4 +1,5 @@
 use mathlib.Core.Path.{refl}
+use mathlib.Core.Logic.{⊎-elim}
 use Prim.Native.Nat.{_-_}
 use native.Mathlib.Omega.{arith}
 use lib.Dec.{ltb}
@@ -6,7 +7,7 @@ use lib.ListN.{length, take, length-take}
 use borrow.Author.Tests.{not-true, not-false}
 use borrow.Author.Needs.{needs}
 use Rattle.interpreter.proofs.header.Laws.{closed-nil}
-use Rattle.interpreter.proofs.header.Whole.{Read, read-body, look-bad, star-some, root-some, names-fit, root-well, here-well, look-star, look-root, look-here}
+use Rattle.interpreter.proofs.header.Whole.{Read, read-body, look-bad, names-fit, joined-well, look-star, look-root, look-here}
 use Rattle.interpreter.proofs.header.look_up.Statement.{statement}
 use Rattle.interpreter.proofs.header.look_up.Tie as tie
 
@@ -38,47 +39,40 @@ read-body-requires c κs = search needs
 returns : tie.Need-returns
 returns c = look-bad (read (c .before .before)) (not-true _ (c .if1 .taken))
 
-sub-find : tie.Need-sub-find
-sub-find c = star-some (read (c .before .before .before)) (c .if2 .taken)
+sub-names : tie.Need-sub-names
+sub-names c = read (c .before .before) .heading .within
 
-part-find-start : tie.Need-part-find-start
-part-find-start c = sub-find c
+part-names-start : tie.Need-part-names-start
+part-names-start c = sub-names c
 
-part-find-end : tie.Need-part-find-end
-part-find-end c = search needs
+part-names-end : tie.Need-part-names-end
+part-names-end c = search needs
 
 find-requires : tie.Need-find-requires
 find-requires c κs = search needs
 
 returns-2 : tie.Need-returns-2
 returns-2 c =
-    let i = c .before .before in
-    let r = i .before .before .before in
+    let r = c .before .before .before .before .before in
     let o = r .before .before .before .before .before .before .before in
     let xs = o .args .path .now in
     let used = o .args .used in
     let l = length-take used xs in
-    look-star (read r) (not-false _ (i .before .if1 .left)) (take used xs) xs (i .if2 .taken) (c .find .result) used (c .find .ensures)
-    refl (o .pre .1 .1) (omega arith)
+    look-star (read r) (not-false _ (c .before .before .before .if1 .left)) (take used xs) xs (c .before .if2 .taken) (c .find .result) used
+    (c .find .ensures) refl (o .pre .1 .1) (omega arith)
 
-sub-enter : tie.Need-sub-enter
-sub-enter c = root-some (read (c .before .before .before .before .before)) (c .before .before .if2 .left) (c .before .if3 .taken)
-
-part-enter-start : tie.Need-part-enter-start
-part-enter-start c = sub-enter c
-
-part-enter-end : tie.Need-part-enter-end
-part-enter-end c = search needs
-
+-- the path that a header is entered behind: none at the root
 enter-requires : tie.Need-enter-requires
 enter-requires c κs =
-    let i = c .before .before in
-    let r = i .before .before .before .before in
+    let r = c .before .before .before .before .before .before in
     let o = r .before .before .before .before .before .before .before in
-    let w = root-well (read r) (not-false _ (i .before .before .if1 .left)) (i .before .if2 .left) (i .if3 .taken) in
+    let w = joined-well (read r) (not-false _ (c .before .before .before .before .if1 .left)) (c .before .before .if2 .left) in
     let l = names-fit (read r) in
     let p = o .pre .1 .0 in
-    (o .pre .0, (omega arith, (search (needs, closed-nil), w)))
+    ⊎-elim
+    (λ k. rw (k .1) (o .pre .0, (omega arith, (search (needs, closed-nil), w))))
+    (λ k. rw (k .1) (o .pre .0, (omega arith, (o .pre .1 .1, w))))
+    (c .before .if3 .came)
 
 same-length : tie.Need-same-length
 same-length c = search needs
@@ -86,33 +80,16 @@ same-length c = search needs
 returns-3 : tie.Need-returns-3
 returns-3 c =
     let e = c .before .before .enter in
-    let i = c .before .before .before .before .before in
-    let r = i .before .before .before .before in
-    let a = r .before .before .before .before .before .before .before .args in
-    let g = not-false _ (i .before .before .if1 .left) in
-    look-root (read r) g (take (a .used) (a .path .now)) _ (i .before .if2 .left) (i .if3 .taken) (e .result) (e .ensures)
-
-enter-requires-2 : tie.Need-enter-requires-2
-enter-requires-2 c κs =
-    let i = c .before in
-    let r = i .before .before .before .before in
-    let o = r .before .before .before .before .before .before .before in
-    let w = here-well (read r) (not-false _ (i .before .before .if1 .left)) (i .before .if2 .left) (i .if3 .left) in
-    let l = read r .fits in
-    let p = o .pre .1 .0 in
-    (o .pre .0, (omega arith, (o .pre .1 .1, w)))
-
-same-length-2 : tie.Need-same-length-2
-same-length-2 c = search needs
-
-returns-4 : tie.Need-returns-4
-returns-4 c =
-    let e = c .before .before .enter2 in
     let i = c .before .before .before .before in
-    let r = i .before .before .before .before in
+    let r = i .before .before .before .before .before in
     let a = r .before .before .before .before .before .before .before .args in
-    let g = not-false _ (i .before .before .if1 .left) in
-    look-here (read r) g (take (a .used) (a .path .now)) _ (i .before .if2 .left) (i .if3 .left) (e .result) (e .ensures)
+    let g = not-false _ (i .before .before .before .if1 .left) in
+    let joined = i .before .if2 .left in
+    let path = take (a .used) (a .path .now) in
+    ⊎-elim
+    (λ k. look-root (read r) g path _ joined (k .0 .taken) (e .result) (rw (k .1) at (e .ensures)))
+    (λ k. look-here (read r) g path _ joined (k .0 .left) (e .result) (rw (k .1) at (e .ensures)))
+    (i .if3 .came)
 
 pub look-up-spec : {M : Type 1} → statement M
 look-up-spec =
@@ -124,17 +101,11 @@ look-up-spec =
     part-body-end
     read-body-requires
     returns
-    sub-find
-    part-find-start
-    part-find-end
+    sub-names
+    part-names-start
+    part-names-end
     find-requires
     returns-2
-    sub-enter
-    part-enter-start
-    part-enter-end
     enter-requires
     same-length
-    returns-3
-    enter-requires-2
-    same-length-2
-    returns-4)
+    returns-3)

@@ -1,7 +1,6 @@
 use mathlib.Core.Path.{_≡_, sym, _∙_}
 use native.Mathlib.Omega.{arith}
 use lib.ListN.{length}
-use Rattle.registers.specs.Errors as errors
 use Rattle.interpreter.proofs.line.Laws.{raised-short}
 use Rattle.interpreter.proofs.line.Newline.{line-overlong, line-blank, line-none, line-some}
 use borrow.Author.Needs.{needs}
@@ -43,15 +42,15 @@ same-length c = search needs
 
 returns-3 : tie.Need-returns-3
 returns-3 c =
-    let a = c .before .before .before .before .before .before .before .before .before .before .before .before .before .args in
+    let a = c .before .before .before .before .before .before .before .before .before .before .before .before .args in
     let r = c .before .before .before .run-units in
     let w = r .ensures in
     let room = w .room in
-    let dark = sym (c .before .before .before .before .before .before .before .is-blank .ensures) ∙ c .before .before .before .before .before .before .if2 .left in
+    let dark = sym (c .before .before .before .before .before .before .is-blank .ensures) ∙ c .before .before .before .before .before .if2 .left in
     record {
       queued = w .queued;
       room = omega arith;
-      box = line-none (a .present) (a .line .now) (a .overlong) (c .before .before .before .before .before .before .before .before .if1 .left) dark (r .result) _ w (c .if3 .taken);
+      box = line-none (a .present) (a .line .now) (a .overlong) (c .before .before .before .before .before .before .before .if1 .left) dark (r .result) _ w (c .if3 .taken);
     }
 
 slice-write-out : tie.Need-slice-write-out
@@ -65,17 +64,17 @@ same-length-2 c = search needs
 
 returns-4 : tie.Need-returns-4
 returns-4 c =
-    let a = c .before .before .before .before .before .before .before .before .before .before .before .before .before .args in
+    let a = c .before .before .before .before .before .before .before .before .before .before .before .before .args in
     let r = c .before .before .before .run-units in
     let w = r .ensures in
     let room = w .room in
     let k = r .kept in
-    let was = c .before .before .before .before .before .before .before .before .before .before .before .before .before .pre .1 .1 in
-    let dark = sym (c .before .before .before .before .before .before .before .is-blank .ensures) ∙ c .before .before .before .before .before .before .if2 .left in
+    let was = c .before .before .before .before .before .before .before .before .before .before .before .before .pre .1 .1 in
+    let dark = sym (c .before .before .before .before .before .before .is-blank .ensures) ∙ c .before .before .before .before .before .if2 .left in
     record {
       queued = w .queued;
       room = omega arith;
-      box = line-some (a .present) (a .line .now) (a .overlong) (c .before .before .before .before .before .before .before .before .if1 .left) dark (r .result) _ w (c .if3 .left) (omega arith);
+      box = line-some (a .present) (a .line .now) (a .overlong) (c .before .before .before .before .before .before .before .if1 .left) dark (r .result) _ w (c .if3 .left) (omega arith);
     }
 
 pub run-line-spec : {M : Type 1} → statement M

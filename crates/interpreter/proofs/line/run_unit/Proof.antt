@@ -1,7 +1,4 @@
-use mathlib.Core.Path.{_≡_}
-use native.Mathlib.Omega.{arith}
-use lib.ListN.{length, take}
-use Rattle.registers.specs.Errors as errors
+use lib.ListN.{take}
 use Rattle.interpreter.proofs.line.Laws.{unit-allowed, unit-refused, unit-obeyed}
 use borrow.Author.Needs.{needs}
 use Rattle.interpreter.proofs.line.run_unit.Statement.{statement}
@@ -10,10 +7,7 @@ use Rattle.interpreter.proofs.line.run_unit.Tie as tie
 read-requires : tie.Need-read-requires
 read-requires c κs =
     let p = c .before .before .before .before .before .before .pre in
-    let fits = p .1 .0 .0 in
-    let g = c .read-arg .given in
-    let wide : length (c .before .before .before .before .before .before .args .path .now) ≡ 512 = search needs in
-    (p .0, (omega arith, p .1 .0 .1))
+    (p .0, p .1 .0)
 
 enum-known-reading : tie.Need-enum-known-reading
 enum-known-reading c = search needs

@@ -3,23 +3,22 @@ use Prim.Native.Nat.{_-_}
 use native.Mathlib.Omega.{arith}
 use lib.ListN.{length, drop, length-take, length-drop}
 use borrow.Author.Tests.{not-true, not-false}
-use Rattle.registers.specs.Errors as errors
 use Rattle.interpreter.specs.DeedsParts.{boxIn}
 use Rattle.interpreter.proofs.line.Units.{Going, going-start, going-less, going-on, going-end}
 use Rattle.interpreter.proofs.line.run_units.Statement.{statement}
 use Rattle.interpreter.proofs.line.run_units.Tie as tie
 
 abbrev Inv-loop : tie.InvT-loop
-Inv-loop rows words path₀ line out₀ done₀ at₀ path out done at = Going (boxIn (done₀ .present) []) line path out done at
+Inv-loop rows words line out₀ done₀ path₀ at₀ out done path at = Going (boxIn (done₀ .present) []) line path out done at
 
 abbrev μ-loop : tie.MeasureT-loop
-μ-loop rows words path₀ line out₀ done₀ at₀ path out done at = length line - at
+μ-loop rows words line out₀ done₀ path₀ at₀ out done path at = length line - at
 
 loop-holds : tie.Need-loop-holds Inv-loop μ-loop
 loop-holds c =
     let a = c .before .before .before .before .args in
     let p = c .before .before .before .before .pre in
-    going-start (a .present) _ (a .line .now) (a .path .now) (a .out .now) (p .1 .2) (p .1 .1)
+    going-start (a .present) _ (a .line .now) _ (a .out .now) (p .1 .2) (p .1 .1)
 
 find-requires : tie.Need-find-requires Inv-loop μ-loop
 find-requires c κs =

@@ -11,11 +11,11 @@ use Rattle.interpreter.proofs.server.lines.Statement.{statement}
 use Rattle.interpreter.proofs.server.lines.Tie as tie
 
 abbrev Inv-loop : tie.InvT-loop
-Inv-loop rows words path₀ line₀ out₀ input output₀ flow₀ read₀ written₀ path line out output flow read written =
+Inv-loop rows words line₀ out₀ input output₀ flow₀ read₀ written₀ line out output flow read written =
     Serving (service (flowBox flow₀ line₀ out₀) 0 [] output₀) (length output₀) input line out output flow read written
 
 abbrev μ-loop : tie.MeasureT-loop
-μ-loop rows words path₀ line₀ out₀ input output₀ flow₀ read₀ written₀ path line out output flow read written =
+μ-loop rows words line₀ out₀ input output₀ flow₀ read₀ written₀ line out output flow read written =
     length input - read
 
 loop-holds : tie.Need-loop-holds Inv-loop μ-loop
@@ -28,29 +28,29 @@ sub-loop c = let wrote = c .loop .inv .wrote in omega arith
 
 feed-line-requires : tie.Need-feed-line-requires Inv-loop μ-loop
 feed-line-requires c κs =
-    let g = c .before .before .before .before .loop .inv in
+    let g = c .before .before .before .loop .inv in
     let none = g .none in
-    (c .before .before .before .before .before .before .before .before .before .pre .0, (g .fits, omega arith, g .read-in))
+    (c .before .before .before .before .before .before .before .before .pre .0, (g .fits, omega arith, g .read-in))
 
 paste-requires : tie.Need-paste-requires Inv-loop μ-loop
 paste-requires c κs =
     let few = c .before .before .before .before .feed-line .ensures .0 .fits .waiting in
-    let outs : length (c .before .before .before .before .feed-line .last .1 .1 .1 .1 .1 .0) ≡ 1024 = search needs in
-    let free = more-room _ _ _ _ _ _ _ _ _ (c .before .before .before .before .before .before .before .before .before .loop .inv) (c .before .before .before .before .before .before .before .before .loop-test .taken) in
+    let outs : length (c .before .before .before .before .feed-line .last .1 .1 .1 .1 .0) ≡ 1024 = search needs in
+    let free = more-room _ _ _ _ _ _ _ _ _ (c .before .before .before .before .before .before .before .before .loop .inv) (c .before .before .before .before .before .before .before .loop-test .taken) in
     (omega arith, omega arith)
 
 loop-less : tie.Need-loop-less Inv-loop μ-loop
 loop-less c =
     let fed = c .before .before .before .before .before .before .before .feed-line in
-    let k = serve-further _ _ _ _ _ _ _ _ _ (c .before .before .before .before .before .before .before .before .before .before .before .before .loop .inv) (c .before .before .before .before .before .before .before .before .before .before .before .loop-test .taken) (fed .result .next) (fed .ensures .1) in
-    let n = more-input _ _ _ _ _ _ _ _ _ (c .before .before .before .before .before .before .before .before .before .before .before .before .loop .inv) (c .before .before .before .before .before .before .before .before .before .before .before .loop-test .taken) in
+    let k = serve-further _ _ _ _ _ _ _ _ _ (c .before .before .before .before .before .before .before .before .before .before .before .loop .inv) (c .before .before .before .before .before .before .before .before .before .before .loop-test .taken) (fed .result .next) (fed .ensures .1) in
+    let n = more-input _ _ _ _ _ _ _ _ _ (c .before .before .before .before .before .before .before .before .before .before .before .loop .inv) (c .before .before .before .before .before .before .before .before .before .before .loop-test .taken) in
     omega arith
 
 loop-again : tie.Need-loop-again Inv-loop μ-loop
 loop-again c =
     let fed = c .before .before .before .before .before .before .before .feed-line in
     let laid = c .before .before .paste in
-    serve-on _ _ _ _ _ _ _ _ _ (c .before .before .before .before .before .before .before .before .before .before .before .before .loop .inv) (c .before .before .before .before .before .before .before .before .before .before .before .loop-test .taken) (fed .result .next) (fed .ensures .1) (fed .result .flow) _ _ (fed .ensures .0) (search needs)
+    serve-on _ _ _ _ _ _ _ _ _ (c .before .before .before .before .before .before .before .before .before .before .before .loop .inv) (c .before .before .before .before .before .before .before .before .before .before .loop-test .taken) (fed .result .next) (fed .ensures .1) (fed .result .flow) _ _ (fed .ensures .0) (search needs)
     (laid .result) _ (laid .ensures .0) (laid .ensures .1)
 
 same-length : tie.Need-same-length Inv-loop μ-loop

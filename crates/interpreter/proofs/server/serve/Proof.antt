@@ -29,7 +29,7 @@ flow-of-requires : tie.Need-flow-of-requires
 flow-of-requires c κs = search needs
 
 lines-requires : tie.Need-lines-requires
-lines-requires c κs = ((c .before .before .before .before .before .before .before .before .rows .ensures, c .before .before .before .before .before .before .words .ensures), rw (c .before .before .before .before .flow-of .ensures) (flow-fits _ _ (c .before .before .before .before .before .before .before .before .before .before .before .before .possible .ensures) (c .before .before .before .before .before .before .before .before .before .before .before .if1 .left), refl))
+lines-requires c κs = ((c .before .before .before .before .before .before .before .rows .ensures, c .before .before .before .before .before .words .ensures), rw (c .before .before .before .flow-of .ensures) (flow-fits _ _ (c .before .before .before .before .before .before .before .before .before .before .before .possible .ensures) (c .before .before .before .before .before .before .before .before .before .before .if1 .left), refl))
 
 state-of-requires : tie.Need-state-of-requires
 state-of-requires c κs = search needs
@@ -39,10 +39,10 @@ same-length c = search needs
 
 returns-2 : tie.Need-returns-2
 returns-2 c =
-    let a = c .before .before .before .before .before .before .before .before .before .before .before .before .before .before .before .before .before .before .before .args in
+    let a = c .before .before .before .before .before .before .before .before .before .before .before .before .before .before .before .before .before .before .args in
     let served = c .before .before .before .lines in
     rw (c .state-of .ensures)
-    (served-chunk (a .state) _ (c .before .before .before .before .before .before .before .before .before .before .before .before .before .before .before .before .possible .ensures) (a .input .now) (a .output .now) (c .before .before .before .before .before .before .before .before .before .before .before .before .before .before .before .if1 .left) (served .result) _ _ _ (rw (c .before .before .before .before .before .before .before .before .flow-of .ensures) at (served .ensures)))
+    (served-chunk (a .state) _ (c .before .before .before .before .before .before .before .before .before .before .before .before .before .before .before .possible .ensures) (a .input .now) (a .output .now) (c .before .before .before .before .before .before .before .before .before .before .before .before .before .before .if1 .left) (served .result) _ _ _ (rw (c .before .before .before .before .before .before .before .flow-of .ensures) at (served .ensures)))
 
 pub serve-spec : {M : Type 1} → statement M
 serve-spec =

@@ -2,7 +2,7 @@ use mathlib.Core.Path.{_≡_, sym, _∙_}
 use mathlib.Core.Bool.{true}
 use Prim.Native.Nat.{_-_}
 use native.Mathlib.Omega.{arith}
-use lib.ListN.{take, drop}
+use lib.ListN.{length, take, drop}
 use borrow.Author.Needs.{needs}
 use borrow.Author.Tests.{not-true, not-false}
 use Rattle.registers.specs.Text.{Text, every}
@@ -14,7 +14,7 @@ use Rattle.interpreter.proofs.unit.read.Tie as tie
 
 -- once the header's end is known
 abbrev entry : tie.After-dark-end → tie.Start
-entry p = p .before .before .before .before .before .before .before .before
+entry p = p .before .before .before .before .before .before .before
 
 abbrev unit-of : tie.After-dark-end → Text
 unit-of p = entry p .args .unit .now
@@ -33,24 +33,24 @@ ran p = let w = p .before .white-end in runs (unit-of p) (w .result) (p .dark-en
 
 -- once the header is found
 abbrev dark-at : tie.After-looked → tie.After-dark-end
-dark-at p = p .before .before .before .before .before .before .before
+dark-at p = p .before .before .before .before .before
 
 row-found : (p : tie.After-looked)
     → let d = dark-at p in
     let v = p .looked .given .0 in
-    let buffer = p .before .before .before .before .look-up .last .1 .1 .0 in
+    let buffer = p .before .before .look-up .last .1 .1 .0 in
     Headed (entry d .args .settings) (path-of d) (unit-of d) (v .0) (v .1 .0) (v .1 .1 .0) buffer
 row-found p =
     let d = dark-at p in
     headed (entry d .args .settings) (path-of d) (unit-of d) (clean d) (header-of d) (ran d .is) (ran d .short)
-    (p .before .before .before .before .look-up .ensures) (p .looked .given .1)
+    (p .before .before .look-up .ensures) (p .looked .given .1)
 
 all-allowed-requires : tie.Need-all-allowed-requires
 all-allowed-requires c κs = search needs
 
 returns : tie.Need-returns
 returns c =
-    let a = c .before .before .before .before .before .before .args in
+    let a = c .before .before .before .before .before .args in
     let k = sym (c .before .all-allowed .ensures) ∙ not-true _ (c .if1 .taken) in
     bad-byte (a .settings) (named (take (a .used) (a .path .now))) (a .unit .now) k
 
@@ -74,6 +74,8 @@ look-up-requires c κs =
     let p = c .before .before in
     let pre = entry p .pre in
     let w = ran p .short in
+    let g = c .before .look-up-arg .given in
+    let wide : length (entry p .args .path .now) ≡ 512 = search needs in
     (pre .0, (omega arith, pre .1 .1))
 
 enum-told : tie.Need-enum-told
@@ -91,18 +93,12 @@ decide-behind-requires c κs =
 with-path-requires : tie.Need-with-path-requires
 with-path-requires c κs = search needs
 
-same-length : tie.Need-same-length
-same-length c = search needs
-
 returns-2 : tie.Need-returns-2
 returns-2 c =
-    let d = c .before .before .before .before .before .before .before in
-    let k = c .before .before .before .before .look-up in
+    let d = c .before .before .before .before .before in
+    let k = c .before .before .look-up in
     bad-header (entry d .args .settings) (path-of d) (unit-of d) (k .last .1 .1 .0) (clean d) (header-of d) (ran d .is)
     (k .ensures) (c .enum-told .given .1)
-
-same-length-2 : tie.Need-same-length-2
-same-length-2 c = search needs
 
 returns-3 : tie.Need-returns-3
 returns-3 c =
@@ -129,7 +125,5 @@ read-spec =
     enum-known-looked
     decide-behind-requires
     with-path-requires
-    same-length
     returns-2
-    same-length-2
     returns-3)

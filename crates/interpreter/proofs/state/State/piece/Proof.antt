@@ -30,19 +30,19 @@ flow-of-requires : tie.Need-flow-of-requires
 flow-of-requires c κs = search needs
 
 feed-requires : tie.Need-feed-requires
-feed-requires c κs = ((c .before .before .before .before .before .before .before .rows .ensures, c .before .before .before .before .before .words .ensures), rw (c .before .before .before .flow-of .ensures) (flow-fits _ _ (c .before .before .before .before .before .before .before .before .before .before .before .possible .ensures) (c .before .before .before .before .before .before .before .before .before .before .if1 .left), refl))
+feed-requires c κs = ((c .before .before .before .before .before .before .rows .ensures, c .before .before .before .before .words .ensures), rw (c .before .before .flow-of .ensures) (flow-fits _ _ (c .before .before .before .before .before .before .before .before .before .before .possible .ensures) (c .before .before .before .before .before .before .before .before .before .if1 .left), refl))
 
 state-of-requires : tie.Need-state-of-requires
 state-of-requires c κs = search needs
 
 returns-2 : tie.Need-returns-2
 returns-2 c =
-    let s = c .before .before .before .before .before .before .before .before .before .before .before .before .before .before .before .args .self in
-    let bytes = c .before .before .before .before .before .before .before .before .before .before .before .before .before .before .before .args .bytes .now in
+    let s = c .before .before .before .before .before .before .before .before .before .before .before .before .before .before .args .self in
+    let bytes = c .before .before .before .before .before .before .before .before .before .before .before .before .before .before .args .bytes .now in
     let fed = c .before .feed in
-    let is = rw (c .before .before .before .before .before .flow-of .ensures) at (fed .ensures) in
+    let is = rw (c .before .before .before .before .flow-of .ensures) at (fed .ensures) in
     rw (c .state-of .ensures)
-    (happens-on s (received bytes) _ (c .before .before .before .before .before .before .before .before .before .before .before .before .before .possible .ensures) (c .before .before .before .before .before .before .before .before .before .before .before .before .if1 .left) _ _ (λ _. short-of (fed .result) _ _ (is .fits)) (piece-on s bytes (fed .result) _ _ is))
+    (happens-on s (received bytes) _ (c .before .before .before .before .before .before .before .before .before .before .before .before .possible .ensures) (c .before .before .before .before .before .before .before .before .before .before .before .if1 .left) _ _ (λ _. short-of (fed .result) _ _ (is .fits)) (piece-on s bytes (fed .result) _ _ is))
 
 pub piece-spec : {M : Type 1} → statement M
 piece-spec =
