@@ -41,18 +41,12 @@ fn name_byte(joined: bool, state: u8, b: u8) -> u8
     ensures { λ r. ⌜ r ≡ nameByte joined state b ⌝ }
 {
     if state == 2 {
-        if text::is_letter(b) {
-            return 1;
-        }
-        return 0;
+        return text::is_letter(b) as u8;
     }
     if joined & (b == 58) {
         return 2;
     }
-    if text::is_word_byte(b) {
-        return 1;
-    }
-    0
+    text::is_word_byte(b) as u8
 }
 
 // Whether a text is a name, or names joined by single colons.
