@@ -166,10 +166,6 @@ wordIn x = if ltb x 128 then x else x - 128
 unfoldable pub nodeOf : ℕ → Node
 nodeOf x = if ltb x 128 then must (wordAt x) else may (wordAt (x - 128))
 
--- a node that is not taken is left out if it may be
-unfoldable pub leftOut : ℕ → ℕ → Walk
-leftOut x at = if ltb x 128 then Missed else To at
-
 -- one node is taken or left out, or it is missed
 abbrev pub Walked : Node → Text → ℕ → Walk → Type 0
 Walked x t at (To n) = ((nodes : List Node) → greedy (x ∷ nodes) (named (drop at t)) ≡ greedy nodes (named (drop n t))) × (n ≤ length t)

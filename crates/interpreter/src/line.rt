@@ -10,7 +10,6 @@ ghost use mathlib.Core.Path.{_≡_};
 ghost use mathlib.Core.Bool.{true};
 ghost use Prim.Native.Nat.{_+_, _≤_, _<_};
 ghost use lib.ListN.{length, take};
-ghost use Rattle.registers.specs.Text.{every, white};
 ghost use Rattle.registers.specs.Status.{most};
 ghost use Rattle.interpreter.specs.Box.{mostLine, mostAnswer};
 ghost use Rattle.interpreter.specs.RowsParts.{rowTable, wordTable};
@@ -29,12 +28,6 @@ struct Done {
 pub(crate) struct Ran {
     pub(crate) present: Present,
     pub(crate) answered: usize,
-}
-
-fn is_blank(line: &[u8]) -> bool
-    ensures { λ r. ⌜ r ≡ every white (now (line .entry)) ⌝ }
-{
-    text::white_end(line, 0) == line.len()
 }
 
 // "raises one error and changes nothing else (but check 9 drops the answer)"
@@ -134,7 +127,7 @@ pub(crate) fn run_line(
             answered: 0,
         };
     }
-    if is_blank(line) {
+    if text::white_end(line, 0) == line.len() {
         return Ran {
             present,
             answered: 0,

@@ -4,7 +4,7 @@ ghost use mathlib.Core.Path.{_≡_};
 ghost use Prim.Native.Nat.{_≤_, _<_};
 ghost use lib.ListN.{length};
 ghost use Rattle.registers.specs.Words.{longForm, matches};
-ghost use Rattle.interpreter.specs.RowsParts.{rowTable, wordTable, wordAt, rowOf, named, agreed, formLength, WordTaken, wordCell, rowCell, wordIn, nodeOf, leftOut, Walked, formBit, formed};
+ghost use Rattle.interpreter.specs.RowsParts.{rowTable, wordTable, wordAt, rowOf, named, agreed, formLength, WordTaken, wordCell, rowCell, wordIn, nodeOf, Walked, formBit};
 
 // How many rows there are.
 pub(crate) const ROWS: usize = 33;
@@ -30,26 +30,6 @@ fn row_cell(rows: &[u8], row: usize, i: usize) -> u8
     ensures { λ r. ⌜ r ≡ rowCell row i ⌝ }
 {
     rows[row * 8 + i]
-}
-
-fn word_in(node: u8) -> usize
-    ensures { λ r. ⌜ r ≡ wordIn node ⌝ }
-{
-    if node < 128 {
-        node as usize
-    } else {
-        (node - 128) as usize
-    }
-}
-
-fn left_out(node: u8, at: usize) -> Walk
-    ensures { λ r. ⌜ r ≡ leftOut node at ⌝ }
-{
-    if node < 128 {
-        Walk::Missed
-    } else {
-        Walk::To(at)
-    }
 }
 
 // Whether a word's short or its long form has so many letters.
@@ -122,10 +102,13 @@ fn take_node(words: &[u8], text: &[u8], at: usize, node: u8) -> Walk
     requires { ⌜ (now words ≡ wordTable) × (at ≤ length (now text)) × (wordIn node < 52) ⌝ }
     ensures { λ r. ⌜ Walked (nodeOf node) (now (text .entry)) at r ⌝ }
 {
-    let walk = take_word(words, text, at, word_in(node));
+    if node < 128 {
+        return take_word(words, text, at, node as usize);
+    }
+    let walk = take_word(words, text, at, (node - 128) as usize);
     match walk {
         Walk::To(place) => Walk::To(place),
-        Walk::Missed => left_out(node, at),
+        Walk::Missed => Walk::To(at),
     }
 }
 
@@ -138,13 +121,6 @@ fn form_bit(star: bool, asked: bool) -> u8
     } else {
         if asked { 2 } else { 1 }
     }
-}
-
-fn has_form(rows: &[u8], row: usize, bit: u8) -> bool
-    requires { ⌜ (now rows ≡ rowTable) × (row < 33) ⌝ }
-    ensures { λ r. ⌜ r ≡ formed row bit ⌝ }
-{
-    row_cell(rows, row, 0) & bit != 0
 }
 
 // The first row that spells the names of a text in the form asked for, or ROWS. At the first node
@@ -165,7 +141,7 @@ pub(crate) fn find(rows: &[u8], words: &[u8], text: &[u8], star: bool, asked: bo
         if passed < shared {
             continue 'rows;
         }
-        if !has_form(rows, row, bit) {
+        if row_cell(rows, row, 0) & bit == 0 {
             passed = UNTRIED;
             continue 'rows;
         }

@@ -1,5 +1,5 @@
 -- Laws of the newline: an answer that waits is discarded, and the line that was held is run.
-use mathlib.Core.Path.{_≡_, refl, sym}
+use mathlib.Core.Path.{_≡_, refl, sym, _∙_}
 use mathlib.Core.Bool.{Bool, true, false}
 use mathlib.Core.List.{[], _∷_}
 use Prim.Native.Nat.{ℕ, zero, suc, _+_, _-_, _<_}
@@ -8,7 +8,7 @@ use native.Mathlib.Numerals.{add-one}
 use lib.Dec.{eqb, eqb·suc-suc}
 use lib.ListN.{length, take, set}
 use lib.Seq.{take-suc-set}
-use borrow.Author.Tests.{ne-eqb}
+use borrow.Author.Tests.{eq-eqb, ne-eqb}
 use Rattle.registers.specs.Text.{Text, if_then_else_, start, white, every, empty}
 use Rattle.registers.specs.declared.error.Error.the-variants.{QueryInterrupted, InputBufferOverrun}
 use Rattle.interpreter.specs.Box.{box, mostAnswer}
@@ -36,8 +36,15 @@ whole-start p (x ∷ l) = go (p x) refl (whole-start p l)
     go true e ih = rw (e, eqb·suc-suc (length (start p l)) (length l)) ih
     go false e ih = rw (e, ne-eqb 0 (suc (length l)) (λ k. omega arith))
 
-pub blank : (l : Text) (n : ℕ) → n ≡ 0 + length (start white l) → eqb n (length l) ≡ every white l
-blank l n is = let e : n ≡ length (start white l) = omega arith in rw e (whole-start white l)
+module _ (l : Text) (n : ℕ) (is : n ≡ 0 + length (start white l)) where
+  whole : eqb n (length l) ≡ every white l
+  whole = let e : n ≡ length (start white l) = omega arith in rw e (whole-start white l)
+
+  pub blank : n ≡ length l → every white l ≡ true
+  blank e = sym whole ∙ eq-eqb n (length l) e
+
+  pub not-blank : (n ≡ length l → ⊥) → every white l ≡ false
+  not-blank ne = sym whole ∙ ne-eqb n (length l) ne
 
 module _ (p : Present) (line : Text) (o : Bool) where
   pub line-overlong : length (p .status .errors) ≡ 16 → o ≡ true → boxIn (raisedWith InputBufferOverrun p) [] ≡ runLine line o (boxIn p [])

@@ -9,7 +9,7 @@ use lib.Bits.{bitAnd}
 use lib.Dec.{ltb, leb, eqb}
 use lib.ListN.{length, getD, take, drop, length-append, length-map, length-replicate, replicate, List·getD-append}
 use lib.Seq.{take-suc, take-take}
-use borrow.Author.Tests.{eqb-true, ltb-true, leb-true}
+use borrow.Author.Tests.{eq-eqb, ne-eqb, eqb-true, ltb-true, leb-true}
 use Rattle.registers.specs.Text.{Text, if_then_else_, every, bytes, same}
 use Rattle.registers.specs.Words.{Node, must}
 use Rattle.registers.specs.Settings.{table}
@@ -224,3 +224,14 @@ module _ (r : ℕ) (h : r < 33) where
     fits-is =
         rw (form-is, row-greedy names)
         (sym (and-assoc (sameBool star (rowAt r .star)) (hasForm asked (rowAt r .role)) (spells nodes names)))
+
+-- ---- the form of a row as the search tests it
+
+module _ (r bit x : ℕ) (is : x ≡ rowCell r 0) where
+  pub unformed : bitAnd x bit ≡ 0 → formed r bit ≡ false
+  unfolding formed
+  unformed e = rw (← is, eq-eqb (bitAnd x bit) 0 e)
+
+  pub is-formed : (bitAnd x bit ≡ 0 → ⊥) → formed r bit ≡ true
+  unfolding formed
+  is-formed ne = rw (← is, ne-eqb (bitAnd x bit) 0 ne)

@@ -1,8 +1,8 @@
-use mathlib.Core.Path.{_≡_, sym, _∙_}
+use mathlib.Core.Path.{_≡_}
 use native.Mathlib.Omega.{arith}
 use lib.ListN.{length}
 use Rattle.interpreter.proofs.line.Laws.{raised-short}
-use Rattle.interpreter.proofs.line.Newline.{line-overlong, line-blank, line-none, line-some}
+use Rattle.interpreter.proofs.line.Newline.{blank, not-blank, line-overlong, line-blank, line-none, line-some}
 use borrow.Author.Needs.{needs}
 use Rattle.interpreter.proofs.line.run_line.Statement.{statement}
 use Rattle.interpreter.proofs.line.run_line.Tie as tie
@@ -22,8 +22,8 @@ returns c =
       box = rw raised (line-overlong (a .present) (a .line .now) (a .overlong) long (c .before .if1 .taken));
     }
 
-is-blank-requires : tie.Need-is-blank-requires
-is-blank-requires c κs = search needs
+white-end-requires : tie.Need-white-end-requires
+white-end-requires c κs = search needs
 
 returns-2 : tie.Need-returns-2
 returns-2 c =
@@ -31,7 +31,7 @@ returns-2 c =
     record {
       queued = c .before .before .before .before .before .before .before .pre .1 .2;
       room = omega arith;
-      box = line-blank (a .present) (a .line .now) (a .overlong) (c .before .before .if1 .left) (sym (c .before .is-blank .ensures) ∙ c .if2 .taken);
+      box = line-blank (a .present) (a .line .now) (a .overlong) (c .before .before .if1 .left) (blank (a .line .now) (c .before .white-end .result) (c .before .white-end .ensures) (c .if2 .taken));
     }
 
 run-units-requires : tie.Need-run-units-requires
@@ -46,7 +46,7 @@ returns-3 c =
     let r = c .before .before .before .run-units in
     let w = r .ensures in
     let room = w .room in
-    let dark = sym (c .before .before .before .before .before .before .is-blank .ensures) ∙ c .before .before .before .before .before .if2 .left in
+    let dark = not-blank (a .line .now) (c .before .before .before .before .before .before .white-end .result) (c .before .before .before .before .before .before .white-end .ensures) (c .before .before .before .before .before .if2 .left) in
     record {
       queued = w .queued;
       room = omega arith;
@@ -70,7 +70,7 @@ returns-4 c =
     let room = w .room in
     let k = r .kept in
     let was = c .before .before .before .before .before .before .before .before .before .before .before .before .pre .1 .1 in
-    let dark = sym (c .before .before .before .before .before .before .is-blank .ensures) ∙ c .before .before .before .before .before .if2 .left in
+    let dark = not-blank (a .line .now) (c .before .before .before .before .before .before .white-end .result) (c .before .before .before .before .before .before .white-end .ensures) (c .before .before .before .before .before .if2 .left) in
     record {
       queued = w .queued;
       room = omega arith;
@@ -83,7 +83,7 @@ run-line-spec =
     (tie.spec
     raise-requires
     returns
-    is-blank-requires
+    white-end-requires
     returns-2
     run-units-requires
     same-length

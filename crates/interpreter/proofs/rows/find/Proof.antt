@@ -1,10 +1,8 @@
-use mathlib.Core.Path.{sym, _∙_}
 use mathlib.Core.Logic.{⊎-elim}
 use Prim.Native.Nat.{_-_}
 use native.Mathlib.Omega.{arith}
-use borrow.Author.Tests.{not-true, not-false}
 use borrow.Author.Needs.{needs}
-use Rattle.interpreter.proofs.rows.Rows.{nodes-fit, node-known}
+use Rattle.interpreter.proofs.rows.Rows.{nodes-fit, node-known, unformed, is-formed}
 use Rattle.interpreter.proofs.rows.Search.{Searching, search-start, search-end, skip-shared, skip-unformed, Trying, try-start, try-resume, try-on, try-missed, try-left, try-done}
 use Rattle.interpreter.proofs.rows.find.Statement.{statement}
 use Rattle.interpreter.proofs.rows.find.Tie as tie
@@ -44,8 +42,8 @@ rows-again c =
     let o = c .before .before .before in
     skip-shared (c .before .before .rows-test .taken) (o .rows .inv) (c .before .row-cell .ensures) (c .if1 .taken)
 
-has-form-requires : tie.Need-has-form-requires Inv-loop μ-loop Inv-rows μ-rows
-has-form-requires c κs = search needs
+row-cell-requires-2 : tie.Need-row-cell-requires-2 Inv-loop μ-loop Inv-rows μ-rows
+row-cell-requires-2 c κs = search needs
 
 rows-less-2 : tie.Need-rows-less-2 Inv-loop μ-loop Inv-rows μ-rows
 rows-less-2 c = search needs
@@ -53,11 +51,11 @@ rows-less-2 c = search needs
 rows-again-2 : tie.Need-rows-again-2 Inv-loop μ-loop Inv-rows μ-rows
 rows-again-2 c =
     let o = c .before .before .before .before .before in
-    let f = rw (o .before .form-bit .ensures) at (sym (c .before .has-form .ensures) ∙ not-true _ (c .if2 .taken)) in
+    let f = rw (o .before .form-bit .ensures) at (unformed _ _ _ (c .before .row-cell2 .ensures) (c .if2 .taken)) in
     skip-unformed (c .before .before .before .before .rows-test .taken) (o .rows .inv) f
 
-row-cell-requires-2 : tie.Need-row-cell-requires-2 Inv-loop μ-loop Inv-rows μ-rows
-row-cell-requires-2 c κs = search needs
+row-cell-requires-3 : tie.Need-row-cell-requires-3 Inv-loop μ-loop Inv-rows μ-rows
+row-cell-requires-3 c κs = search needs
 
 cast-n : tie.Need-cast-n Inv-loop μ-loop Inv-rows μ-rows
 cast-n c = search needs
@@ -66,9 +64,9 @@ loop-holds : tie.Need-loop-holds Inv-loop μ-loop Inv-rows μ-rows
 loop-holds c =
     let e = c .before .before in
     let o = e .before .before .before .before .before in
-    let f = rw (o .before .form-bit .ensures) at (sym (e .before .has-form .ensures) ∙ not-false _ (e .if2 .left)) in
+    let f = rw (o .before .form-bit .ensures) at (is-formed _ _ _ (e .before .row-cell2 .ensures) (e .if2 .left)) in
     let h = e .before .before .before .before .rows-test .taken in
-    let n = c .row-cell2 .ensures in
+    let n = c .row-cell3 .ensures in
     let k = e .before .before .before .row-cell .ensures in
     let l = e .before .before .if1 .left in
     ⊎-elim
@@ -82,8 +80,8 @@ add-row-cell c =
     let f = nodes-fit _ (w .known) in
     omega arith
 
-row-cell-requires-3 : tie.Need-row-cell-requires-3 Inv-loop μ-loop Inv-rows μ-rows
-row-cell-requires-3 c κs =
+row-cell-requires-4 : tie.Need-row-cell-requires-4 Inv-loop μ-loop Inv-rows μ-rows
+row-cell-requires-4 c κs =
     let w = c .before .before .loop .inv in
     let o = c .before .before .before .before .before .before .before .before .before .before in
     let f = nodes-fit _ (w .known) in
@@ -94,7 +92,7 @@ take-node-requires c κs =
     let l = c .before .before .before .loop in
     let o = c .before .before .before .before .before .before .before .before .before .before .before in
     let k = node-known _ (l .inv .known) (l .passed) (omega arith) in
-    (o .before .before .before .before .before .pre .1, l .inv .within, rw (c .row-cell3 .ensures) k)
+    (o .before .before .before .before .before .pre .1, l .inv .within, rw (c .row-cell4 .ensures) k)
 
 enum-known-walk : tie.Need-enum-known-walk Inv-loop μ-loop Inv-rows μ-rows
 enum-known-walk c = search needs
@@ -108,7 +106,7 @@ rows-less-3 c = search needs
 rows-again-3 : tie.Need-rows-again-3 Inv-loop μ-loop Inv-rows μ-rows
 rows-again-3 c =
     let l = c .before .before .before .before .before in
-    let x = c .before .before .before .row-cell3 in
+    let x = c .before .before .before .row-cell4 in
     let k = c .before .before .take-node in
     try-missed (l .before .loop .inv) (l .loop-test .taken) (x .result) (x .ensures) (k .result) (k .ensures) (c .enum-told .given .1)
 
@@ -121,7 +119,7 @@ loop-less c = search needs
 loop-again : tie.Need-loop-again Inv-loop μ-loop Inv-rows μ-rows
 loop-again c =
     let l = c .before .before .before .before .before .before in
-    let x = c .before .before .before .before .row-cell3 in
+    let x = c .before .before .before .before .row-cell4 in
     let k = c .before .before .before .take-node in
     try-on (l .before .loop .inv) (l .loop-test .taken) (x .result) (x .ensures) (k .result) (k .ensures) (c .before .walk .given .1)
 
@@ -152,14 +150,14 @@ find-spec =
     cast-shared
     rows-less
     rows-again
-    has-form-requires
+    row-cell-requires-2
     rows-less-2
     rows-again-2
-    row-cell-requires-2
+    row-cell-requires-3
     cast-n
     loop-holds
     add-row-cell
-    row-cell-requires-3
+    row-cell-requires-4
     take-node-requires
     enum-known-walk
     enum-told

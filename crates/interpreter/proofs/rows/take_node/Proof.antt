@@ -1,13 +1,19 @@
 use borrow.Author.Needs.{needs}
-use Rattle.interpreter.proofs.rows.Walks.{of-node, node-missed, node-taken}
+use Rattle.interpreter.proofs.rows.Walks.{must-known, may-known, node-must, node-taken, node-left, found}
 use Rattle.interpreter.proofs.rows.take_node.Statement.{statement}
 use Rattle.interpreter.proofs.rows.take_node.Tie as tie
 
-word-in-requires : tie.Need-word-in-requires
-word-in-requires c κs = search needs
-
 take-word-requires : tie.Need-take-word-requires
-take-word-requires c κs = search needs
+take-word-requires c κs = (c .before .before .before .pre .0, must-known (c .before .before .before .args .node) (c .before .before .before .pre .2) (c .if1 .taken))
+
+returns : tie.Need-returns
+returns c = node-must (c .before .before .before .before .args .node) (c .before .before .before .before .args .text .now) (c .before .before .before .before .args .at) (c .before .if1 .taken) (c .take-word .result) (c .take-word .ensures)
+
+cast-take-word : tie.Need-cast-take-word
+cast-take-word c = search needs
+
+take-word-requires-2 : tie.Need-take-word-requires-2
+take-word-requires-2 c κs = (c .before .before .before .pre .0, may-known (c .before .before .before .args .node) (c .before .before .before .pre .2) (c .if1 .left))
 
 enum-known-walk : tie.Need-enum-known-walk
 enum-known-walk c = search needs
@@ -15,34 +21,25 @@ enum-known-walk c = search needs
 enum-told : tie.Need-enum-told
 enum-told c = search needs
 
-left-out-requires : tie.Need-left-out-requires
-left-out-requires c κs = search needs
-
-returns : tie.Need-returns
-returns c =
-    let a = c .before .before .before .before .before .before .before .args in
-    let k = c .before .before .before .take-word in
-    let w = c .before .before .before .before .word-in in
-    node-taken (a .node) (a .text .now) (a .at) _ (of-node (a .node) (a .text .now) (a .at) (w .ensures) (c .before .walk .given .1) (k .ensures))
-
 returns-2 : tie.Need-returns-2
 returns-2 c =
-    let s = c .before .before .before .before .before .before .before in
-    let a = s .args in
-    let k = c .before .before .before .take-word in
-    let w = c .before .before .before .before .word-in in
-    node-missed (a .node) (a .text .now) (a .at) (s .pre .1)
-    (of-node (a .node) (a .text .now) (a .at) (w .ensures) (c .before .enum-told .given .1) (k .ensures))
-    (c .left-out .result) (c .left-out .ensures)
+    let a = c .before .before .before .before .before .before .before .args in
+    node-taken (a .node) (a .text .now) (a .at) (c .before .before .before .before .if1 .left) _ (found _ (a .text .now) (a .at) (c .before .walk .given .1) (c .before .before .before .take-word2 .ensures))
+
+returns-3 : tie.Need-returns-3
+returns-3 c =
+    let a = c .before .before .before .before .before .before .args in
+    node-left (a .node) (a .text .now) (a .at) (c .before .before .before .if1 .left) (c .before .before .before .before .before .before .pre .1) (found _ (a .text .now) (a .at) (c .enum-told .given .1) (c .before .before .take-word2 .ensures))
 
 pub take-node-spec : {M : Type 1} → statement M
 take-node-spec =
     tie.close
     (tie.spec
-    word-in-requires
     take-word-requires
+    returns
+    cast-take-word
+    take-word-requires-2
     enum-known-walk
     enum-told
-    left-out-requires
-    returns
-    returns-2)
+    returns-2
+    returns-3)
