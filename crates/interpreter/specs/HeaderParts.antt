@@ -1,7 +1,7 @@
 -- What the header reader's own functions say. Nothing of 01 is defined here: see Header.antt and Rows.antt.
 use mathlib.Core.Path.{_≡_}
 use mathlib.Core.Bool.{Bool, true, false, not, _&&_, _||_}
-use mathlib.Core.List.{List, [], _∷_, _++_}
+use mathlib.Core.List.{List, [], _∷_}
 use Prim.Native.Nat.{ℕ, _+_, _≤_}
 use lib.Dec.{eqb}
 use lib.ListN.{length, take, drop}
@@ -12,7 +12,6 @@ use Rattle.interpreter.specs.Cuts.{last, front, cutAt}
 use Rattle.interpreter.specs.Header.{Place, common, root, here, Header, header, placed, asks, fullNames, pathAfter, isCommon}
 use Rattle.interpreter.specs.RowsParts.{rowOf, named}
 use Rattle.interpreter.specs.declared.header.Heading.{Heading}
-use Rattle.interpreter.specs.declared.header.Entered.{Entered}
 use Rattle.interpreter.specs.declared.header.Looked.{Looked}
 use Rattle.interpreter.specs.declared.header.Looked.the-variants.{Bad, At}
 
@@ -62,13 +61,6 @@ pub record HeadingRead (body : Text) (h : Heading) : Type 0 where
   pub is : (asked : Bool) → headerOf body asked ≡ headed h body asked
   pub names : h .good ≡ well (not (h .star)) 2 (drop (h .start) body)
   pub within : h .start ≤ length body
-
--- what entering a header's names behind a path finds and leaves
-pub record EnteredAt (path names : Text) (asked : Bool) (r : Entered) (buffer : Text) : Type 0 where
-  pub row : r .row ≡ rowOf false (named path ++ cutAt 58 names) asked
-  pub left : named (take (r .used) buffer) ≡ front (named path ++ cutAt 58 names)
-  pub shut : closed (take (r .used) buffer) ≡ true
-  pub room : r .used ≤ length path + length names
 
 -- checks 2 and 3 on a header: the row of the names that it stands for, and the path that it leaves in the buffer
 pub record FoundRow (path : List Text) (room : ℕ) (h : Header) (row used : ℕ) (asked : Bool) (buffer : Text) : Type 0 where

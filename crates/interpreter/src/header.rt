@@ -11,7 +11,7 @@ ghost use lib.ListN.{length, take};
 ghost use lib.Dec.{eqb};
 ghost use Rattle.interpreter.specs.Header.{asks};
 ghost use Rattle.interpreter.specs.RowsParts.{rowTable, wordTable};
-ghost use Rattle.interpreter.specs.HeaderParts.{closed, pathOf, nameByte, well, bodyOf, HeadingRead, EnteredAt, LookedUp};
+ghost use Rattle.interpreter.specs.HeaderParts.{closed, pathOf, nameByte, well, bodyOf, HeadingRead, LookedUp};
 
 // A header's grammar, where its names start, and what leads them.
 struct Heading {
@@ -21,12 +21,7 @@ struct Heading {
     root: bool,
 }
 
-// The row that was found, or rows::ROWS, and how much of the buffer the new path takes.
-struct Entered {
-    row: usize,
-    used: usize,
-}
-
+// What is found of a header: its row, or rows::ROWS, and how much of the buffer the new path takes.
 pub(crate) enum Looked {
     Bad,
     At {
@@ -108,28 +103,8 @@ fn path_end(text: &[u8]) -> usize
     0
 }
 
-// Enters a header's names behind the path, finds their row, and leaves the path that the header leaves.
-fn enter(
-    rows: &[u8],
-    words: &[u8],
-    path: &mut [u8],
-    used: usize,
-    names: &[u8],
-    asked: bool,
-) -> Entered
-    requires { ⌜ (now rows ≡ rowTable) × (now words ≡ wordTable) ⌝ }
-    requires { ⌜ used + length (now names) ≤ length (now path) ⌝ }
-    requires { ⌜ (closed (take used (now path)) ≡ true) × (well true 2 (now names) ≡ true) ⌝ }
-    ensures { λ r. ⌜ EnteredAt (take used (now (path .entry))) (now (names .entry)) asked r (now (path .exit)) ⌝ }
-{
-    let n = bytes::copy(names, &mut path[used..]);
-    let end = used + n;
-    let row = rows::find(rows, words, &path[0..end], false, asked);
-    let left = path_end(&path[0..end]);
-    Entered { row, used: left }
-}
-
-// A header's row, and the path that it leaves in the path's buffer.
+// A header's row, and the path that it leaves in the path's buffer: its names are entered behind the path, or at the
+// root, where the search reads them.
 pub(crate) fn look_up(
     rows: &[u8],
     words: &[u8],
@@ -155,10 +130,13 @@ pub(crate) fn look_up(
         return Looked::At { row, used, asked };
     }
     let from = if h.root { 0 } else { used };
-    let r = enter(rows, words, path, from, names, asked);
+    let n = bytes::copy(names, &mut path[from..]);
+    let all = from + n;
+    let row = rows::find(rows, words, &path[0..all], false, asked);
+    let left = path_end(&path[0..all]);
     Looked::At {
-        row: r.row,
-        used: r.used,
+        row,
+        used: left,
         asked,
     }
 }

@@ -20,7 +20,7 @@ ghost use Rattle.interpreter.specs.Cuts.{trim, trimEnd};
 ghost use Rattle.interpreter.specs.RowsParts.{rowTable, wordTable};
 ghost use Rattle.interpreter.specs.HeaderParts.{closed};
 ghost use Rattle.interpreter.specs.ParameterParts.{meantDeed};
-ghost use Rattle.interpreter.specs.UnitParts.{decided, readingOf, UnitRead};
+ghost use Rattle.interpreter.specs.UnitParts.{decided, UnitRead};
 
 // What checks 1 to 8 say of a unit: the error that refuses it, or its deed and how much of the
 // path's buffer the path takes that it leaves.
@@ -99,16 +99,6 @@ fn decide_behind(
     decide(words, settings, row, asked, &behind[0..end])
 }
 
-// The deed with the path that the header left, unless a check refused the unit.
-fn with_path(decision: Decision, used: usize) -> Reading
-    ensures { λ r. ⌜ r ≡ readingOf used decision ⌝ }
-{
-    match decision {
-        Decision::Refused(e) => Reading::Refused(e),
-        Decision::Obey(deed) => Reading::Obey { deed, used },
-    }
-}
-
 // Reads a unit after the path in the path's buffer.
 pub(crate) fn read(
     rows: &[u8],
@@ -136,7 +126,10 @@ pub(crate) fn read(
             asked,
         } => {
             let decision = decide_behind(words, settings, row, asked, unit, end);
-            with_path(decision, left)
+            match decision {
+                Decision::Refused(e) => Reading::Refused(e),
+                Decision::Obey(deed) => Reading::Obey { deed, used: left },
+            }
         }
     }
 }

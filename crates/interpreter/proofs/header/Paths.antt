@@ -12,7 +12,7 @@ use borrow.Rule.Slice.PartMut.{putMid}
 use Rattle.registers.specs.Text.{Text, if_then_else_, letter, small, empty}
 use Rattle.interpreter.specs.Cuts.{last, front, joinFirst, cutAt}
 use Rattle.interpreter.specs.RowsParts.{rowOf, named}
-use Rattle.interpreter.specs.HeaderParts.{closed, pathOf, well, nameByte, EnteredAt}
+use Rattle.interpreter.specs.HeaderParts.{closed, pathOf, well, nameByte}
 
 -- ---- the names of a path and of the header behind it
 
@@ -164,16 +164,23 @@ copied xs names ys z used k h e =
     rw (y, append-assoc names z (drop k (drop used xs))) (take-append-seam names (z ++ drop k (drop used xs))) in
     subst (λ (n : ℕ). take (n + length names) (putMid used k xs ys) ≡ take used xs ++ names) l (rw s at t)
 
--- what is found and left in a buffer that starts with the path and the header's names
+-- what entering a header's names behind a path finds and leaves
+pub record EnteredAt (path names : Text) (asked : Bool) (row used : ℕ) (buffer : Text) : Type 0 where
+  pub found : row ≡ rowOf false (named path ++ cutAt 58 names) asked
+  pub left : named (take used buffer) ≡ front (named path ++ cutAt 58 names)
+  pub shut : closed (take used buffer) ≡ true
+  pub room : used ≤ length path + length names
+
+-- the buffer starts with the path and the header's names
 pub entered : (buffer p q : Text) (n row r : ℕ) (asked : Bool) → take n buffer ≡ p ++ q → closed p ≡ true → well true 2 q ≡ true
     → row ≡ rowOf false (named (take n buffer)) asked → take r (take n buffer) ≡ pathOf (take n buffer) → r ≤ length (take n buffer)
-    → EnteredAt p q asked (record { row = row; used = r }) buffer
-entered buffer p q n row r asked b shut good found left h =
+    → EnteredAt p q asked row r buffer
+entered buffer p q n row r asked b shut good at left h =
     let m = length-take n buffer in
     let is : take r buffer ≡ pathOf (p ++ q) = sym (take-take r n buffer (omega arith)) ∙ left ∙ ap pathOf b in
     let l = ap length b ∙ length-append p q in
     record {
-      row = found ∙ ap (λ (ns : List Text). rowOf false ns asked) (ap named b ∙ all-names p q shut good);
+      found = at ∙ ap (λ (ns : List Text). rowOf false ns asked) (ap named b ∙ all-names p q shut good);
       left = ap named is ∙ path-names (p ++ q) ∙ ap front (cut-append p q shut);
       shut = ap closed is ∙ path-closed (p ++ q);
       room = omega arith;

@@ -1,5 +1,5 @@
 -- A whole header: what is read of its body, and what each of the three kinds finds and leaves.
-use mathlib.Core.Path.{_≡_, refl, sym, _∙_, ap}
+use mathlib.Core.Path.{_≡_, refl, sym, _∙_, ap, subst}
 use mathlib.Core.Bool.{Bool, true, false, not}
 use mathlib.Core.List.{List, []}
 use Prim.Native.Nat.{ℕ, _-_, _≤_}
@@ -12,13 +12,12 @@ use Rattle.registers.specs.Check.{refused, passed}
 use Rattle.interpreter.specs.Cuts.{cutAt}
 use Rattle.interpreter.specs.Header.{Header, header, asks}
 use Rattle.interpreter.specs.RowsParts.{rowOf, named}
-use Rattle.interpreter.specs.HeaderParts.{closed, bodyOf, well, headerOf, headed, placeOf, HeadingRead, EnteredAt, LookedUp}
+use Rattle.interpreter.specs.HeaderParts.{closed, bodyOf, well, headerOf, headed, placeOf, HeadingRead, LookedUp}
 use Rattle.interpreter.specs.declared.header.Heading.{Heading}
-use Rattle.interpreter.specs.declared.header.Entered.{Entered}
 use Rattle.interpreter.specs.declared.header.Looked.the-variants.{At}
 use Rattle.interpreter.proofs.Lists.{rest-is}
 use Rattle.interpreter.proofs.header.Grammar.{BodyEnd, header-body, one-name, name-uncut, joined-names}
-use Rattle.interpreter.proofs.header.Paths.{own-names}
+use Rattle.interpreter.proofs.header.Paths.{own-names, EnteredAt}
 use Rattle.interpreter.proofs.header.Laws.{named-nil}
 
 -- a header's body, whether it asks, and what was read of the body
@@ -88,32 +87,35 @@ module _ {t b : Text} {asked : Bool} {h : Heading} (r : Read t b asked h) where
             record { query = refl; at = rw e found; left = rw e (ap named left); shut = ap closed left ∙ shut; short = omega arith },
           )
 
-      pub look-root : h .star ≡ false → h .root ≡ true → (x : Entered) → EnteredAt [] names asked x buffer
-          → LookedUp p t (At (x .row) (x .used) asked) buffer
-      look-root e f x m =
-          let y = rw whole-names at m in (
-            read,
-            read-is,
-            record {
-              query = refl;
-              at = rw (e, f) (rw named-nil at (y .row));
-              left = rw (e, f) (rw named-nil at (y .left));
-              shut = m .shut;
-              short = let k = m .room in let l = names-fit in omega arith;
-            },
-          )
+      -- entered behind what: nothing at the root, else the path
+      module _ (e : h .star ≡ false) (row used : ℕ) (behind : Text) where
+        same : (q : Text) → behind ≡ q → EnteredAt behind names asked row used buffer → EnteredAt q (drop (h .start) b) asked row used buffer
+        same q k m = subst (λ (x : Text). EnteredAt x (drop (h .start) b) asked row used buffer) k (rw whole-names at m)
 
-      pub look-here : h .star ≡ false → h .root ≡ false → (x : Entered) → EnteredAt p names asked x buffer
-          → LookedUp p t (At (x .row) (x .used) asked) buffer
-      look-here e f x m =
-          let y = rw whole-names at m in (
-            read,
-            read-is,
-            record {
-              query = refl;
-              at = rw (e, f) (y .row);
-              left = rw (e, f) (y .left);
-              shut = m .shut;
-              short = let k = m .room in let l = names-fit in omega arith;
-            },
-          )
+        pub look-root : h .root ≡ true → behind ≡ [] → EnteredAt behind names asked row used buffer → LookedUp p t (At row used asked) buffer
+        look-root f k m =
+            let y = same [] k m in (
+              read,
+              read-is,
+              record {
+                query = refl;
+                at = rw (e, f) (rw named-nil at (y .found));
+                left = rw (e, f) (rw named-nil at (y .left));
+                shut = y .shut;
+                short = let l = length-drop (h .start) b in let w = y .room in let n = r .fits in omega arith;
+              },
+            )
+
+        pub look-here : h .root ≡ false → behind ≡ p → EnteredAt behind names asked row used buffer → LookedUp p t (At row used asked) buffer
+        look-here f k m =
+            let y = same p k m in (
+              read,
+              read-is,
+              record {
+                query = refl;
+                at = rw (e, f) (y .found);
+                left = rw (e, f) (y .left);
+                shut = y .shut;
+                short = let l = length-drop (h .start) b in let w = y .room in let n = r .fits in omega arith;
+              },
+            )

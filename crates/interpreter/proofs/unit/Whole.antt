@@ -130,8 +130,8 @@ module _ (s : Settings) (path u : Text) {row used : ℕ} {asked : Bool} {buffer 
         short = omega arith;
       }
 
-  pub read-to : Headed s path u row used asked buffer → (r : Decision) → meantDeed r ≡ decided s row asked (parameterText u)
-      → UnitRead s path u (readingOf used r) buffer
+  pub read-to : Headed s path u row used asked buffer → {r : Decision} (d : Decision) → r ≡ d → meantDeed r ≡ decided s row asked (parameterText u)
+      → UnitRead s path u (readingOf used d) buffer
   unfolding _>>=_
-  read-to h (noDeed e) is = h .is ∙ rw (sym is)
-  read-to h (someDeed d) is = (h .is ∙ rw (sym is), h .shut, h .short)
+  read-to h (noDeed e) q is = h .is ∙ rw (sym (ap meantDeed (sym q) ∙ is))
+  read-to h (someDeed d) q is = (h .is ∙ rw (sym (ap meantDeed (sym q) ∙ is)), h .shut, h .short)

@@ -1,12 +1,18 @@
-use mathlib.Core.Path.{refl}
+use mathlib.Core.Path.{_≡_, refl, sym, ap, subst}
+use mathlib.Core.Bool.{true}
+use mathlib.Core.List.{_++_}
 use mathlib.Core.Logic.{⊎-elim}
-use Prim.Native.Nat.{_-_}
+use Prim.Native.Nat.{ℕ, _+_, _-_, _≤_}
 use native.Mathlib.Omega.{arith}
 use lib.Dec.{ltb}
-use lib.ListN.{length, take, length-take}
+use lib.ListN.{length, take, drop, length-take}
+use borrow.Rule.Slice.PartMut.{putMid}
 use borrow.Author.Tests.{not-true, not-false}
 use borrow.Author.Needs.{needs}
+use Rattle.registers.specs.Text.{Text}
+use Rattle.interpreter.specs.HeaderParts.{closed}
 use Rattle.interpreter.proofs.header.Laws.{closed-nil}
+use Rattle.interpreter.proofs.header.Paths.{copied, entered}
 use Rattle.interpreter.proofs.header.Whole.{Read, read-body, look-bad, names-fit, joined-well, look-star, look-root, look-here}
 use Rattle.interpreter.proofs.header.look_up.Statement.{statement}
 use Rattle.interpreter.proofs.header.look_up.Tie as tie
@@ -61,35 +67,102 @@ returns-2 c =
     look-star (read r) (not-false _ (c .before .before .before .if1 .left)) (take used xs) xs (c .before .if2 .taken) (c .find .result) used
     (c .find .ensures) refl (o .pre .1 .1) (omega arith)
 
--- the path that a header is entered behind: none at the root
-enter-requires : tie.Need-enter-requires
-enter-requires c κs =
-    let r = c .before .before .before .before .before .before in
-    let o = r .before .before .before .before .before .before .before in
-    let w = joined-well (read r) (not-false _ (c .before .before .before .before .if1 .left)) (c .before .before .if2 .left) in
-    let l = names-fit (read r) in
-    let p = o .pre .1 .0 in
-    ⊎-elim
-    (λ k. rw (k .1) (o .pre .0, (omega arith, (search (needs, closed-nil), w))))
-    (λ k. rw (k .1) (o .pre .0, (omega arith, (o .pre .1 .1, w))))
-    (c .before .if3 .came)
+-- the path that the header is entered behind: none at the root
+abbrev read-at : tie.Joined3 → tie.After-read-body
+read-at c = c .before .before .before .before .before
+
+abbrev entry : tie.Joined3 → tie.Start
+entry c = read-at c .before .before .before .before .before .before .before
+
+abbrev behind : tie.Joined3 → Text
+behind c = take (c .if3 .from) (entry c .args .path .now)
+
+abbrev names-at : tie.Joined3 → Text
+names-at c =
+    let t = entry c .args .header .now in
+    let b = take (read-at c .before .before .body-end .result - 0) t in
+    let s = read-at c .read-body .result .start in
+    take (length b - s) (drop s b)
+
+fits : (c : tie.Joined3) → c .if3 .from + length (names-at c) ≤ length (entry c .args .path .now)
+fits c =
+    let l = names-fit (read (read-at c)) in
+    let p = entry c .pre .1 .0 in
+    ⊎-elim (λ k. let e = k .1 in omega arith) (λ k. let e = k .1 in omega arith) (c .if3 .came)
+
+shut : (c : tie.Joined3) → closed (behind c) ≡ true
+shut c =
+    let at : (n : ℕ) → Type 0 = λ n. closed (take n (entry c .args .path .now)) ≡ true in
+    ⊎-elim (λ k. subst at (sym (k .1)) closed-nil) (λ k. subst at (sym (k .1)) (entry c .pre .1 .1)) (c .if3 .came)
+
+sub-copy : tie.Need-sub-copy
+sub-copy c = let f = fits (c .before) in omega arith
+
+part-copy-start : tie.Need-part-copy-start
+part-copy-start c = sub-copy c
+
+part-copy-end : tie.Need-part-copy-end
+part-copy-end c = search needs
+
+copy-requires : tie.Need-copy-requires
+copy-requires c κs = let f = fits (c .before .before) in search needs
+
+add-all : tie.Need-add-all
+add-all c = let f = fits (c .before .before .before .before .before) in search needs
+
+sub-find : tie.Need-sub-find
+sub-find c = search needs
+
+part-find-start : tie.Need-part-find-start
+part-find-start c = search needs
+
+part-find-end : tie.Need-part-find-end
+part-find-end c = let f = fits (c .before .before .before .before .before .before) in search needs
+
+find-requires-2 : tie.Need-find-requires-2
+find-requires-2 c κs = search needs
+
+sub-path-end : tie.Need-sub-path-end
+sub-path-end c = search needs
+
+part-path-end-start : tie.Need-part-path-end-start
+part-path-end-start c = search needs
+
+part-path-end-end : tie.Need-part-path-end-end
+part-path-end-end c = let f = fits (c .before .before .before .before .before .before .before .before .before) in search needs
+
+path-end-requires : tie.Need-path-end-requires
+path-end-requires c κs = search needs
 
 same-length : tie.Need-same-length
 same-length c = search needs
 
 returns-3 : tie.Need-returns-3
 returns-3 c =
-    let e = c .before .before .enter in
-    let i = c .before .before .before .before in
-    let r = i .before .before .before .before .before in
-    let a = r .before .before .before .before .before .before .before .args in
-    let g = not-false _ (i .before .before .before .if1 .left) in
-    let joined = i .before .if2 .left in
-    let path = take (a .used) (a .path .now) in
+    let j = c .before .before .before .before .before .before .before .before .before .before .before in
+    let r = read (read-at j) in
+    let a = entry j .args in
+    let xs = a .path .now in
+    let from = j .if3 .from in
+    let names = names-at j in
+    let k = length xs - from in
+    let copy = c .before .before .before .before .before .before .before .before .copy in
+    let ys = copy .last .1 .0 in
+    let n = from + copy .result in
+    let find = c .before .before .before .find2 in
+    let end = c .path-end in
+    let good = not-false (read-at j .read-body .result .good) (c .before .before .before .before .before .before .before .before .before .before .before .before .before .before .if1 .left) in
+    let joined = c .before .before .before .before .before .before .before .before .before .before .before .before .if2 .left in
+    let f = fits j in
+    let z : n - 0 ≡ from + length names = (let q = copy .ensures .0 in omega arith) in
+    let is : take (n - 0) (putMid from k xs ys) ≡ behind j ++ names =
+    rw z (copied xs names ys _ from k (omega arith) (copy .ensures .1)) in
+    let m = entered (putMid from k xs ys) (behind j) names (n - 0) (find .result) (end .result) _
+    is (shut j) (joined-well r good joined) (find .ensures) (end .ensures .0) (end .ensures .1) in
     ⊎-elim
-    (λ k. look-root (read r) g path _ joined (k .0 .taken) (e .result) (rw (k .1) at (e .ensures)))
-    (λ k. look-here (read r) g path _ joined (k .0 .left) (e .result) (rw (k .1) at (e .ensures)))
-    (i .if3 .came)
+    (λ w. look-root r good (take (a .used) xs) _ joined _ _ _ (w .0 .taken) (ap (λ (n : ℕ). take n xs) (w .1)) m)
+    (λ w. look-here r good (take (a .used) xs) _ joined _ _ _ (w .0 .left) (ap (λ (n : ℕ). take n xs) (w .1)) m)
+    (c .before .before .before .before .before .before .before .before .before .before .before .if3 .came)
 
 pub look-up-spec : {M : Type 1} → statement M
 look-up-spec =
@@ -106,6 +179,18 @@ look-up-spec =
     part-names-end
     find-requires
     returns-2
-    enter-requires
+    sub-copy
+    part-copy-start
+    part-copy-end
+    copy-requires
+    add-all
+    sub-find
+    part-find-start
+    part-find-end
+    find-requires-2
+    sub-path-end
+    part-path-end-start
+    part-path-end-end
+    path-end-requires
     same-length
     returns-3)

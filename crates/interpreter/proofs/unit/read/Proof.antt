@@ -90,8 +90,11 @@ decide-behind-requires c κs =
     let d = dark-at l in
     (entry d .pre .0 .1, row-found l .within, ran d .within)
 
-with-path-requires : tie.Need-with-path-requires
-with-path-requires c κs = search needs
+enum-known-decision : tie.Need-enum-known-decision
+enum-known-decision c = search needs
+
+enum-known-decision-2 : tie.Need-enum-known-decision-2
+enum-known-decision-2 c = search needs
 
 returns-2 : tie.Need-returns-2
 returns-2 c =
@@ -102,12 +105,17 @@ returns-2 c =
 
 returns-3 : tie.Need-returns-3
 returns-3 c =
-    let p = c .before in
-    let l = p .before .before in
+    let l = c .before .before .before .before .before in
     let d = dark-at l in
-    rw (c .with-path .ensures)
-    (read-to (entry d .args .settings) (path-of d) (unit-of d) (row-found l) (p .decide-behind .result)
-    (rw (ran d .behind) at (p .decide-behind .ensures)))
+    read-to (entry d .args .settings) (path-of d) (unit-of d) (row-found l) _ (c .before .decision .given .1)
+    (rw (ran d .behind) at (c .before .before .before .decide-behind .ensures))
+
+returns-4 : tie.Need-returns-4
+returns-4 c =
+    let l = c .before .before .before .before .before in
+    let d = dark-at l in
+    read-to (entry d .args .settings) (path-of d) (unit-of d) (row-found l) _ (c .before .decision2 .given .1)
+    (rw (ran d .behind) at (c .before .before .before .decide-behind .ensures))
 
 pub read-spec : {M : Type 1} → statement M
 read-spec =
@@ -124,6 +132,8 @@ read-spec =
     enum-told
     enum-known-looked
     decide-behind-requires
-    with-path-requires
+    enum-known-decision
+    enum-known-decision-2
     returns-2
-    returns-3)
+    returns-3
+    returns-4)
