@@ -34,8 +34,7 @@ pub(crate) struct Ran {
 fn refuse(mut done: Done, error: Error) -> Done
     ensures { λ r. ⌜ RefusedWith error done r ⌝ }
 {
-    let failed = perform::raise(done.present, error);
-    done.present = failed;
+    done.present = perform::raise(done.present, error);
     done.obeyed = false;
     if error.number() == 430 {
         done.answered = 0;
@@ -58,14 +57,13 @@ fn run_unit(
     requires { ⌜ (done .answered < mostAnswer) × (length (now out) ≡ mostAnswer) × (done .present .status .queued ≤ most) ⌝ }
     ensures { λ r. ⌜ UnitRan done (take (done .used) (now (path .entry))) (now (unit .entry)) (now (out .entry)) r (now (path .exit)) (now (out .exit)) ⌝ }
 {
-    let present = done.present;
-    let reading = unit::read(rows, words, present.settings, path, done.used, unit);
+    let reading = unit::read(rows, words, done.present.settings, path, done.used, unit);
     match reading {
         Reading::Refused(error) => {
             return refuse(done, error);
         }
         Reading::Obey { deed, used } => {
-            let performed = perform::perform(words, present, deed, out, done.answered);
+            let performed = perform::perform(words, done.present, deed, out, done.answered);
             let next = performed.present;
             return Done {
                 present: next,
@@ -121,9 +119,8 @@ pub(crate) fn run_line(
     ensures { λ r. ⌜ LineRan present (now (line .entry)) overlong r (now (out .exit)) ⌝ }
 {
     if overlong {
-        let failed = perform::raise(present, Error::InputBufferOverrun);
         return Ran {
-            present: failed,
+            present: perform::raise(present, Error::InputBufferOverrun),
             answered: 0,
         };
     }

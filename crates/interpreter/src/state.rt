@@ -96,9 +96,8 @@ pub(crate) fn flow_of(state: State) -> Flow
 pub(crate) fn state_of(flow: Flow, line: [u8; LINE], answer: [u8; ANSWER]) -> State
     ensures { λ r. ⌜ r ≡ stateOf flow line answer ⌝ }
 {
-    let present = flow.present;
-    let settings = present.settings;
-    let status = present.status;
+    let settings = flow.present.settings;
+    let status = flow.present.status;
     State {
         settings,
         status,
@@ -115,22 +114,17 @@ impl State {
     pub(crate) fn possible(self) -> bool
         ensures { λ r. ⌜ Tested self r ⌝ }
     {
-        let settings = self.settings;
-        let status = self.status;
-        let s = settings.possible();
-        let t = status.possible();
-        s & t & (self.filled <= LINE) & (self.waiting <= ANSWER)
+        let good = self.settings.possible() & self.status.possible();
+        good & (self.filled <= LINE) & (self.waiting <= ANSWER)
     }
 
     // The first state.
     pub fn power_up() -> State
         ensures { λ r. ⌜ Started r ⌝ }
     {
-        let settings = Settings::reset();
-        let status = Status::power_up();
         State {
-            settings,
-            status,
+            settings: Settings::reset(),
+            status: Status::power_up(),
             line: [0u8; LINE],
             filled: 0,
             overlong: false,
@@ -180,9 +174,7 @@ impl State {
         }
         let waiting = self.waiting;
         if waiting == 0 {
-            let status = self.status;
-            let next = status.raise(Error::QueryUnterminated);
-            self.status = next;
+            self.status = self.status.raise(Error::QueryUnterminated);
             return Taken {
                 outcome: Outcome::NoAnswer,
                 length: 0,
@@ -222,9 +214,7 @@ impl State {
                 state: self,
             };
         }
-        let status = self.status;
-        let next = status.report(value);
-        self.status = next;
+        self.status = self.status.report(value);
         Reported {
             outcome: Outcome::Done,
             state: self,
@@ -241,11 +231,9 @@ impl State {
                 byte: 0,
             };
         }
-        let status = self.status;
-        let byte = status.status_byte(self.waiting != 0);
         Seen {
             outcome: Outcome::Done,
-            byte,
+            byte: self.status.status_byte(self.waiting != 0),
         }
     }
 }

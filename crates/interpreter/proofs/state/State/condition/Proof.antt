@@ -22,11 +22,11 @@ report-requires c κs = search needs
 
 returns-3 : tie.Need-returns-3
 returns-3 c =
-    let a = c .before .before .before .before .before .args in
+    let a = c .before .before .before .before .args in
     let t = c .report .result in
     let is = c .report .ensures in
-    let h = c .before .before .if2 .left in
-    happens-on (a .self) (condition (a .value)) _ (c .before .before .before .before .possible .ensures) (c .before .before .before .if1 .left) _ (withStatus t (a .self))
+    let h = c .before .if2 .left in
+    happens-on (a .self) (condition (a .value)) _ (c .before .before .before .possible .ensures) (c .before .before .if1 .left) _ (withStatus t (a .self))
     (condition-short (a .self) (a .value) t is h) (condition-on (a .self) (a .value) t is h)
 
 pub condition-spec : {M : Type 1} → statement M

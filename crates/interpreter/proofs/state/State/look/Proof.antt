@@ -16,10 +16,10 @@ status-byte-requires c κs = search needs
 
 returns-2 : tie.Need-returns-2
 returns-2 c =
-    let s = c .before .before .before .before .before .args .self in
-    let w = c .before .before .before .before .possible .ensures in
+    let s = c .before .before .before .before .args .self in
+    let w = c .before .before .before .possible .ensures in
     let wide = w .answer in
-    happens-on s look _ w (c .before .before .before .if1 .left) _ s (λ k. k) (look-byte s (omega arith) (c .status-byte .result) (c .status-byte .ensures))
+    happens-on s look _ w (c .before .before .if1 .left) _ s (λ k. k) (look-byte s (omega arith) (c .status-byte .result) (c .status-byte .ensures))
 
 pub look-spec : {M : Type 1} → statement M
 look-spec = tie.close (tie.spec possible-requires returns status-byte-requires returns-2)

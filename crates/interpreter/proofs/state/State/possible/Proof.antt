@@ -13,8 +13,8 @@ possible-requires-2 c κs = search needs
 returns : tie.Need-returns
 unfolding possibleParts
 returns c =
-    let s = c .before .before .before .before .before .before .args .self in
-    let g = c .before .before .before .before .before .before .good .0 .1 .1 in
+    let s = c .before .before .before .before .args .self in
+    let g = c .before .before .before .before .good .0 .1 .1 in
     record {
       is = rw (c .before .before .before .possible .ensures, c .before .before .possible2 .ensures);
       values = length-unmapped _ (s .settings .values) 16 (g .0 .1 .1 .0 .1 .0 .1);

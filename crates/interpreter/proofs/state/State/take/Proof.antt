@@ -22,14 +22,14 @@ raise-requires c κs = search needs
 
 returns-2 : tie.Need-returns-2
 returns-2 c =
-    let s = c .before .before .before .before .before .before .args .self in
-    let buffer = c .before .before .before .before .before .before .args .buffer .now in
-    let w = c .before .before .before .before .possible .ensures in
+    let s = c .before .before .before .before .before .args .self in
+    let buffer = c .before .before .before .before .before .args .buffer .now in
+    let w = c .before .before .before .possible .ensures in
     let is = c .raise .ensures in
     let wide = w .answer in
-    happens-on s (takes buffer) _ w (c .before .before .before .if1 .left) _ (withStatus (c .raise .result) s)
+    happens-on s (takes buffer) _ w (c .before .before .if1 .left) _ (withStatus (c .raise .result) s)
     (λ k. record { queued = rw is (raised-queued 420 (s .status) (w .errors) (k .queued)); filled = k .filled; waiting = k .waiting })
-    (take-none s (omega arith) buffer (c .raise .result) (w .errors) is (c .before .before .if2 .taken))
+    (take-none s (omega arith) buffer (c .raise .result) (w .errors) is (c .before .if2 .taken))
 
 returns-3 : tie.Need-returns-3
 returns-3 c =
