@@ -2,21 +2,20 @@ use mathlib.Core.List.{[]}
 use native.Mathlib.Omega.{arith}
 use lib.ListN.{length-take, length-drop, length-append}
 use Rattle.interpreter.proofs.flow.Laws.{part-plain, line-open, line-ended, fed-then}
-use borrow.Author.Needs.{needs}
 use Rattle.interpreter.proofs.flow.feed_line.Statement.{statement}
 use Rattle.interpreter.proofs.flow.feed_line.Tie as tie
 
 find-requires : tie.Need-find-requires
-find-requires c κs = search needs
+find-requires c κs = omega arith
 
 sub-hold : tie.Need-sub-hold
-sub-hold c = search needs
+sub-hold c = omega arith
 
 part-hold-start : tie.Need-part-hold-start
-part-hold-start c = search needs
+part-hold-start c = omega arith
 
 part-hold-end : tie.Need-part-hold-end
-part-hold-end c = search needs
+part-hold-end c = omega arith
 
 hold-requires : tie.Need-hold-requires
 hold-requires c κs =

@@ -1,3 +1,4 @@
+use native.Mathlib.Omega.{arith}
 use mathlib.Core.Path.{_≡_}
 use lib.ListN.{length}
 use Rattle.interpreter.proofs.flow.Laws.{held-fed}
@@ -6,13 +7,13 @@ use Rattle.interpreter.proofs.flow.hold.Statement.{statement}
 use Rattle.interpreter.proofs.flow.hold.Tie as tie
 
 sub-smaller : tie.Need-sub-smaller
-sub-smaller c = search needs
+sub-smaller c = omega arith
 
 smaller-requires : tie.Need-smaller-requires
-smaller-requires c κs = search needs
+smaller-requires c κs = tt
 
 paste-requires : tie.Need-paste-requires
-paste-requires c κs = search needs
+paste-requires c κs = omega arith
 
 returns : tie.Need-returns
 returns c =

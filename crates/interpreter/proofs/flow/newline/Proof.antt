@@ -11,16 +11,16 @@ use Rattle.interpreter.proofs.flow.newline.Statement.{statement}
 use Rattle.interpreter.proofs.flow.newline.Tie as tie
 
 discard-requires : tie.Need-discard-requires
-discard-requires c κs = search needs
+discard-requires c κs = tt
 
 sub-run-line : tie.Need-sub-run-line
-sub-run-line c = search needs
+sub-run-line c = omega arith
 
 part-run-line-start : tie.Need-part-run-line-start
-part-run-line-start c = search needs
+part-run-line-start c = omega arith
 
 part-run-line-end : tie.Need-part-run-line-end
-part-run-line-end c = search needs
+part-run-line-end c = omega arith
 
 run-line-requires : tie.Need-run-line-requires
 run-line-requires c κs =
@@ -30,7 +30,7 @@ run-line-requires c κs =
     (p .0, (rw (sub-zero, length-take) (omega arith), search needs, c .before .before .discard .ensures .queued (p .1 .0 .queued)))
 
 add-t13 : tie.Need-add-t13
-add-t13 c = search needs
+add-t13 c = omega arith
 
 returns : tie.Need-returns
 unfolding piece byte newlines if_then_else_

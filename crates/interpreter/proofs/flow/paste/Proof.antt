@@ -1,34 +1,34 @@
-use borrow.Author.Needs.{needs}
+use native.Mathlib.Omega.{arith}
 use Rattle.interpreter.proofs.flow.Laws.{pasted}
 use Rattle.interpreter.proofs.flow.paste.Statement.{statement}
 use Rattle.interpreter.proofs.flow.paste.Tie as tie
 
 sub-copy : tie.Need-sub-copy
-sub-copy c = search needs
+sub-copy c = omega arith
 
 part-copy-start : tie.Need-part-copy-start
-part-copy-start c = search needs
+part-copy-start c = omega arith
 
 part-copy-end : tie.Need-part-copy-end
-part-copy-end c = search needs
+part-copy-end c = omega arith
 
 sub-copy-2 : tie.Need-sub-copy-2
-sub-copy-2 c = search needs
+sub-copy-2 c = omega arith
 
 part-copy-start-2 : tie.Need-part-copy-start-2
-part-copy-start-2 c = search needs
+part-copy-start-2 c = omega arith
 
 part-copy-end-2 : tie.Need-part-copy-end-2
-part-copy-end-2 c = search needs
+part-copy-end-2 c = omega arith
 
 copy-requires : tie.Need-copy-requires
-copy-requires c κs = search needs
+copy-requires c κs = omega arith
 
 add-result : tie.Need-add-result
-add-result c = search needs
+add-result c = omega arith
 
 same-length : tie.Need-same-length
-same-length c = search needs
+same-length c = omega arith
 
 returns : tie.Need-returns
 returns c =

@@ -1,6 +1,5 @@
 use native.Mathlib.Omega.{arith}
 use Rattle.interpreter.proofs.header.Grammar.{body-asked, body-plain, body-empty}
-use borrow.Author.Needs.{needs}
 use Rattle.interpreter.proofs.header.body_end.Statement.{statement}
 use Rattle.interpreter.proofs.header.body_end.Tie as tie
 
@@ -8,13 +7,13 @@ returns : tie.Need-returns
 returns c = body-empty (c .before .args .text .now) (c .if1 .taken)
 
 sub-if2 : tie.Need-sub-if2
-sub-if2 c = search needs
+sub-if2 c = omega arith
 
 shared-slice-read-if2 : tie.Need-shared-slice-read-if2
-shared-slice-read-if2 c = search needs
+shared-slice-read-if2 c = omega arith
 
 sub-result : tie.Need-sub-result
-sub-result c = search needs
+sub-result c = omega arith
 
 returns-2 : tie.Need-returns-2
 returns-2 c =

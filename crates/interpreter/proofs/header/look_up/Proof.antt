@@ -28,19 +28,19 @@ read c =
     read-body t (e .result) (c .read-body .result) (e .ensures) (c .read-body .ensures)
 
 body-end-requires : tie.Need-body-end-requires
-body-end-requires c κs = search needs
+body-end-requires c κs = tt
 
 sub-body : tie.Need-sub-body
-sub-body c = search needs
+sub-body c = omega arith
 
 part-body-start : tie.Need-part-body-start
-part-body-start c = search needs
+part-body-start c = omega arith
 
 part-body-end : tie.Need-part-body-end
-part-body-end c = search needs
+part-body-end c = omega arith
 
 read-body-requires : tie.Need-read-body-requires
-read-body-requires c κs = search needs
+read-body-requires c κs = tt
 
 returns : tie.Need-returns
 returns c = look-bad (read (c .before .before)) (not-true _ (c .if1 .taken))
@@ -52,7 +52,7 @@ part-names-start : tie.Need-part-names-start
 part-names-start c = sub-names c
 
 part-names-end : tie.Need-part-names-end
-part-names-end c = search needs
+part-names-end c = omega arith
 
 find-requires : tie.Need-find-requires
 find-requires c κs = search needs
@@ -102,7 +102,7 @@ part-copy-start : tie.Need-part-copy-start
 part-copy-start c = sub-copy c
 
 part-copy-end : tie.Need-part-copy-end
-part-copy-end c = search needs
+part-copy-end c = omega arith
 
 copy-requires : tie.Need-copy-requires
 copy-requires c κs = let f = fits (c .before .before) in search needs
@@ -111,10 +111,10 @@ add-all : tie.Need-add-all
 add-all c = let f = fits (c .before .before .before .before .before) in search needs
 
 sub-find : tie.Need-sub-find
-sub-find c = search needs
+sub-find c = omega arith
 
 part-find-start : tie.Need-part-find-start
-part-find-start c = search needs
+part-find-start c = omega arith
 
 part-find-end : tie.Need-part-find-end
 part-find-end c = let f = fits (c .before .before .before .before .before .before) in search needs
@@ -123,19 +123,19 @@ find-requires-2 : tie.Need-find-requires-2
 find-requires-2 c κs = search needs
 
 sub-path-end : tie.Need-sub-path-end
-sub-path-end c = search needs
+sub-path-end c = omega arith
 
 part-path-end-start : tie.Need-part-path-end-start
-part-path-end-start c = search needs
+part-path-end-start c = omega arith
 
 part-path-end-end : tie.Need-part-path-end-end
 part-path-end-end c = let f = fits (c .before .before .before .before .before .before .before .before .before) in search needs
 
 path-end-requires : tie.Need-path-end-requires
-path-end-requires c κs = search needs
+path-end-requires c κs = tt
 
 same-length : tie.Need-same-length
-same-length c = search needs
+same-length c = omega arith
 
 returns-3 : tie.Need-returns-3
 returns-3 c =

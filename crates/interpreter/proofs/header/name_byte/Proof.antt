@@ -4,7 +4,6 @@ use mir.Val.{boolByte}
 use Rattle.interpreter.specs.HeaderParts.{nameByte}
 use Rattle.registers.specs.Text.{if_then_else_, letter, wordByte}
 use borrow.Author.Tests.{eq-eqb, ne-eqb}
-use borrow.Author.Needs.{needs}
 use Rattle.interpreter.proofs.header.name_byte.Statement.{statement}
 use Rattle.interpreter.proofs.header.name_byte.Tie as tie
 
@@ -15,10 +14,10 @@ as-byte true = refl
 as-byte false = refl
 
 is-letter-requires : tie.Need-is-letter-requires
-is-letter-requires c κs = search needs
+is-letter-requires c κs = tt
 
 cast-result : tie.Need-cast-result
-cast-result c = search needs
+cast-result c = tt
 
 returns : tie.Need-returns
 unfolding nameByte if_then_else_
@@ -29,10 +28,10 @@ unfolding nameByte if_then_else_
 returns-2 c = rw (ne-eqb (c .before .before .args .state) 2 (c .before .if1 .left), c .if2 .taken)
 
 is-word-byte-requires : tie.Need-is-word-byte-requires
-is-word-byte-requires c κs = search needs
+is-word-byte-requires c κs = tt
 
 cast-result-2 : tie.Need-cast-result-2
-cast-result-2 c = search needs
+cast-result-2 c = tt
 
 returns-3 : tie.Need-returns-3
 unfolding nameByte if_then_else_

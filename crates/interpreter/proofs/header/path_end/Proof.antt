@@ -1,5 +1,4 @@
 use mathlib.Core.Path.{_≡_, sym, _∙_, ap}
-use borrow.Author.Needs.{needs}
 use native.Mathlib.Omega.{arith}
 use Prim.Native.Nat.{_≤_}
 use lib.ListN.{length, take}
@@ -19,10 +18,10 @@ loop-holds : tie.Need-loop-holds Inv-loop μ-loop
 loop-holds c = (omega arith, ap pathOf (take-length (c .args .text .now)))
 
 sub-if1 : tie.Need-sub-if1 Inv-loop μ-loop
-sub-if1 c = search needs
+sub-if1 c = omega arith
 
 shared-slice-read-if1 : tie.Need-shared-slice-read-if1 Inv-loop μ-loop
-shared-slice-read-if1 c = search needs
+shared-slice-read-if1 c = omega arith
 
 returns : tie.Need-returns Inv-loop μ-loop
 returns c =
@@ -31,10 +30,10 @@ returns c =
     (sym (path-found t (w .e) (omega arith) (omega arith) (c .if1 .taken)) ∙ w .inv .1, w .inv .0)
 
 sub-e : tie.Need-sub-e Inv-loop μ-loop
-sub-e c = search needs
+sub-e c = omega arith
 
 loop-less : tie.Need-loop-less Inv-loop μ-loop
-loop-less c = search needs
+loop-less c = omega arith
 
 loop-again : tie.Need-loop-again Inv-loop μ-loop
 loop-again c =

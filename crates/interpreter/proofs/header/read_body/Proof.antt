@@ -1,13 +1,13 @@
-use borrow.Author.Needs.{needs}
+use native.Mathlib.Omega.{arith}
 use Rattle.interpreter.proofs.header.Grammar.{lead-within, read-heading}
 use Rattle.interpreter.proofs.header.read_body.Statement.{statement}
 use Rattle.interpreter.proofs.header.read_body.Tie as tie
 
 byte-at-requires : tie.Need-byte-at-requires
-byte-at-requires c κs = search needs
+byte-at-requires c κs = tt
 
 cast-start : tie.Need-cast-start
-cast-start c = search needs
+cast-start c = tt
 
 sub-well-named : tie.Need-sub-well-named
 sub-well-named c = lead-within (c .before .before .args .body .now) (c .byte-at .result) (c .byte-at .ensures)
@@ -16,10 +16,10 @@ part-well-named-start : tie.Need-part-well-named-start
 part-well-named-start c = sub-well-named c
 
 part-well-named-end : tie.Need-part-well-named-end
-part-well-named-end c = search needs
+part-well-named-end c = omega arith
 
 well-named-requires : tie.Need-well-named-requires
-well-named-requires c κs = search needs
+well-named-requires c κs = tt
 
 returns : tie.Need-returns
 returns c =

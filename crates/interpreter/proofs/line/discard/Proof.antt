@@ -11,7 +11,7 @@ returns : tie.Need-returns
 returns c = record { queued = λ h. h; box = λ out _. none-waits (c .before .args .present) out (c .before .args .waiting) (c .if1 .taken) }
 
 raise-requires : tie.Need-raise-requires
-raise-requires c κs = search needs
+raise-requires c κs = tt
 
 returns-2 : tie.Need-returns-2
 returns-2 c =

@@ -9,10 +9,10 @@ use Rattle.interpreter.proofs.line.refuse.Statement.{statement}
 use Rattle.interpreter.proofs.line.refuse.Tie as tie
 
 raise-requires : tie.Need-raise-requires
-raise-requires c κs = search needs
+raise-requires c κs = tt
 
 number-requires : tie.Need-number-requires
-number-requires c κs = search needs
+number-requires c κs = tt
 
 returns : tie.Need-returns
 returns c =

@@ -8,7 +8,7 @@ use Rattle.interpreter.proofs.line.run_line.Statement.{statement}
 use Rattle.interpreter.proofs.line.run_line.Tie as tie
 
 raise-requires : tie.Need-raise-requires
-raise-requires c κs = search needs
+raise-requires c κs = tt
 
 returns : tie.Need-returns
 returns c =
@@ -23,7 +23,7 @@ returns c =
     }
 
 white-end-requires : tie.Need-white-end-requires
-white-end-requires c κs = search needs
+white-end-requires c κs = tt
 
 returns-2 : tie.Need-returns-2
 returns-2 c =
@@ -38,7 +38,7 @@ run-units-requires : tie.Need-run-units-requires
 run-units-requires c κs = search needs
 
 same-length : tie.Need-same-length
-same-length c = search needs
+same-length c = omega arith
 
 returns-3 : tie.Need-returns-3
 returns-3 c =
@@ -54,10 +54,10 @@ returns-3 c =
     }
 
 slice-write-out : tie.Need-slice-write-out
-slice-write-out c = search needs
+slice-write-out c = omega arith
 
 add-ran : tie.Need-add-ran
-add-ran c = search needs
+add-ran c = omega arith
 
 same-length-2 : tie.Need-same-length-2
 same-length-2 c = search needs

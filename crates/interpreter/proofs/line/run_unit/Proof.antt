@@ -1,6 +1,6 @@
+use native.Mathlib.Omega.{arith}
 use lib.ListN.{take}
 use Rattle.interpreter.proofs.line.Laws.{unit-allowed, unit-refused, unit-obeyed}
-use borrow.Author.Needs.{needs}
 use Rattle.interpreter.proofs.line.run_unit.Statement.{statement}
 use Rattle.interpreter.proofs.line.run_unit.Tie as tie
 
@@ -10,10 +10,10 @@ read-requires c κs =
     (p .0, p .1 .0)
 
 enum-known-reading : tie.Need-enum-known-reading
-enum-known-reading c = search needs
+enum-known-reading c = omega arith
 
 refuse-requires : tie.Need-refuse-requires
-refuse-requires c κs = search needs
+refuse-requires c κs = tt
 
 returns : tie.Need-returns
 returns c =
@@ -24,7 +24,7 @@ returns c =
     (a .out .now) _ (c .before .before .reading .given .1) (c .refuse .result) (c .refuse .ensures) (p .1 .1 .2) (p .1 .1 .0)
 
 enum-known-reading-2 : tie.Need-enum-known-reading-2
-enum-known-reading-2 c = search needs
+enum-known-reading-2 c = omega arith
 
 perform-requires : tie.Need-perform-requires
 perform-requires c κs =
@@ -35,7 +35,7 @@ perform-requires c κs =
     ((p .0 .1, allowed), p .1 .1)
 
 same-length : tie.Need-same-length
-same-length c = search needs
+same-length c = omega arith
 
 returns-2 : tie.Need-returns-2
 returns-2 c =

@@ -17,7 +17,7 @@ word-cell-requires : tie.Need-word-cell-requires Inv-loop μ-loop
 word-cell-requires c κs = search needs
 
 cast-long : tie.Need-cast-long Inv-loop μ-loop
-cast-long c = search needs
+cast-long c = omega arith
 
 loop-holds : tie.Need-loop-holds Inv-loop μ-loop
 loop-holds c = agreeing-none _ _ (c .before .before .before .pre .1)
@@ -26,13 +26,13 @@ returns : tie.Need-returns Inv-loop μ-loop
 returns c = agreeing-full (c .before .before .loop .inv) (omega arith)
 
 shared-slice-read-in-capitals : tie.Need-shared-slice-read-in-capitals Inv-loop μ-loop
-shared-slice-read-in-capitals c = search needs
+shared-slice-read-in-capitals c = omega arith
 
 in-capitals-requires : tie.Need-in-capitals-requires Inv-loop μ-loop
-in-capitals-requires c κs = search needs
+in-capitals-requires c κs = tt
 
 add-word-cell : tie.Need-add-word-cell Inv-loop μ-loop
-add-word-cell c = search needs
+add-word-cell c = omega arith
 
 word-cell-requires-2 : tie.Need-word-cell-requires-2 Inv-loop μ-loop
 word-cell-requires-2 c κs = search needs
@@ -43,10 +43,10 @@ returns-2 c =
     agreeing-miss s (omega arith) (omega arith) (λ e. c .if2 .taken (c .before .before .in-capitals .ensures ∙ e ∙ sym (c .before .word-cell2 .ensures)))
 
 add-n : tie.Need-add-n Inv-loop μ-loop
-add-n c = search needs
+add-n c = omega arith
 
 loop-less : tie.Need-loop-less Inv-loop μ-loop
-loop-less c = search needs
+loop-less c = omega arith
 
 loop-again : tie.Need-loop-again Inv-loop μ-loop
 loop-again c =

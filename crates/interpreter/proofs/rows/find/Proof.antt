@@ -20,22 +20,22 @@ abbrev μ-rows : tie.MeasureT-rows
 μ-rows rows words text star asked bit at₀ passed₀ next₀ at passed next = 33 - next
 
 form-bit-requires : tie.Need-form-bit-requires Inv-loop μ-loop Inv-rows μ-rows
-form-bit-requires c κs = search needs
+form-bit-requires c κs = tt
 
 rows-holds : tie.Need-rows-holds Inv-loop μ-loop Inv-rows μ-rows
 rows-holds c = search-start
 
 add-next : tie.Need-add-next Inv-loop μ-loop Inv-rows μ-rows
-add-next c = search needs
+add-next c = omega arith
 
 row-cell-requires : tie.Need-row-cell-requires Inv-loop μ-loop Inv-rows μ-rows
 row-cell-requires c κs = search needs
 
 cast-shared : tie.Need-cast-shared Inv-loop μ-loop Inv-rows μ-rows
-cast-shared c = search needs
+cast-shared c = omega arith
 
 rows-less : tie.Need-rows-less Inv-loop μ-loop Inv-rows μ-rows
-rows-less c = search needs
+rows-less c = omega arith
 
 rows-again : tie.Need-rows-again Inv-loop μ-loop Inv-rows μ-rows
 rows-again c =
@@ -46,7 +46,7 @@ row-cell-requires-2 : tie.Need-row-cell-requires-2 Inv-loop μ-loop Inv-rows μ-
 row-cell-requires-2 c κs = search needs
 
 rows-less-2 : tie.Need-rows-less-2 Inv-loop μ-loop Inv-rows μ-rows
-rows-less-2 c = search needs
+rows-less-2 c = omega arith
 
 rows-again-2 : tie.Need-rows-again-2 Inv-loop μ-loop Inv-rows μ-rows
 rows-again-2 c =
@@ -58,7 +58,7 @@ row-cell-requires-3 : tie.Need-row-cell-requires-3 Inv-loop μ-loop Inv-rows μ-
 row-cell-requires-3 c κs = search needs
 
 cast-n : tie.Need-cast-n Inv-loop μ-loop Inv-rows μ-rows
-cast-n c = search needs
+cast-n c = omega arith
 
 loop-holds : tie.Need-loop-holds Inv-loop μ-loop Inv-rows μ-rows
 loop-holds c =
@@ -95,13 +95,13 @@ take-node-requires c κs =
     (o .before .before .before .before .before .pre .1, l .inv .within, rw (c .row-cell4 .ensures) k)
 
 enum-known-walk : tie.Need-enum-known-walk Inv-loop μ-loop Inv-rows μ-rows
-enum-known-walk c = search needs
+enum-known-walk c = omega arith
 
 enum-told : tie.Need-enum-told Inv-loop μ-loop Inv-rows μ-rows
-enum-told c = search needs
+enum-told c = omega arith
 
 rows-less-3 : tie.Need-rows-less-3 Inv-loop μ-loop Inv-rows μ-rows
-rows-less-3 c = search needs
+rows-less-3 c = omega arith
 
 rows-again-3 : tie.Need-rows-again-3 Inv-loop μ-loop Inv-rows μ-rows
 rows-again-3 c =
@@ -111,10 +111,10 @@ rows-again-3 c =
     try-missed (l .before .loop .inv) (l .loop-test .taken) (x .result) (x .ensures) (k .result) (k .ensures) (c .enum-told .given .1)
 
 add-passed : tie.Need-add-passed Inv-loop μ-loop Inv-rows μ-rows
-add-passed c = search needs
+add-passed c = omega arith
 
 loop-less : tie.Need-loop-less Inv-loop μ-loop Inv-rows μ-rows
-loop-less c = search needs
+loop-less c = omega arith
 
 loop-again : tie.Need-loop-again Inv-loop μ-loop Inv-rows μ-rows
 loop-again c =
@@ -124,7 +124,7 @@ loop-again c =
     try-on (l .before .loop .inv) (l .loop-test .taken) (x .result) (x .ensures) (k .result) (k .ensures) (c .before .walk .given .1)
 
 rows-less-4 : tie.Need-rows-less-4 Inv-loop μ-loop Inv-rows μ-rows
-rows-less-4 c = search needs
+rows-less-4 c = omega arith
 
 rows-again-4 : tie.Need-rows-again-4 Inv-loop μ-loop Inv-rows μ-rows
 rows-again-4 c = try-left (c .before .before .loop .inv) (c .before .loop-test .left) (c .if4 .taken)

@@ -1,3 +1,4 @@
+use native.Mathlib.Omega.{arith}
 use Rattle.interpreter.specs.RowsParts.{formLength}
 use mathlib.Core.Path.{sym}
 use borrow.Author.Needs.{needs}
@@ -8,13 +9,13 @@ word-cell-requires : tie.Need-word-cell-requires
 word-cell-requires c κs = search needs
 
 cast-short : tie.Need-cast-short
-cast-short c = search needs
+cast-short c = omega arith
 
 word-cell-requires-2 : tie.Need-word-cell-requires-2
 word-cell-requires-2 c κs = search needs
 
 cast-long : tie.Need-cast-long
-cast-long c = search needs
+cast-long c = omega arith
 
 returns : tie.Need-returns
 unfolding formLength

@@ -3,15 +3,14 @@ use native.Mathlib.Omega.{arith}
 use lib.ListN.{length}
 use Rattle.interpreter.specs.RowsParts.{rowCell}
 use Rattle.interpreter.proofs.rows.Rows.{table-long}
-use borrow.Author.Needs.{needs}
 use Rattle.interpreter.proofs.rows.row_cell.Statement.{statement}
 use Rattle.interpreter.proofs.rows.row_cell.Tie as tie
 
 mul-result : tie.Need-mul-result
-mul-result c = search needs
+mul-result c = omega arith
 
 add-result : tie.Need-add-result
-add-result c = search needs
+add-result c = omega arith
 
 shared-slice-read-result : tie.Need-shared-slice-read-result
 shared-slice-read-result c = let e = ap length (c .before .pre .0) in let l = table-long in omega arith

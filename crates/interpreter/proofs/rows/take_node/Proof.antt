@@ -1,4 +1,4 @@
-use borrow.Author.Needs.{needs}
+use native.Mathlib.Omega.{arith}
 use Rattle.interpreter.proofs.rows.Walks.{must-known, may-known, node-must, node-taken, node-left, found}
 use Rattle.interpreter.proofs.rows.take_node.Statement.{statement}
 use Rattle.interpreter.proofs.rows.take_node.Tie as tie
@@ -10,16 +10,16 @@ returns : tie.Need-returns
 returns c = node-must (c .before .before .before .before .args .node) (c .before .before .before .before .args .text .now) (c .before .before .before .before .args .at) (c .before .if1 .taken) (c .take-word .result) (c .take-word .ensures)
 
 cast-take-word : tie.Need-cast-take-word
-cast-take-word c = search needs
+cast-take-word c = omega arith
 
 take-word-requires-2 : tie.Need-take-word-requires-2
 take-word-requires-2 c κs = (c .before .before .before .pre .0, may-known (c .before .before .before .args .node) (c .before .before .before .pre .2) (c .if1 .left))
 
 enum-known-walk : tie.Need-enum-known-walk
-enum-known-walk c = search needs
+enum-known-walk c = omega arith
 
 enum-told : tie.Need-enum-told
-enum-told c = search needs
+enum-told c = omega arith
 
 returns-2 : tie.Need-returns-2
 returns-2 c =

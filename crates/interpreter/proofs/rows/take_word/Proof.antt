@@ -20,10 +20,10 @@ returns c =
     end-here (s .args .text .now) (s .args .at) (s .args .word) (s .pre .1) (c .if1 .taken)
 
 shared-slice-read-in-capitals : tie.Need-shared-slice-read-in-capitals
-shared-slice-read-in-capitals c = search needs
+shared-slice-read-in-capitals c = omega arith
 
 in-capitals-requires : tie.Need-in-capitals-requires
-in-capitals-requires c κs = search needs
+in-capitals-requires c κs = tt
 
 word-cell-requires : tie.Need-word-cell-requires
 word-cell-requires c κs = search needs
@@ -35,13 +35,13 @@ returns-2 c =
     (λ e. c .if2 .taken (c .before .before .in-capitals .ensures ∙ e ∙ sym (c .before .word-cell .ensures)))
 
 sub-agreed-letters : tie.Need-sub-agreed-letters
-sub-agreed-letters c = search needs
+sub-agreed-letters c = omega arith
 
 part-agreed-letters-start : tie.Need-part-agreed-letters-start
-part-agreed-letters-start c = search needs
+part-agreed-letters-start c = omega arith
 
 part-agreed-letters-end : tie.Need-part-agreed-letters-end
-part-agreed-letters-end c = search needs
+part-agreed-letters-end c = omega arith
 
 agreed-letters-requires : tie.Need-agreed-letters-requires
 agreed-letters-requires c κs = search needs
@@ -60,10 +60,10 @@ returns-4 c =
     taken-last (walked (c .before .before .before)) (sym (c .before .before .has-length .ensures) ∙ not-false _ (c .before .if3 .left)) (c .if4 .taken)
 
 shared-slice-read-if5 : tie.Need-shared-slice-read-if5
-shared-slice-read-if5 c = search needs
+shared-slice-read-if5 c = omega arith
 
 add-t18 : tie.Need-add-t18
-add-t18 c = search needs
+add-t18 c = omega arith
 
 returns-5 : tie.Need-returns-5
 returns-5 c =

@@ -1,12 +1,12 @@
+use native.Mathlib.Omega.{arith}
 use mathlib.Core.Path.{refl}
 use Rattle.interpreter.proofs.state.Records.{flow-fits}
 use Rattle.interpreter.proofs.server.Chunks.{refused-chunk, served-chunk}
-use borrow.Author.Needs.{needs}
 use Rattle.interpreter.proofs.server.serve.Statement.{statement}
 use Rattle.interpreter.proofs.server.serve.Tie as tie
 
 possible-requires : tie.Need-possible-requires
-possible-requires c κs = search needs
+possible-requires c κs = tt
 
 returns : tie.Need-returns
 returns c =
@@ -14,28 +14,28 @@ returns c =
     refused-chunk (a .state) _ (c .before .possible .ensures) (a .input .now) (a .output .now) (c .if1 .taken)
 
 rows-requires : tie.Need-rows-requires
-rows-requires c κs = search needs
+rows-requires c κs = tt
 
 slice-aggregate-lines : tie.Need-slice-aggregate-lines
-slice-aggregate-lines c = search needs
+slice-aggregate-lines c = omega arith
 
 words-requires : tie.Need-words-requires
-words-requires c κs = search needs
+words-requires c κs = tt
 
 slice-aggregate-lines-2 : tie.Need-slice-aggregate-lines-2
-slice-aggregate-lines-2 c = search needs
+slice-aggregate-lines-2 c = omega arith
 
 flow-of-requires : tie.Need-flow-of-requires
-flow-of-requires c κs = search needs
+flow-of-requires c κs = tt
 
 lines-requires : tie.Need-lines-requires
 lines-requires c κs = ((c .before .before .before .before .before .before .before .rows .ensures, c .before .before .before .before .before .words .ensures), rw (c .before .before .before .flow-of .ensures) (flow-fits _ _ (c .before .before .before .before .before .before .before .before .before .before .before .possible .ensures) (c .before .before .before .before .before .before .before .before .before .before .if1 .left), refl))
 
 state-of-requires : tie.Need-state-of-requires
-state-of-requires c κs = search needs
+state-of-requires c κs = tt
 
 same-length : tie.Need-same-length
-same-length c = search needs
+same-length c = omega arith
 
 returns-2 : tie.Need-returns-2
 returns-2 c =

@@ -1,7 +1,6 @@
 use mathlib.Core.Path.{_≡_, sym, _∙_}
 use Prim.Native.Nat.{ℕ, _≤_}
 use native.Mathlib.Omega.{arith}
-use borrow.Author.Needs.{needs}
 use borrow.Author.Tests.{not-true, not-false, le-leb, lt-leb}
 use Rattle.registers.specs.Check.{check, _>>_}
 use Rattle.interpreter.specs.Parameter.{parameters, least, greatest}
@@ -49,7 +48,7 @@ least-let c =
     enough (p .role-of .result) (parts-of p) (entry p .args .asked) (rw (c .before .before .most .ensures) at (c .if4 .left))
 
 count-requires : tie.Need-count-requires
-count-requires c κs = search needs
+count-requires c κs = tt
 
 returns : tie.Need-returns
 returns c =
@@ -65,10 +64,10 @@ returns-2 c =
     sym (not-found (a .settings) (a .row) (a .asked) (a .text .now) (n .result) (n .ensures) full (omega arith))
 
 role-of-requires : tie.Need-role-of-requires
-role-of-requires c κs = search needs
+role-of-requires c κs = omega arith
 
 most-requires : tie.Need-most-requires
-most-requires c κs = search needs
+most-requires c κs = tt
 
 returns-3 : tie.Need-returns-3
 unfolding check _>>_

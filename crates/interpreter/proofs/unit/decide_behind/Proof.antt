@@ -2,7 +2,6 @@ use mathlib.Core.Path.{_≡_, ap, _∙_}
 use Prim.Native.Nat.{_-_}
 use native.Mathlib.Omega.{arith}
 use lib.ListN.{length, take, drop}
-use borrow.Author.Needs.{needs}
 use borrow.Rule.Slice.PartAt.{part-to-end}
 use Rattle.registers.specs.Text.{Text, white}
 use Rattle.registers.proofs.text.Laws.{end-drop, end-within}
@@ -32,7 +31,7 @@ handed c =
     rw whole (c .trimmed-end .ensures .0 ∙ ap trimEnd behind)
 
 white-end-requires : tie.Need-white-end-requires
-white-end-requires c κs = search needs
+white-end-requires c κs = tt
 
 sub-behind : tie.Need-sub-behind
 sub-behind c =
@@ -43,19 +42,19 @@ part-behind-start : tie.Need-part-behind-start
 part-behind-start c = sub-behind c
 
 part-behind-end : tie.Need-part-behind-end
-part-behind-end c = search needs
+part-behind-end c = omega arith
 
 trimmed-end-requires : tie.Need-trimmed-end-requires
-trimmed-end-requires c κs = search needs
+trimmed-end-requires c κs = tt
 
 sub-decide : tie.Need-sub-decide
-sub-decide c = search needs
+sub-decide c = omega arith
 
 part-decide-start : tie.Need-part-decide-start
-part-decide-start c = search needs
+part-decide-start c = omega arith
 
 part-decide-end : tie.Need-part-decide-end
-part-decide-end c = search needs
+part-decide-end c = omega arith
 
 decide-requires : tie.Need-decide-requires
 decide-requires c κs =

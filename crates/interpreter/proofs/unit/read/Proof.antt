@@ -46,7 +46,7 @@ row-found p =
     (p .before .before .look-up .ensures) (p .looked .given .1)
 
 all-allowed-requires : tie.Need-all-allowed-requires
-all-allowed-requires c κs = search needs
+all-allowed-requires c κs = tt
 
 returns : tie.Need-returns
 returns c =
@@ -55,16 +55,16 @@ returns c =
     bad-byte (a .settings) (named (take (a .used) (a .path .now))) (a .unit .now) k
 
 white-end-requires : tie.Need-white-end-requires
-white-end-requires c κs = search needs
+white-end-requires c κs = tt
 
 dark-end-requires : tie.Need-dark-end-requires
-dark-end-requires c κs = search needs
+dark-end-requires c κs = tt
 
 sub-look-up : tie.Need-sub-look-up
-sub-look-up c = search needs
+sub-look-up c = omega arith
 
 part-look-up-start : tie.Need-part-look-up-start
-part-look-up-start c = search needs
+part-look-up-start c = omega arith
 
 part-look-up-end : tie.Need-part-look-up-end
 part-look-up-end c = ran (c .before) .within
@@ -79,10 +79,10 @@ look-up-requires c κs =
     (pre .0, (omega arith, pre .1 .1))
 
 enum-told : tie.Need-enum-told
-enum-told c = search needs
+enum-told c = omega arith
 
 enum-known-looked : tie.Need-enum-known-looked
-enum-known-looked c = search needs
+enum-known-looked c = omega arith
 
 decide-behind-requires : tie.Need-decide-behind-requires
 decide-behind-requires c κs =
@@ -91,10 +91,10 @@ decide-behind-requires c κs =
     (entry d .pre .0 .1, row-found l .within, ran d .within)
 
 enum-known-decision : tie.Need-enum-known-decision
-enum-known-decision c = search needs
+enum-known-decision c = omega arith
 
 enum-known-decision-2 : tie.Need-enum-known-decision-2
-enum-known-decision-2 c = search needs
+enum-known-decision-2 c = omega arith
 
 returns-2 : tie.Need-returns-2
 returns-2 c =

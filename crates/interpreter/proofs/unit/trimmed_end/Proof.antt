@@ -20,13 +20,13 @@ loop-holds : tie.Need-loop-holds Inv-loop μ-loop
 loop-holds c = (search needs, rw (take-length (c .before .args .text .now)))
 
 sub-is-white : tie.Need-sub-is-white Inv-loop μ-loop
-sub-is-white c = search needs
+sub-is-white c = omega arith
 
 shared-slice-read-is-white : tie.Need-shared-slice-read-is-white Inv-loop μ-loop
-shared-slice-read-is-white c = search needs
+shared-slice-read-is-white c = omega arith
 
 is-white-requires : tie.Need-is-white-requires Inv-loop μ-loop
-is-white-requires c κs = search needs
+is-white-requires c κs = tt
 
 returns : tie.Need-returns Inv-loop μ-loop
 returns c =
@@ -36,10 +36,10 @@ returns c =
     (sym (end-dark l (w .e) (omega arith) (omega arith) d) ∙ w .inv .1, search needs)
 
 sub-e : tie.Need-sub-e Inv-loop μ-loop
-sub-e c = search needs
+sub-e c = omega arith
 
 loop-less : tie.Need-loop-less Inv-loop μ-loop
-loop-less c = search needs
+loop-less c = omega arith
 
 loop-again : tie.Need-loop-again Inv-loop μ-loop
 loop-again c =

@@ -1,11 +1,10 @@
 use Rattle.interpreter.specs.Events.{condition}
 use Rattle.interpreter.proofs.state.Events.{refused-4, happens-on, withStatus, condition-wide, condition-on, condition-short}
-use borrow.Author.Needs.{needs}
 use Rattle.interpreter.proofs.state.State.condition.Statement.{statement}
 use Rattle.interpreter.proofs.state.State.condition.Tie as tie
 
 possible-requires : tie.Need-possible-requires
-possible-requires c κs = search needs
+possible-requires c κs = tt
 
 returns : tie.Need-returns
 returns c =
@@ -18,7 +17,7 @@ returns-2 c =
     happens-on (a .self) (condition (a .value)) _ (c .before .before .possible .ensures) (c .before .if1 .left) _ (a .self) (λ w. w) (condition-wide (a .self) (a .value) (c .if2 .taken))
 
 report-requires : tie.Need-report-requires
-report-requires c κs = search needs
+report-requires c κs = tt
 
 returns-3 : tie.Need-returns-3
 returns-3 c =

@@ -1,18 +1,17 @@
 use native.Mathlib.Omega.{arith}
 use Rattle.interpreter.specs.Events.{look}
 use Rattle.interpreter.proofs.state.Events.{refused-4, happens-on, look-byte}
-use borrow.Author.Needs.{needs}
 use Rattle.interpreter.proofs.state.State.look.Statement.{statement}
 use Rattle.interpreter.proofs.state.State.look.Tie as tie
 
 possible-requires : tie.Need-possible-requires
-possible-requires c κs = search needs
+possible-requires c κs = tt
 
 returns : tie.Need-returns
 returns c = refused-4 (c .before .before .args .self) look _ (c .before .possible .ensures) (c .if1 .taken)
 
 status-byte-requires : tie.Need-status-byte-requires
-status-byte-requires c κs = search needs
+status-byte-requires c κs = tt
 
 returns-2 : tie.Need-returns-2
 returns-2 c =

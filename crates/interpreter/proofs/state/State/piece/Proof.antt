@@ -1,13 +1,13 @@
+use native.Mathlib.Omega.{arith}
 use mathlib.Core.Path.{refl}
 use Rattle.interpreter.specs.Events.{received}
 use Rattle.interpreter.proofs.state.Records.{flow-fits, short-of}
 use Rattle.interpreter.proofs.state.Events.{refused-4, happens-on, piece-on}
-use borrow.Author.Needs.{needs}
 use Rattle.interpreter.proofs.state.State.piece.Statement.{statement}
 use Rattle.interpreter.proofs.state.State.piece.Tie as tie
 
 possible-requires : tie.Need-possible-requires
-possible-requires c κs = search needs
+possible-requires c κs = tt
 
 returns : tie.Need-returns
 returns c =
@@ -15,25 +15,25 @@ returns c =
     refused-4 (a .self) (received (a .bytes .now)) _ (c .before .possible .ensures) (c .if1 .taken)
 
 rows-requires : tie.Need-rows-requires
-rows-requires c κs = search needs
+rows-requires c κs = tt
 
 slice-aggregate-feed : tie.Need-slice-aggregate-feed
-slice-aggregate-feed c = search needs
+slice-aggregate-feed c = omega arith
 
 words-requires : tie.Need-words-requires
-words-requires c κs = search needs
+words-requires c κs = tt
 
 slice-aggregate-feed-2 : tie.Need-slice-aggregate-feed-2
-slice-aggregate-feed-2 c = search needs
+slice-aggregate-feed-2 c = omega arith
 
 flow-of-requires : tie.Need-flow-of-requires
-flow-of-requires c κs = search needs
+flow-of-requires c κs = tt
 
 feed-requires : tie.Need-feed-requires
 feed-requires c κs = ((c .before .before .before .before .before .before .rows .ensures, c .before .before .before .before .words .ensures), rw (c .before .before .flow-of .ensures) (flow-fits _ _ (c .before .before .before .before .before .before .before .before .before .before .possible .ensures) (c .before .before .before .before .before .before .before .before .before .if1 .left), refl))
 
 state-of-requires : tie.Need-state-of-requires
-state-of-requires c κs = search needs
+state-of-requires c κs = tt
 
 returns-2 : tie.Need-returns-2
 returns-2 c =

@@ -1,14 +1,13 @@
 use borrow.Author.Needs.{length-unmapped}
 use Rattle.interpreter.specs.State.{possibleParts}
-use borrow.Author.Needs.{needs}
 use Rattle.interpreter.proofs.state.State.possible.Statement.{statement}
 use Rattle.interpreter.proofs.state.State.possible.Tie as tie
 
 possible-requires : tie.Need-possible-requires
-possible-requires c κs = search needs
+possible-requires c κs = tt
 
 possible-requires-2 : tie.Need-possible-requires-2
-possible-requires-2 c κs = search needs
+possible-requires-2 c κs = tt
 
 returns : tie.Need-returns
 unfolding possibleParts

@@ -1,14 +1,13 @@
 use Rattle.interpreter.specs.Box.{powerUp}
 use Rattle.interpreter.proofs.state.Events.{start-possible}
-use borrow.Author.Needs.{needs}
 use Rattle.interpreter.proofs.state.State.power_up.Statement.{statement}
 use Rattle.interpreter.proofs.state.State.power_up.Tie as tie
 
 reset-requires : tie.Need-reset-requires
-reset-requires c κs = search needs
+reset-requires c κs = tt
 
 power-up-requires : tie.Need-power-up-requires
-power-up-requires c κs = search needs
+power-up-requires c κs = tt
 
 returns : tie.Need-returns
 unfolding powerUp

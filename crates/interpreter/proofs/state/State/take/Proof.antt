@@ -5,12 +5,11 @@ use Rattle.registers.proofs.status.Means.{raised-queued}
 use Rattle.interpreter.specs.Events.{take as takes}
 use Rattle.interpreter.proofs.state.Records.{could, short-from}
 use Rattle.interpreter.proofs.state.Events.{refused-4, happens-on, withStatus, withoutAnswer, take-none, take-short, take-all}
-use borrow.Author.Needs.{needs}
 use Rattle.interpreter.proofs.state.State.take.Statement.{statement}
 use Rattle.interpreter.proofs.state.State.take.Tie as tie
 
 possible-requires : tie.Need-possible-requires
-possible-requires c κs = search needs
+possible-requires c κs = tt
 
 returns : tie.Need-returns
 returns c =
@@ -18,7 +17,7 @@ returns c =
     refused-4 (a .self) (takes (a .buffer .now)) _ (c .before .possible .ensures) (c .if1 .taken)
 
 raise-requires : tie.Need-raise-requires
-raise-requires c κs = search needs
+raise-requires c κs = tt
 
 returns-2 : tie.Need-returns-2
 returns-2 c =
@@ -42,7 +41,7 @@ returns-3 c =
     (take-short s (omega arith) buffer (c .before .if2 .left) (omega arith) (c .if3 .taken))
 
 slice-aggregate-paste : tie.Need-slice-aggregate-paste
-slice-aggregate-paste c = search needs
+slice-aggregate-paste c = omega arith
 
 paste-requires : tie.Need-paste-requires
 paste-requires c κs =
@@ -54,7 +53,7 @@ paste-requires c κs =
     (omega arith, omega arith)
 
 same-length : tie.Need-same-length
-same-length c = search needs
+same-length c = omega arith
 
 returns-4 : tie.Need-returns-4
 returns-4 c =
