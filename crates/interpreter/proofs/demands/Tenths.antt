@@ -22,8 +22,7 @@ use Rattle.registers.proofs.Tests.{holds, and-both, and-true, every-append}
 use Rattle.registers.proofs.text.Laws.{digit-bounds}
 use Rattle.registers.proofs.number.Numerals.{numeral-append, few-digits}
 use Rattle.registers.proofs.answer.Decimals.{decimal-one}
-use Rattle.interpreter.specs.Parameter.{parameter}
-use Rattle.interpreter.specs.declared.parameter.Given.the-variants.{Figure}
+use Rattle.interpreter.specs.Parameter.{Figure, parameter}
 use Rattle.interpreter.proofs.Choices.{if-elim}
 use Rattle.interpreter.proofs.unit.Trims.{some-behind}
 use Rattle.interpreter.proofs.demands.HeaderBytes.{every-map}
