@@ -1,5 +1,5 @@
+use native.Mathlib.Omega.{arith}
 use borrow.Author.Tests.{lt-ltb, le-ltb, ne-eqb}
-use borrow.Author.Needs.{needs}
 use Rattle.registers.specs.Text.{if_then_else_}
 use Rattle.registers.specs.Settings.{table}
 use Rattle.interpreter.specs.Rows.{rows, settingRows, otherRows}
@@ -13,7 +13,7 @@ unfolding if_then_else_
 returns c = let row = c .before .args .row in rw (lt-ltb row 16 (c .if1 .taken)) at (role-told row (c .before .pre))
 
 deed-of-requires : tie.Need-deed-of-requires
-deed-of-requires c κs = search needs
+deed-of-requires c κs = omega arith
 
 returns-2 : tie.Need-returns-2
 unfolding if_then_else_
@@ -43,7 +43,7 @@ unfolding roleAt rows settingRows otherRows table
 returns-7 c = rw (c .match .keys5)
 
 deed-of-requires-2 : tie.Need-deed-of-requires-2
-deed-of-requires-2 c κs = search needs
+deed-of-requires-2 c κs = omega arith
 
 returns-8 : tie.Need-returns-8
 unfolding if_then_else_

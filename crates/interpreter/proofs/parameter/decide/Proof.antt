@@ -1,3 +1,4 @@
+use native.Mathlib.Omega.{arith}
 use mathlib.Core.Path.{_∙_}
 use borrow.Author.Tests.{ltb-true}
 use borrow.Author.Needs.{needs}
@@ -7,7 +8,7 @@ use Rattle.interpreter.proofs.parameter.decide.Statement.{statement}
 use Rattle.interpreter.proofs.parameter.decide.Tie as tie
 
 enum-known-role : tie.Need-enum-known-role
-enum-known-role c = search needs
+enum-known-role c = omega arith
 
 decide-setting-requires : tie.Need-decide-setting-requires
 decide-setting-requires c κs =
@@ -19,7 +20,7 @@ returns : tie.Need-returns
 returns c = rw (c .before .before .role .given .1) (c .decide-setting .ensures)
 
 enum-known-role-2 : tie.Need-enum-known-role-2
-enum-known-role-2 c = search needs
+enum-known-role-2 c = omega arith
 
 decide-register-requires : tie.Need-decide-register-requires
 decide-register-requires c κs = search needs
@@ -33,10 +34,10 @@ returns-2 c =
     rw (role .1) (c .decide-register .ensures ∙ register-is (a .settings) (role .0 .0) (a .asked) (a .parts) (a .text .now) least)
 
 enum-known-role-3 : tie.Need-enum-known-role-3
-enum-known-role-3 c = search needs
+enum-known-role-3 c = omega arith
 
 enum-known-role-4 : tie.Need-enum-known-role-4
-enum-known-role-4 c = search needs
+enum-known-role-4 c = omega arith
 
 returns-3 : tie.Need-returns-3
 unfolding deedOf

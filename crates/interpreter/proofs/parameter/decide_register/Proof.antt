@@ -17,7 +17,7 @@ read-is : (p : tie.After-read-parameter) → meantGiven (p .read-parameter .resu
 read-is p = p .read-parameter .ensures
 
 obey-query-requires : tie.Need-obey-query-requires
-obey-query-requires c κs = search needs
+obey-query-requires c κs = tt
 
 returns : tie.Need-returns
 unfolding registerTo
@@ -27,7 +27,7 @@ read-parameter-requires : tie.Need-read-parameter-requires
 read-parameter-requires c κs = search needs
 
 enum-known-parameter : tie.Need-enum-known-parameter
-enum-known-parameter c = search needs
+enum-known-parameter c = omega arith
 
 returns-2 : tie.Need-returns-2
 returns-2 c =
@@ -36,7 +36,7 @@ returns-2 c =
     rw (p .before .if1 .left) (register-refused (a .register) (a .text .now) (refused-by (read-is p) (c .before .parameter .given .1)))
 
 enum-told : tie.Need-enum-told
-enum-told c = search needs
+enum-told c = omega arith
 
 returns-3 : tie.Need-returns-3
 returns-3 c =
@@ -45,10 +45,10 @@ returns-3 c =
     absurd (omega (arith, word-placed [] true (entry p .args .text .now) (told .0 .0) (word-by (read-is p) (told .1))))
 
 enum-known-parameter-2 : tie.Need-enum-known-parameter-2
-enum-known-parameter-2 c = search needs
+enum-known-parameter-2 c = omega arith
 
 store-requires : tie.Need-store-requires
-store-requires c κs = search needs
+store-requires c κs = tt
 
 returns-4 : tie.Need-returns-4
 returns-4 c =

@@ -52,7 +52,7 @@ placed : (p : tie.After-read-parameter) {n : ℕ} → p .read-parameter .result 
 placed p {n} told = word-placed _ _ (entry p .args .text .now) n (word-by (read-is p) told)
 
 obey-query-requires : tie.Need-obey-query-requires
-obey-query-requires c κs = search needs
+obey-query-requires c κs = tt
 
 returns : tie.Need-returns
 unfolding if_then_else_
@@ -64,13 +64,13 @@ returns c =
     rw (c .obey-query .ensures, none) (value-asked (a .settings) (a .row) (a .asked) (rw none at least))
 
 setting-takes-requires : tie.Need-setting-takes-requires
-setting-takes-requires c κs = search needs
+setting-takes-requires c κs = omega arith
 
 read-parameter-requires : tie.Need-read-parameter-requires
 read-parameter-requires c κs = search needs
 
 enum-known-parameter : tie.Need-enum-known-parameter
-enum-known-parameter c = search needs
+enum-known-parameter c = omega arith
 
 returns-2 : tie.Need-returns-2
 unfolding _>>=_
@@ -79,7 +79,7 @@ returns-2 c =
     sym (deed-is p ∙ rw (refused-by (read-is p) (c .before .parameter .given .1)))
 
 enum-known-parameter-2 : tie.Need-enum-known-parameter-2
-enum-known-parameter-2 c = search needs
+enum-known-parameter-2 c = omega arith
 
 word-value-requires : tie.Need-word-value-requires
 word-value-requires c κs =
@@ -89,7 +89,7 @@ word-value-requires c κs =
     omega (arith, placed p (c .before .parameter2 .given .1))
 
 put-requires : tie.Need-put-requires
-put-requires c κs = search needs
+put-requires c κs = tt
 
 returns-3 : tie.Need-returns-3
 returns-3 c =
@@ -104,13 +104,13 @@ returns-3 c =
     ∙ carried p (word-by (read-is p) (told .1))
 
 enum-known-parameter-3 : tie.Need-enum-known-parameter-3
-enum-known-parameter-3 c = search needs
+enum-known-parameter-3 c = omega arith
 
 figure-value-requires : tie.Need-figure-value-requires
-figure-value-requires c κs = search needs
+figure-value-requires c κs = tt
 
 put-requires-2 : tie.Need-put-requires-2
-put-requires-2 c κs = search needs
+put-requires-2 c κs = tt
 
 returns-4 : tie.Need-returns-4
 returns-4 c =

@@ -1,9 +1,9 @@
+use native.Mathlib.Omega.{arith}
 use mathlib.Core.Path.{_≡_, refl, sym, ap, _∙_}
 use mathlib.Core.Bool.{false}
 use Prim.Native.Nat.{ℕ}
 use mir.Syntax.{w32}
 use mir.Val.{ofZ, toZ}
-use borrow.Author.Needs.{needs}
 use Rattle.registers.specs.Rounding.{rounded, fitted}
 use Rattle.registers.specs.Settings.{kindOf, lowest}
 use Rattle.registers.specs.declared.rounding.Fit.{Fit}
@@ -47,37 +47,37 @@ other-is p told none =
     ap Within (value-in p told) ∙ fit-within (a .settings) (a .row) _ (figure-within (a .settings) (a .row) other (a .d))
 
 lowest-requires : tie.Need-lowest-requires
-lowest-requires c κs = search needs
+lowest-requires c κs = tt
 
 highest-requires : tie.Need-highest-requires
-highest-requires c κs = search needs
+highest-requires c κs = tt
 
 values-of-requires : tie.Need-values-of-requires
-values-of-requires c κs = search needs
+values-of-requires c κs = tt
 
 enum-told : tie.Need-enum-told
-enum-told c = search needs
+enum-told c = omega arith
 
 round-in-requires : tie.Need-round-in-requires
-round-in-requires c κs = search needs
+round-in-requires c κs = tt
 
 enum-told-2 : tie.Need-enum-told-2
-enum-told-2 c = search needs
+enum-told-2 c = omega arith
 
 round-in-requires-2 : tie.Need-round-in-requires-2
-round-in-requires-2 c κs = search needs
+round-in-requires-2 c κs = tt
 
 enum-told-3 : tie.Need-enum-told-3
-enum-told-3 c = search needs
+enum-told-3 c = omega arith
 
 switches-on-requires : tie.Need-switches-on-requires
-switches-on-requires c κs = search needs
+switches-on-requires c κs = tt
 
 cast-t9 : tie.Need-cast-t9
-cast-t9 c = search needs
+cast-t9 c = tt
 
 enum-told-4 : tie.Need-enum-told-4
-enum-told-4 c = search needs
+enum-told-4 c = omega arith
 
 returns : tie.Need-returns
 returns c = c .round-in .ensures ∙ number-is (c .before .before .before) (c .before .enum-told .given .1) 10 refl

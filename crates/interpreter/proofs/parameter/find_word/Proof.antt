@@ -16,7 +16,7 @@ loop-holds : tie.Need-loop-holds Inv-loop μ-loop
 loop-holds c = record { room = c .before .before .pre .1; left = refl }
 
 add-is-word : tie.Need-add-is-word Inv-loop μ-loop
-add-is-word c = search needs
+add-is-word c = omega arith
 
 is-word-requires : tie.Need-is-word-requires Inv-loop μ-loop
 is-word-requires c κs = search needs
@@ -25,10 +25,10 @@ returns : tie.Need-returns Inv-loop μ-loop
 returns c = search-hit (c .before .before .before .before .before .loop .inv) (omega arith) (sym (c .before .is-word .ensures) ∙ c .if2 .taken)
 
 add-n : tie.Need-add-n Inv-loop μ-loop
-add-n c = search needs
+add-n c = omega arith
 
 loop-less : tie.Need-loop-less Inv-loop μ-loop
-loop-less c = search needs
+loop-less c = omega arith
 
 loop-again : tie.Need-loop-again Inv-loop μ-loop
 loop-again c = search-miss (c .before .before .before .before .before .loop .inv) (omega arith) (sym (c .before .is-word .ensures) ∙ c .if2 .left)

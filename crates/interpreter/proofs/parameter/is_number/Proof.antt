@@ -1,11 +1,10 @@
-use borrow.Author.Needs.{needs}
 use Rattle.registers.specs.Settings.{kindOf}
 use Rattle.interpreter.proofs.parameter.Sorts.{told-number, told-other}
 use Rattle.interpreter.proofs.parameter.is_number.Statement.{statement}
 use Rattle.interpreter.proofs.parameter.is_number.Tie as tie
 
 values-of-requires : tie.Need-values-of-requires
-values-of-requires c κs = search needs
+values-of-requires c κs = tt
 
 returns : tie.Need-returns
 returns c = told-number (kindOf (c .before .before .args .row)) (c .before .values-of .result) (c .before .values-of .ensures) (c .match .keys1)

@@ -1,4 +1,4 @@
-use borrow.Author.Needs.{needs}
+use native.Mathlib.Omega.{arith}
 use Rattle.registers.specs.Settings.{kindOf}
 use Rattle.interpreter.specs.Parameter.{greatest}
 use Rattle.interpreter.proofs.parameter.Sorts.{setting-most, register-most, most-none}
@@ -6,19 +6,19 @@ use Rattle.interpreter.proofs.parameter.most.Statement.{statement}
 use Rattle.interpreter.proofs.parameter.most.Tie as tie
 
 enum-known-role : tie.Need-enum-known-role
-enum-known-role c = search needs
+enum-known-role c = omega arith
 
 is-number-requires : tie.Need-is-number-requires
-is-number-requires c κs = search needs
+is-number-requires c κs = tt
 
 cast-result : tie.Need-cast-result
-cast-result c = search needs
+cast-result c = tt
 
 enum-told : tie.Need-enum-told
-enum-told c = search needs
+enum-told c = omega arith
 
 cast-result-2 : tie.Need-cast-result-2
-cast-result-2 c = search needs
+cast-result-2 c = tt
 
 returns : tie.Need-returns
 unfolding greatest

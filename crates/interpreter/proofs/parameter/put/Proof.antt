@@ -1,5 +1,5 @@
+use native.Mathlib.Omega.{arith}
 use mathlib.Core.Path.{sym, _∙_}
-use borrow.Author.Needs.{needs}
 use Rattle.registers.specs.Check.{_>>_, check}
 use Rattle.interpreter.specs.ParameterParts.{putFit}
 use Rattle.interpreter.proofs.parameter.Deeds.{back}
@@ -7,17 +7,17 @@ use Rattle.interpreter.proofs.parameter.put.Statement.{statement}
 use Rattle.interpreter.proofs.parameter.put.Tie as tie
 
 enum-told : tie.Need-enum-told
-enum-told c = search needs
+enum-told c = omega arith
 
 returns : tie.Need-returns
 unfolding putFit
 returns c = rw (c .enum-told .given .1)
 
 enum-known-fit : tie.Need-enum-known-fit
-enum-known-fit c = search needs
+enum-known-fit c = omega arith
 
 obey-query-requires : tie.Need-obey-query-requires
-obey-query-requires c κs = search needs
+obey-query-requires c κs = tt
 
 returns-2 : tie.Need-returns-2
 unfolding putFit
@@ -27,7 +27,7 @@ returns-2 c =
     rw (fit .1, c .before .if1 .taken, c .obey-query .ensures, b)
 
 conflicts-requires : tie.Need-conflicts-requires
-conflicts-requires c κs = search needs
+conflicts-requires c κs = tt
 
 returns-3 : tie.Need-returns-3
 unfolding putFit check _>>_

@@ -1,3 +1,4 @@
+use native.Mathlib.Omega.{arith}
 use mathlib.Core.Path.{_≡_, sym, _∙_}
 use mathlib.Core.Bool.{false, not, _&&_}
 use borrow.Author.Tests.{not-true, not-false}
@@ -28,10 +29,10 @@ figure-is f =
     starts-figure (takenWords (a .takes)) (a .takes .numbers && not (a .asked)) (a .text .now) (no-letter l) (not-false _ left)
 
 byte-at-requires : tie.Need-byte-at-requires
-byte-at-requires c κs = search needs
+byte-at-requires c κs = tt
 
 is-letter-requires : tie.Need-is-letter-requires
-is-letter-requires c κs = search needs
+is-letter-requires c κs = tt
 
 find-word-requires : tie.Need-find-word-requires
 find-word-requires c κs = search needs
@@ -44,7 +45,7 @@ returns c =
     c .find-word .ensures ∙ starts-word (takenWords (a .takes)) (a .takes .numbers && not (a .asked)) (a .text .now) letter
 
 is-digit-requires : tie.Need-is-digit-requires
-is-digit-requires c κs = search needs
+is-digit-requires c κs = tt
 
 returns-2 : tie.Need-returns-2
 returns-2 c =
@@ -54,10 +55,10 @@ returns-2 c =
     starts-neither (takenWords (a .takes)) (a .takes .numbers && not (a .asked)) (a .text .now) (no-letter l) (not-true _ taken)
 
 read-requires : tie.Need-read-requires
-read-requires c κs = search needs
+read-requires c κs = tt
 
 enum-known-reading : tie.Need-enum-known-reading
-enum-known-reading c = search needs
+enum-known-reading c = omega arith
 
 returns-3 : tie.Need-returns-3
 unfolding aFigure _>>=_
@@ -66,7 +67,7 @@ returns-3 c =
     rw (← figure-is (read .before), ← read .read .ensures, c .before .reading .given .1)
 
 enum-known-reading-2 : tie.Need-enum-known-reading-2
-enum-known-reading-2 c = search needs
+enum-known-reading-2 c = omega arith
 
 returns-4 : tie.Need-returns-4
 unfolding aFigure _>>=_

@@ -1,11 +1,10 @@
 use native.Mathlib.Omega.{arith}
-use borrow.Author.Needs.{needs}
 use Rattle.interpreter.proofs.parameter.Sorts.{setting-takes}
 use Rattle.interpreter.proofs.parameter.setting_takes.Statement.{statement}
 use Rattle.interpreter.proofs.parameter.setting_takes.Tie as tie
 
 array-read-first : tie.Need-array-read-first
-array-read-first c = search needs
+array-read-first c = omega arith
 
 cast-first : tie.Need-cast-first
 cast-first c = omega (arith, setting-takes (c .args .row) (c .pre) .room)
@@ -14,7 +13,7 @@ add-t9 : tie.Need-add-t9
 add-t9 c = omega (arith, setting-takes (c .args .row) (c .pre) .room)
 
 array-read-t8 : tie.Need-array-read-t8
-array-read-t8 c = search needs
+array-read-t8 c = omega arith
 
 cast-t12 : tie.Need-cast-t12
 cast-t12 c = omega (arith, setting-takes (c .args .row) (c .pre) .room)

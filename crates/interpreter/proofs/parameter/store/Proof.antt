@@ -1,6 +1,6 @@
+use native.Mathlib.Omega.{arith}
 use mathlib.Core.Path.{_≡_}
 use lib.IntN.{pos}
-use borrow.Author.Needs.{needs}
 use Rattle.registers.specs.Rounding.{fitted}
 use Rattle.registers.specs.Status.{widest}
 use Rattle.interpreter.proofs.parameter.Deeds.{back, widest-back, store-natural, store-within, store-outside}
@@ -12,16 +12,16 @@ fitted-is : (c : tie.After-round-in)
 fitted-is c = rw (c .before .widest .ensures, widest-back (c .before .before .args .register)) at (c .round-in .ensures)
 
 widest-requires : tie.Need-widest-requires
-widest-requires c κs = search needs
+widest-requires c κs = tt
 
 cast-round-in : tie.Need-cast-round-in
-cast-round-in c = search needs
+cast-round-in c = omega arith
 
 round-in-requires : tie.Need-round-in-requires
-round-in-requires c κs = search needs
+round-in-requires c κs = tt
 
 enum-told : tie.Need-enum-told
-enum-told c = search needs
+enum-told c = omega arith
 
 returns : tie.Need-returns
 returns c =
@@ -29,7 +29,7 @@ returns c =
     store-outside (a .register) (a .d) (fitted-is (c .before .before)) (c .enum-told .given .1)
 
 enum-known-fit : tie.Need-enum-known-fit
-enum-known-fit c = search needs
+enum-known-fit c = omega arith
 
 cast-t8 : tie.Need-cast-t8
 cast-t8 c =

@@ -3,7 +3,6 @@ use native.Mathlib.Omega.{arith}
 use mir.Syntax.{w32}
 use mir.Facts.{toZ-pos}
 use borrow.Author.Tests.{not-true, not-false}
-use borrow.Author.Needs.{needs}
 use Rattle.registers.specs.Settings.{kindOf}
 use Rattle.interpreter.proofs.parameter.Deeds.{back}
 use Rattle.interpreter.proofs.parameter.Sorts.{word-number, word-other, limit-other}
@@ -11,10 +10,10 @@ use Rattle.interpreter.proofs.parameter.word_value.Statement.{statement
 use Rattle.interpreter.proofs.parameter.word_value.Tie as tie
 
 is-number-requires : tie.Need-is-number-requires
-is-number-requires c κs = search needs
+is-number-requires c κs = tt
 
 cast-result : tie.Need-cast-result
-cast-result c = search needs
+cast-result c = omega arith
 
 returns : tie.Need-returns
 returns c =
@@ -23,7 +22,7 @@ returns c =
     toZ-pos w32 {n = a .word} (omega arith) ∙ word-other (a .settings) (a .row) (a .word) (kindOf (a .row)) other
 
 lowest-requires : tie.Need-lowest-requires
-lowest-requires c κs = search needs
+lowest-requires c κs = tt
 
 returns-2 : tie.Need-returns-2
 returns-2 c =
@@ -33,7 +32,7 @@ returns-2 c =
     (back (c .lowest .result) (c .lowest .ok) ∙ c .lowest .ensures ∙ word-number (a .settings) (a .row) 0 (kindOf (a .row)) number)
 
 highest-requires : tie.Need-highest-requires
-highest-requires c κs = search needs
+highest-requires c κs = tt
 
 returns-3 : tie.Need-returns-3
 returns-3 c =
