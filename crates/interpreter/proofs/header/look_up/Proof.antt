@@ -5,10 +5,9 @@ use mathlib.Core.Logic.{⊎-elim}
 use Prim.Native.Nat.{ℕ, _+_, _-_, _≤_}
 use native.Mathlib.Omega.{arith}
 use lib.Dec.{ltb}
-use lib.ListN.{length, take, drop, length-take}
+use lib.ListN.{length, take, drop, length-take, length-drop}
 use borrow.Rule.Slice.PartMut.{putMid}
 use borrow.Author.Tests.{not-true, not-false}
-use borrow.Author.Needs.{needs}
 use Rattle.registers.specs.Text.{Text}
 use Rattle.interpreter.specs.HeaderParts.{closed}
 use Rattle.interpreter.proofs.header.Laws.{closed-nil}
@@ -55,7 +54,7 @@ part-names-end : tie.Need-part-names-end
 part-names-end c = omega arith
 
 find-requires : tie.Need-find-requires
-find-requires c κs = search needs
+find-requires c κs = c .before .before .before .before .before .before .before .before .before .before .before .pre .0
 
 returns-2 : tie.Need-returns-2
 returns-2 c =
@@ -105,10 +104,10 @@ part-copy-end : tie.Need-part-copy-end
 part-copy-end c = omega arith
 
 copy-requires : tie.Need-copy-requires
-copy-requires c κs = let f = fits (c .before .before) in search needs
+copy-requires c κs = let f = fits (c .before .before) in rw (length-take, length-drop) (omega arith)
 
 add-all : tie.Need-add-all
-add-all c = let f = fits (c .before .before .before .before .before) in search needs
+add-all c = let f = fits (c .before .before .before .before .before) in omega (arith, c .before .before .copy .ensures .0, c .before .before .before .before .before .before .before .before .before .before .before .before .before .before .before .before .before .good)
 
 sub-find : tie.Need-sub-find
 sub-find c = omega arith
@@ -117,10 +116,10 @@ part-find-start : tie.Need-part-find-start
 part-find-start c = omega arith
 
 part-find-end : tie.Need-part-find-end
-part-find-end c = let f = fits (c .before .before .before .before .before .before) in search needs
+part-find-end c = let f = fits (c .before .before .before .before .before .before) in omega (arith, c .before .before .before .copy .ensures .0)
 
 find-requires-2 : tie.Need-find-requires-2
-find-requires-2 c κs = search needs
+find-requires-2 c κs = c .before .before .before .before .before .before .before .before .before .before .before .before .before .before .before .before .before .before .before .pre .0
 
 sub-path-end : tie.Need-sub-path-end
 sub-path-end c = omega arith
@@ -129,7 +128,7 @@ part-path-end-start : tie.Need-part-path-end-start
 part-path-end-start c = omega arith
 
 part-path-end-end : tie.Need-part-path-end-end
-part-path-end-end c = let f = fits (c .before .before .before .before .before .before .before .before .before) in search needs
+part-path-end-end c = let f = fits (c .before .before .before .before .before .before .before .before .before) in omega (arith, c .before .before .before .before .before .before .copy .ensures .0)
 
 path-end-requires : tie.Need-path-end-requires
 path-end-requires c κs = tt

@@ -14,7 +14,7 @@ abbrev μ-loop : tie.MeasureT-loop
 μ-loop words text word long n₀ n = length text - n
 
 word-cell-requires : tie.Need-word-cell-requires Inv-loop μ-loop
-word-cell-requires c κs = search needs
+word-cell-requires c κs = (c .before .before .pre .0, c .before .before .pre .1, omega arith)
 
 cast-long : tie.Need-cast-long Inv-loop μ-loop
 cast-long c = omega arith

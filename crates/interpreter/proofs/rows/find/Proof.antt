@@ -1,7 +1,6 @@
 use mathlib.Core.Logic.{⊎-elim}
 use Prim.Native.Nat.{_-_}
 use native.Mathlib.Omega.{arith}
-use borrow.Author.Needs.{needs}
 use Rattle.interpreter.proofs.rows.Rows.{nodes-fit, node-known, unformed, is-formed}
 use Rattle.interpreter.proofs.rows.Search.{Searching, search-start, search-end, skip-shared, skip-unformed, Trying, try-start, try-resume, try-on, try-missed, try-left, try-done}
 use Rattle.interpreter.proofs.rows.find.Statement.{statement}
@@ -29,7 +28,7 @@ add-next : tie.Need-add-next Inv-loop μ-loop Inv-rows μ-rows
 add-next c = omega arith
 
 row-cell-requires : tie.Need-row-cell-requires Inv-loop μ-loop Inv-rows μ-rows
-row-cell-requires c κs = search needs
+row-cell-requires c κs = (c .before .before .before .before .before .before .pre .0, c .rows-test .taken, omega arith)
 
 cast-shared : tie.Need-cast-shared Inv-loop μ-loop Inv-rows μ-rows
 cast-shared c = omega arith
@@ -43,7 +42,7 @@ rows-again c =
     skip-shared (c .before .before .rows-test .taken) (o .rows .inv) (c .before .row-cell .ensures) (c .if1 .taken)
 
 row-cell-requires-2 : tie.Need-row-cell-requires-2 Inv-loop μ-loop Inv-rows μ-rows
-row-cell-requires-2 c κs = search needs
+row-cell-requires-2 c κs = (c .before .before .before .before .before .before .before .before .pre .0, c .before .before .rows-test .taken, omega arith)
 
 rows-less-2 : tie.Need-rows-less-2 Inv-loop μ-loop Inv-rows μ-rows
 rows-less-2 c = omega arith
@@ -55,7 +54,7 @@ rows-again-2 c =
     skip-unformed (c .before .before .before .before .rows-test .taken) (o .rows .inv) f
 
 row-cell-requires-3 : tie.Need-row-cell-requires-3 Inv-loop μ-loop Inv-rows μ-rows
-row-cell-requires-3 c κs = search needs
+row-cell-requires-3 c κs = (c .before .before .before .before .before .before .before .before .before .before .before .pre .0, c .before .before .before .before .before .rows-test .taken, omega arith)
 
 cast-n : tie.Need-cast-n Inv-loop μ-loop Inv-rows μ-rows
 cast-n c = omega arith

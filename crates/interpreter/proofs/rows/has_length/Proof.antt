@@ -1,18 +1,17 @@
 use native.Mathlib.Omega.{arith}
 use Rattle.interpreter.specs.RowsParts.{formLength}
 use mathlib.Core.Path.{sym}
-use borrow.Author.Needs.{needs}
 use Rattle.interpreter.proofs.rows.has_length.Statement.{statement}
 use Rattle.interpreter.proofs.rows.has_length.Tie as tie
 
 word-cell-requires : tie.Need-word-cell-requires
-word-cell-requires c κs = search needs
+word-cell-requires c κs = (c .before .pre .0, c .before .pre .1, omega arith)
 
 cast-short : tie.Need-cast-short
 cast-short c = omega arith
 
 word-cell-requires-2 : tie.Need-word-cell-requires-2
-word-cell-requires-2 c κs = search needs
+word-cell-requires-2 c κs = (c .before .before .pre .0, c .before .before .pre .1, omega arith)
 
 cast-long : tie.Need-cast-long
 cast-long c = omega arith

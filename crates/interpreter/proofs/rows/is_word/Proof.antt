@@ -1,13 +1,12 @@
-use borrow.Author.Needs.{needs}
 use Rattle.interpreter.proofs.rows.Spelling.{whole-word}
 use Rattle.interpreter.proofs.rows.is_word.Statement.{statement}
 use Rattle.interpreter.proofs.rows.is_word.Tie as tie
 
 agreed-letters-requires : tie.Need-agreed-letters-requires
-agreed-letters-requires c κs = search needs
+agreed-letters-requires c κs = c .before .before .pre
 
 has-length-requires : tie.Need-has-length-requires
-has-length-requires c κs = search needs
+has-length-requires c κs = c .before .before .before .pre
 
 returns : tie.Need-returns
 returns c =

@@ -1,7 +1,6 @@
 use mathlib.Core.Path.{sym, _∙_}
 use native.Mathlib.Omega.{arith}
 use borrow.Author.Tests.{not-true, not-false}
-use borrow.Author.Needs.{needs}
 use Rattle.interpreter.proofs.rows.Names.{Compared, end-here, first-out, compared, end-within, length-out, end-out, taken-last, taken-colon}
 use Rattle.interpreter.proofs.rows.take_word.Statement.{statement}
 use Rattle.interpreter.proofs.rows.take_word.Tie as tie
@@ -26,7 +25,7 @@ in-capitals-requires : tie.Need-in-capitals-requires
 in-capitals-requires c κs = tt
 
 word-cell-requires : tie.Need-word-cell-requires
-word-cell-requires c κs = search needs
+word-cell-requires c κs = (c .before .before .before .before .before .pre .0, c .before .before .before .before .before .pre .1, omega arith)
 
 returns-2 : tie.Need-returns-2
 returns-2 c =
@@ -44,10 +43,10 @@ part-agreed-letters-end : tie.Need-part-agreed-letters-end
 part-agreed-letters-end c = omega arith
 
 agreed-letters-requires : tie.Need-agreed-letters-requires
-agreed-letters-requires c κs = search needs
+agreed-letters-requires c κs = c .before .before .before .before .before .before .before .before .pre
 
 has-length-requires : tie.Need-has-length-requires
-has-length-requires c κs = search needs
+has-length-requires c κs = c .before .before .before .before .before .before .before .before .before .pre
 
 returns-3 : tie.Need-returns-3
 returns-3 c = length-out (walked (c .before .before)) (sym (c .before .has-length .ensures) ∙ not-true _ (c .if3 .taken))
