@@ -52,7 +52,6 @@ fn lines(
         read = fed.next;
         written = flow::paste(out, flow.waiting, output, written);
         flow.waiting = 0;
-        flow.count = 0;
     }
     Progress {
         flow,

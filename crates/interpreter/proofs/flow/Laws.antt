@@ -181,7 +181,7 @@ fed-then f g r line out xs line₁ out₁ ys line₂ out₂ p q =
     let d = q .count in
     record { fits = q .fits; box = q .box ∙ ap (λ (b : Box). piece b ys) (p .box) ∙ sym (piece-append _ xs ys); count = omega arith }
 
-newlines-few : (l : Text) → newlines l ≤ length l
+pub newlines-few : (l : Text) → newlines l ≤ length l
 unfolding newlines if_then_else_
 newlines-few [] = omega arith
 newlines-few (x ∷ l) = go (eqb x 10) (newlines-few l)

@@ -19,7 +19,7 @@ use Rattle.interpreter.specs.ServerParts.{serviceAt, FlowServed}
 use Rattle.interpreter.specs.declared.flow.Flow.{Flow}
 use Rattle.registers.proofs.Tests.{and-both}
 use Rattle.interpreter.proofs.line.Newline.{waits}
-use Rattle.interpreter.proofs.flow.Laws.{first-some, first-within}
+use Rattle.interpreter.proofs.flow.Laws.{first-some, first-within, newlines-few}
 
 -- ---- the first line
 
@@ -45,9 +45,9 @@ serves-on : (s : Service) (l : Text) (ls : List Text) → mostAnswer ≤ length 
 unfolding serves if_then_else_
 serves-on s l ls h = rw (le-leb mostAnswer (length (s .rest)) h)
 
--- the answer is gone, and the newlines are counted anew
+-- the answer is gone
 abbrev pub taken-from : Flow → Flow
-taken-from f = record { present = f .present; filled = f .filled; overlong = f .overlong; waiting = 0; count = 0 }
+taken-from f = record { present = f .present; filled = f .filled; overlong = f .overlong; waiting = 0; count = f .count }
 
 module _ (f r : Flow) (line out bytes lines left : Text) (w : FlowFed f line out bytes r lines left) (outs : length left ≡ mostAnswer) where
   pub served-one : (read : ℕ) (answers rest : Text) → mostAnswer ≤ length rest
@@ -75,7 +75,7 @@ module _ (f r : Flow) (line out bytes lines left : Text) (w : FlowFed f line out
 
 pub record Serving (begun : Service) (room : ℕ) (input line out output : Text) (f : Flow) (read written : ℕ) : Type 0 where
   pub fits : FlowFits f
-  pub none : f .count ≡ 0
+  pub few : f .count ≤ read  -- newlines so far
   pub outputs : length output ≡ room
   pub read-in : read ≤ length input
   pub wrote : written ≤ length output
@@ -120,7 +120,7 @@ module _ (begun : Service) (room : ℕ) (input line out output : Text) (f : Flow
           (sym one) in
           record {
             fits = record { filled = w .fits .filled; waiting = zero-le; queued = w .fits .queued };
-            none = refl;
+            few = (let c = w .count in let n = newlines-few (firstLine (drop read input)) in let b = g .few in omega arith);
             outputs = rw u (long ∙ g .outputs);
             read-in = omega arith;
             wrote = rw (u, long) (omega arith);

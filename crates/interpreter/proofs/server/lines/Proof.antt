@@ -21,7 +21,7 @@ abbrev μ-loop : tie.MeasureT-loop
 loop-holds : tie.Need-loop-holds Inv-loop μ-loop
 loop-holds c =
     let p = c .before .before .before .before .pre in
-    record { fits = p .1 .0; none = p .1 .1; outputs = refl; read-in = zero-le; wrote = zero-le; left = refl }
+    record { fits = p .1 .0; few = (let z = p .1 .1 in omega arith); outputs = refl; read-in = zero-le; wrote = zero-le; left = refl }
 
 sub-loop : tie.Need-sub-loop Inv-loop μ-loop
 sub-loop c = let wrote = c .loop .inv .wrote in omega arith
@@ -29,7 +29,9 @@ sub-loop c = let wrote = c .loop .inv .wrote in omega arith
 feed-line-requires : tie.Need-feed-line-requires Inv-loop μ-loop
 feed-line-requires c κs =
     let g = c .before .before .before .loop .inv in
-    let none = g .none in
+    let few = g .few in
+    let big = c .before .before .before .before .before .before .before .before .good .1 .1 .1 .1 .1 .0 in
+    let more = g .read-in in
     (c .before .before .before .before .before .before .before .before .pre .0, (g .fits, omega arith, g .read-in))
 
 paste-requires : tie.Need-paste-requires Inv-loop μ-loop
