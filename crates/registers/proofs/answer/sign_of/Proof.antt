@@ -1,16 +1,16 @@
+use native.Mathlib.Omega.{arith}
 use mir.Syntax.{w32}
 use mir.Facts.{toZ-ofZ}
 use Rattle.registers.proofs.answer.Laws.{laid-none, laid-one}
 use Rattle.registers.proofs.answer.Signs.{sign-minus, sign-plus}
-use borrow.Author.Needs.{needs}
 use Rattle.registers.proofs.answer.sign_of.Statement.{statement}
 use Rattle.registers.proofs.answer.sign_of.Tie as tie
 
 put-requires : tie.Need-put-requires
-put-requires c κs = search needs
+put-requires c κs = tt
 
 same-length : tie.Need-same-length
-same-length c = search needs
+same-length c = omega arith
 
 returns : tie.Need-returns
 returns c =

@@ -3,15 +3,14 @@ use Rattle.registers.proofs.answer.Decimals.{decimal-length}
 use Rattle.registers.specs.Answer.{tenths}
 use Prim.Native.Nat.{_/_}
 use native.Mathlib.Omega.{arith}
-use borrow.Author.Needs.{needs}
 use Rattle.registers.proofs.answer.tenths_at.Statement.{statement}
 use Rattle.registers.proofs.answer.tenths_at.Tie as tie
 
 decimal-at-requires : tie.Need-decimal-at-requires
-decimal-at-requires c κs = search needs
+decimal-at-requires c κs = omega arith
 
 put-requires : tie.Need-put-requires
-put-requires c κs = search needs
+put-requires c κs = tt
 
 add-decimal-at : tie.Need-add-decimal-at
 add-decimal-at c =
@@ -26,7 +25,7 @@ decimal-at-requires-2 c κs =
     omega (arith, decimal-length (k .before .before .before .args .n / 10))
 
 same-length : tie.Need-same-length
-same-length c = search needs
+same-length c = omega arith
 
 returns : tie.Need-returns
 unfolding tenths

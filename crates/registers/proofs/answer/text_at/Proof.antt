@@ -4,7 +4,6 @@ use lib.ListN.{length, take}
 use lib.Seq.{take-all}
 use Rattle.registers.specs.AnswerParts.{LaidAt}
 use Rattle.registers.proofs.answer.Laws.{laid-none, laid-more, laid-length}
-use borrow.Author.Needs.{needs}
 use native.Mathlib.Omega.{arith}
 use Rattle.registers.proofs.answer.text_at.Statement.{statement}
 use Rattle.registers.proofs.answer.text_at.Tie as tie
@@ -19,19 +18,19 @@ loop-holds : tie.Need-loop-holds Inv-loop μ-loop
 loop-holds c = (omega arith, rw add-zero (laid-none _ _))
 
 add-put : tie.Need-add-put Inv-loop μ-loop
-add-put c = search needs
+add-put c = omega arith
 
 shared-slice-read-put : tie.Need-shared-slice-read-put Inv-loop μ-loop
-shared-slice-read-put c = search needs
+shared-slice-read-put c = omega arith
 
 put-requires : tie.Need-put-requires Inv-loop μ-loop
-put-requires c κs = search needs
+put-requires c κs = tt
 
 add-i : tie.Need-add-i Inv-loop μ-loop
-add-i c = search needs
+add-i c = omega arith
 
 loop-less : tie.Need-loop-less Inv-loop μ-loop
-loop-less c = search needs
+loop-less c = omega arith
 
 loop-again : tie.Need-loop-again Inv-loop μ-loop
 loop-again c =
@@ -41,7 +40,7 @@ loop-again c =
     (omega arith, laid-more (a .at) (a .text .now) (o .loop .i) h (o .loop .inv .1) (c .before .before .put .ensures))
 
 add-result : tie.Need-add-result Inv-loop μ-loop
-add-result c = search needs
+add-result c = omega arith
 
 same-length : tie.Need-same-length Inv-loop μ-loop
 same-length c = laid-length (c .before .loop .inv .1)

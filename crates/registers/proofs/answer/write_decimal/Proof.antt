@@ -1,13 +1,13 @@
+use native.Mathlib.Omega.{arith}
 use Rattle.registers.proofs.answer.Laws.{laid-whole}
-use borrow.Author.Needs.{needs}
 use Rattle.registers.proofs.answer.write_decimal.Statement.{statement}
 use Rattle.registers.proofs.answer.write_decimal.Tie as tie
 
 decimal-at-requires : tie.Need-decimal-at-requires
-decimal-at-requires c κs = search needs
+decimal-at-requires c κs = omega arith
 
 same-length : tie.Need-same-length
-same-length c = search needs
+same-length c = omega arith
 
 returns : tie.Need-returns
 returns c = laid-whole (c .before .before .decimal-at .ensures)

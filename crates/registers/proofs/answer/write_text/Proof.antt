@@ -1,13 +1,13 @@
+use native.Mathlib.Omega.{arith}
 use Rattle.registers.proofs.answer.Laws.{laid-whole}
-use borrow.Author.Needs.{needs}
 use Rattle.registers.proofs.answer.write_text.Statement.{statement}
 use Rattle.registers.proofs.answer.write_text.Tie as tie
 
 text-at-requires : tie.Need-text-at-requires
-text-at-requires c κs = search needs
+text-at-requires c κs = omega arith
 
 same-length : tie.Need-same-length
-same-length c = search needs
+same-length c = omega arith
 
 returns : tie.Need-returns
 returns c = laid-whole (c .before .before .text-at .ensures)

@@ -2,7 +2,6 @@ use Rattle.registers.specs.Answer.{decimal}
 use mir.Syntax.{w32}
 use mir.Val.{toZ, ofZ}
 use Rattle.registers.proofs.answer.Signs.{sign-length, laid-signed}
-use borrow.Author.Needs.{needs}
 use native.Mathlib.Omega.{arith}
 use Rattle.registers.proofs.answer.write_whole.Statement.{statement}
 use Rattle.registers.proofs.answer.write_whole.Tie as tie
@@ -20,7 +19,7 @@ decimal-at-requires c κs =
     omega (arith, s .sign-of .ensures .end, sign-length z)
 
 same-length : tie.Need-same-length
-same-length c = search needs
+same-length c = omega arith
 
 returns : tie.Need-returns
 returns c =

@@ -6,7 +6,6 @@ use Rattle.registers.specs.ErrorParts.{messageTable, messageAt}
 use Rattle.registers.proofs.answer.Laws.{laid-none}
 use Rattle.registers.proofs.error.Texts.{table-length, text-none, length-cell, text-room, text-part}
 use native.Mathlib.Omega.{arith}
-use borrow.Author.Needs.{needs}
 use Rattle.registers.proofs.error.message_at.Statement.{statement}
 use Rattle.registers.proofs.error.message_at.Tie as tie
 
@@ -16,16 +15,16 @@ returns c =
     rw (text-none (a .row) (c .if1 .taken)) (laid-none (a .at) (a .tail .now))
 
 mul-start : tie.Need-mul-start
-mul-start c = search needs
+mul-start c = omega arith
 
 add-start : tie.Need-add-start
-add-start c = search needs
+add-start c = omega arith
 
 mul-end : tie.Need-mul-end
-mul-end c = search needs
+mul-end c = omega arith
 
 add-end : tie.Need-add-end
-add-end c = search needs
+add-end c = omega arith
 
 shared-slice-read-end : tie.Need-shared-slice-read-end
 shared-slice-read-end c =
@@ -40,10 +39,10 @@ add-end-2 : tie.Need-add-end-2
 add-end-2 c = omega (arith, c .shared-slice-known2 .given (c .before .before .before .before .args .row * 32 + 2))
 
 sub-text-at : tie.Need-sub-text-at
-sub-text-at c = search needs
+sub-text-at c = omega arith
 
 part-text-at-start : tie.Need-part-text-at-start
-part-text-at-start c = search needs
+part-text-at-start c = omega arith
 
 part-text-at-end : tie.Need-part-text-at-end
 part-text-at-end c =
@@ -52,10 +51,10 @@ part-text-at-end c =
     rw (s .pre .0, length-cell row (c .before .if1 .left)) (text-room row (c .before .if1 .left))
 
 text-at-requires : tie.Need-text-at-requires
-text-at-requires c κs = search needs
+text-at-requires c κs = omega arith
 
 same-length : tie.Need-same-length
-same-length c = search needs
+same-length c = omega arith
 
 returns-2 : tie.Need-returns-2
 returns-2 c =

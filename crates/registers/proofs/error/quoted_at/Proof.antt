@@ -6,25 +6,25 @@ use Rattle.registers.proofs.error.quoted_at.Statement.{statement}
 use Rattle.registers.proofs.error.quoted_at.Tie as tie
 
 put-requires : tie.Need-put-requires
-put-requires c κs = search needs
+put-requires c κs = tt
 
 add-quote : tie.Need-add-quote
-add-quote c = search needs
+add-quote c = omega arith
 
 put-requires-2 : tie.Need-put-requires-2
-put-requires-2 c κs = search needs
+put-requires-2 c κs = tt
 
 row-of-requires : tie.Need-row-of-requires
 row-of-requires c κs = search needs
 
 add-message-at : tie.Need-add-message-at
-add-message-at c = search needs
+add-message-at c = omega arith
 
 message-at-requires : tie.Need-message-at-requires
 message-at-requires c κs = search needs
 
 put-requires-3 : tie.Need-put-requires-3
-put-requires-3 c κs = search needs
+put-requires-3 c κs = tt
 
 add-result : tie.Need-add-result
 add-result c =
@@ -34,7 +34,7 @@ add-result c =
     omega (arith, message-length (s .args .number), text .end, s .pre .1)
 
 same-length : tie.Need-same-length
-same-length c = search needs
+same-length c = omega arith
 
 returns : tie.Need-returns
 returns c =

@@ -9,18 +9,17 @@ use Rattle.registers.proofs.answer.Decimals.{decimal-length, signed-len
 use Rattle.registers.proofs.answer.Signs.{minus-fits, minus-made}
 use Rattle.registers.proofs.error.Texts.{error-text}
 use native.Mathlib.Omega.{arith}
-use borrow.Author.Needs.{needs}
 use Rattle.registers.proofs.error.write_error.Statement.{statement}
 use Rattle.registers.proofs.error.write_error.Tie as tie
 
 cast-write-whole : tie.Need-cast-write-whole
-cast-write-whole c = search needs
+cast-write-whole c = omega arith
 
 sub-write-whole : tie.Need-sub-write-whole
 sub-write-whole c = minus-fits (c .before .before .args .number) (omega arith)
 
 write-whole-requires : tie.Need-write-whole-requires
-write-whole-requires c κs = search needs
+write-whole-requires c κs = tt
 
 -- the table of the code is the messages' table: all its bytes are compared here
 quoted-at-requires : tie.Need-quoted-at-requires
@@ -32,7 +31,7 @@ quoted-at-requires c κs =
     (refl, omega (arith, signed-length decimal 20 decimal-length (negℤ (pos n)), e))
 
 same-length : tie.Need-same-length
-same-length c = search needs
+same-length c = omega arith
 
 returns : tie.Need-returns
 returns c =

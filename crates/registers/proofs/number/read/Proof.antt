@@ -1,9 +1,9 @@
+use native.Mathlib.Omega.{arith}
 use mathlib.Core.Path.{_≡_, refl, sym, ap, _∙_}
 use mathlib.Core.Bool.{Bool, true, false}
 use Prim.Native.Nat.{_+_}
 use lib.Dec.{leb}
 use lib.ListN.{length, drop}
-use borrow.Author.Needs.{needs}
 use borrow.Author.Tests.{lt-leb, le-leb, lt-ltb, le-ltb}
 use Rattle.registers.specs.Check.{Checked, check, _>>_}
 use Rattle.registers.specs.Number.{number}
@@ -61,19 +61,19 @@ passes c =
     says (c .before .before) ∙ rw (c .before .if2 .left, le-leb (length t) e (c .if3 .left))
 
 byte-at-requires : tie.Need-byte-at-requires
-byte-at-requires c κs = search needs
+byte-at-requires c κs = tt
 
 sign-end-requires : tie.Need-sign-end-requires
-sign-end-requires c κs = search needs
+sign-end-requires c κs = omega arith
 
 read-digits-requires : tie.Need-read-digits-requires
-read-digits-requires c κs = search needs
+read-digits-requires c κs = omega arith
 
 read-fraction-requires : tie.Need-read-fraction-requires
-read-fraction-requires c κs = search needs
+read-fraction-requires c κs = omega arith
 
 read-exponent-requires : tie.Need-read-exponent-requires
-read-exponent-requires c κs = search needs
+read-exponent-requires c κs = omega arith
 
 returns : tie.Need-returns
 unfolding verdict chain check _>>_
@@ -84,13 +84,13 @@ returns c =
     sym (number-is (found (c .before)) e (end-drop white t (x .end) e refl) ∙ rw (c .if1 .taken))
 
 white-end-requires : tie.Need-white-end-requires
-white-end-requires c κs = search needs
+white-end-requires c κs = tt
 
 byte-at-requires-2 : tie.Need-byte-at-requires-2
-byte-at-requires-2 c κs = search needs
+byte-at-requires-2 c κs = tt
 
 is-letter-requires : tie.Need-is-letter-requires
-is-letter-requires c κs = search needs
+is-letter-requires c κs = tt
 
 returns-2 : tie.Need-returns-2
 unfolding verdict chain check _>>_ if_then_else_
@@ -117,7 +117,7 @@ returns-5 c =
     sym (passes (c .before .before) ∙ rw (few, lt-leb (exponent-of p .size) 9 (c .if5 .taken)))
 
 decimal-of-requires : tie.Need-decimal-of-requires
-decimal-of-requires c κs = search needs
+decimal-of-requires c κs = omega arith
 
 returns-6 : tie.Need-returns-6
 unfolding verdict chain check _>>_ if_then_else_

@@ -2,7 +2,6 @@ use mathlib.Core.Path.{_≡_, sym, ap, _∙_}
 use native.Mathlib.Omega.{arith}
 use lib.Dec.{eqb}
 use lib.ListN.{drop}
-use borrow.Author.Needs.{needs}
 use borrow.Author.Tests.{eq-eqb}
 use Rattle.registers.specs.Text.{first, capital}
 use Rattle.registers.proofs.number.Laws.{exponent-none, exponent-no, exponent-bare, exponent-some, zero-capital}
@@ -14,10 +13,10 @@ letter-e : (c : tie.Else1) → let a = c .before .before .before .before .args i
 letter-e c = sym (c .before .in-capitals .ensures ∙ ap capital (c .before .before .byte-at .ensures)) ∙ c .if1 .left
 
 byte-at-requires : tie.Need-byte-at-requires
-byte-at-requires c κs = search needs
+byte-at-requires c κs = tt
 
 in-capitals-requires : tie.Need-in-capitals-requires
-in-capitals-requires c κs = search needs
+in-capitals-requires c κs = tt
 
 returns : tie.Need-returns
 returns c =
@@ -26,13 +25,13 @@ returns c =
     exponent-none (a .text .now) (a .at) (omega arith) (exponent-no (a .text .now) (a .at) (λ e. c .if1 .taken (is ∙ e)))
 
 add-byte-at : tie.Need-add-byte-at
-add-byte-at c = search needs
+add-byte-at c = omega arith
 
 byte-at-requires-2 : tie.Need-byte-at-requires-2
-byte-at-requires-2 c κs = search needs
+byte-at-requires-2 c κs = tt
 
 add-sign-end : tie.Need-add-sign-end
-add-sign-end c = search needs
+add-sign-end c = omega arith
 
 sign-end-requires : tie.Need-sign-end-requires
 sign-end-requires c κs =
@@ -43,7 +42,7 @@ sign-end-requires c κs =
     omega arith
 
 read-digits-requires : tie.Need-read-digits-requires
-read-digits-requires c κs = search needs
+read-digits-requires c κs = omega arith
 
 returns-2 : tie.Need-returns-2
 returns-2 c =

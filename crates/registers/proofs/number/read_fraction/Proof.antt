@@ -1,7 +1,6 @@
 use mathlib.Core.Path.{refl, sym, _∙_}
 use native.Mathlib.Omega.{arith}
 use lib.ListN.{drop}
-use borrow.Author.Needs.{needs}
 use borrow.Author.Tests.{eq-eqb}
 use Rattle.registers.specs.Number.{point}
 use Rattle.registers.specs.Text.{first}
@@ -11,10 +10,10 @@ use Rattle.registers.proofs.number.read_fraction.Statement.{statement}
 use Rattle.registers.proofs.number.read_fraction.Tie as tie
 
 byte-at-requires : tie.Need-byte-at-requires
-byte-at-requires c κs = search needs
+byte-at-requires c κs = tt
 
 add-read-digits : tie.Need-add-read-digits
-add-read-digits c = search needs
+add-read-digits c = omega arith
 
 read-digits-requires : tie.Need-read-digits-requires
 read-digits-requires c κs =
@@ -24,10 +23,10 @@ read-digits-requires c κs =
     (omega arith, omega arith)
 
 add-t7 : tie.Need-add-t7
-add-t7 c = search needs
+add-t7 c = omega arith
 
 sub-t8 : tie.Need-sub-t8
-sub-t8 c = search needs
+sub-t8 c = omega arith
 
 returns : tie.Need-returns
 returns c =

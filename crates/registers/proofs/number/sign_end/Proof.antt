@@ -2,7 +2,6 @@ use mathlib.Core.Path.{_≡_, refl, sym}
 use mathlib.Core.Bool.{true, false}
 use native.Mathlib.Omega.{arith}
 use lib.ListN.{drop}
-use borrow.Author.Needs.{needs}
 use Rattle.registers.specs.Number.{sign}
 use Rattle.registers.specs.Text.{first}
 use Rattle.registers.proofs.number.Laws.{sign-yes, sign-no}
@@ -11,10 +10,10 @@ use Rattle.registers.proofs.number.sign_end.Statement.{statement}
 use Rattle.registers.proofs.number.sign_end.Tie as tie
 
 byte-at-requires : tie.Need-byte-at-requires
-byte-at-requires c κs = search needs
+byte-at-requires c κs = tt
 
 add-result : tie.Need-add-result
-add-result c = search needs
+add-result c = omega arith
 
 returns : tie.Need-returns
 returns c =

@@ -1,7 +1,6 @@
 use mathlib.Core.Path.{_≡_, refl, _∙_}
 use Prim.Native.Nat.{_≤_, _/_, _^_}
 use native.Mathlib.Omega.{arith}
-use borrow.Author.Needs.{needs}
 use Rattle.registers.proofs.rounding.Tens.{lower-turn, lower-end}
 use Rattle.registers.proofs.rounding.lowered.Statement.{statement}
 use Rattle.registers.proofs.rounding.lowered.Tie as tie
@@ -16,10 +15,10 @@ loop-holds : tie.Need-loop-holds Inv-loop μ-loop
 loop-holds c = (omega arith, refl)
 
 sub-i : tie.Need-sub-i Inv-loop μ-loop
-sub-i c = search needs
+sub-i c = omega arith
 
 loop-less : tie.Need-loop-less Inv-loop μ-loop
-loop-less c = search needs
+loop-less c = omega arith
 
 loop-again : tie.Need-loop-again Inv-loop μ-loop
 loop-again c =
@@ -27,10 +26,10 @@ loop-again c =
     (omega arith, lower-turn (at .y) (at .i) (omega arith) ∙ at .inv .1)
 
 add-result : tie.Need-add-result Inv-loop μ-loop
-add-result c = search needs
+add-result c = omega arith
 
 add-result-2 : tie.Need-add-result-2 Inv-loop μ-loop
-add-result-2 c = search needs
+add-result-2 c = omega arith
 
 returns : tie.Need-returns Inv-loop μ-loop
 returns c =

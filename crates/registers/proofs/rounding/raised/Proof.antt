@@ -1,7 +1,6 @@
 use mathlib.Core.Path.{_≡_, _∙_}
 use Prim.Native.Nat.{_≤_, _*_, _^_, min}
 use native.Mathlib.Omega.{arith}
-use borrow.Author.Needs.{needs}
 use Rattle.registers.specs.RoundingParts.{beyond}
 use Rattle.registers.proofs.rounding.Tens.{ten-positive, beyond-mul, raise-turn, raise-end}
 use Rattle.registers.proofs.rounding.raised.Statement.{statement}
@@ -14,7 +13,7 @@ abbrev μ-loop : tie.MeasureT-loop
 μ-loop x n y₀ i₀ y i = i
 
 hold-requires : tie.Need-hold-requires Inv-loop μ-loop
-hold-requires c κs = search needs
+hold-requires c κs = tt
 
 loop-holds : tie.Need-loop-holds Inv-loop μ-loop
 loop-holds c =
@@ -23,16 +22,16 @@ loop-holds c =
     (omega arith, rw e (beyond-mul (a .x) (10 ^ a .n) (ten-positive (a .n))))
 
 mul-hold : tie.Need-mul-hold Inv-loop μ-loop
-mul-hold c = search needs
+mul-hold c = omega arith
 
 hold-requires-2 : tie.Need-hold-requires-2 Inv-loop μ-loop
-hold-requires-2 c κs = search needs
+hold-requires-2 c κs = tt
 
 sub-i : tie.Need-sub-i Inv-loop μ-loop
-sub-i c = search needs
+sub-i c = omega arith
 
 loop-less : tie.Need-loop-less Inv-loop μ-loop
-loop-less c = search needs
+loop-less c = omega arith
 
 loop-again : tie.Need-loop-again Inv-loop μ-loop
 loop-again c =

@@ -4,7 +4,6 @@ use Prim.Native.Nat.{_^_}
 use mir.Facts.{toZ-ofZ, sfits-widen}
 use mir.Syntax.{w32, w64}
 use mir.Val.{toZ, ofZ, SFits}
-use borrow.Author.Needs.{needs}
 use Rattle.registers.proofs.rounding.Held.{held-fits, limit-bits, inside, inside-fits, fit-yes, fit-no}
 use Rattle.registers.proofs.rounding.round_in.Statement.{statement}
 use Rattle.registers.proofs.rounding.round_in.Tie as tie
@@ -27,7 +26,7 @@ within c =
     inside-fits (a .low) (a .high) (c .before .steps .result) (f .low) (f .high) (rw (test c) tt)
 
 steps-requires : tie.Need-steps-requires
-steps-requires c κs = search needs
+steps-requires c κs = tt
 
 cast-if1 : tie.Need-cast-if1
 cast-if1 c = rw (toZ-ofZ {w = w32} (c .before .fits .low)) (sfits-widen {w = w32} {w′ = w64} tt (c .before .fits .low))

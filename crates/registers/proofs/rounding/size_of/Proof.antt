@@ -1,14 +1,13 @@
 use mathlib.Core.Path.{sym, ap, _∙_}
 use Prim.Native.Nat.{min}
 use native.Mathlib.Omega.{arith}
-use borrow.Author.Needs.{needs}
 use Rattle.registers.specs.RoundingParts.{beyond}
 use Rattle.registers.proofs.rounding.Tens.{nearest-up, nearest-down}
 use Rattle.registers.proofs.rounding.size_of.Statement.{statement}
 use Rattle.registers.proofs.rounding.size_of.Tie as tie
 
 raised-requires : tie.Need-raised-requires
-raised-requires c κs = search needs
+raised-requires c κs = tt
 
 returns : tie.Need-returns
 returns c =
@@ -16,16 +15,16 @@ returns c =
     c .raised .ensures ∙ ap (min beyond) (sym (nearest-up (a .x) (a .up) (a .down) (omega arith)))
 
 sub-lowered : tie.Need-sub-lowered
-sub-lowered c = search needs
+sub-lowered c = omega arith
 
 sub-lowered-2 : tie.Need-sub-lowered-2
-sub-lowered-2 c = search needs
+sub-lowered-2 c = omega arith
 
 lowered-requires : tie.Need-lowered-requires
-lowered-requires c κs = search needs
+lowered-requires c κs = tt
 
 hold-requires : tie.Need-hold-requires
-hold-requires c κs = search needs
+hold-requires c κs = tt
 
 returns-2 : tie.Need-returns-2
 returns-2 c =

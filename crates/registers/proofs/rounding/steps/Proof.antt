@@ -4,7 +4,6 @@ use Prim.Native.Nat.{_≤_}
 use native.Mathlib.Omega.{arith}
 use mir.Facts.{toZ-pos, toZ-ofZ}
 use mir.Syntax.{w64}
-use borrow.Author.Needs.{needs}
 use Rattle.registers.specs.Rounding.{signed}
 use Rattle.registers.specs.RoundingParts.{beyond}
 use Rattle.registers.proofs.rounding.Held.{signed-fits, held-size, minus-bits}
@@ -12,16 +11,16 @@ use Rattle.registers.proofs.rounding.steps.Statement.{statement}
 use Rattle.registers.proofs.rounding.steps.Tie as tie
 
 cast-up : tie.Need-cast-up
-cast-up c = search needs
+cast-up c = omega arith
 
 add-up : tie.Need-add-up
-add-up c = search needs
+add-up c = omega arith
 
 size-of-requires : tie.Need-size-of-requires
-size-of-requires c κs = search needs
+size-of-requires c κs = tt
 
 cast-size : tie.Need-cast-size
-cast-size c = search needs
+cast-size c = omega arith
 
 sub-result : tie.Need-sub-result
 sub-result c =

@@ -21,13 +21,13 @@ loop-holds : tie.Need-loop-holds Inv-loop μ-loop
 loop-holds c = (search needs, refl)
 
 mul-is-known : tie.Need-mul-is-known Inv-loop μ-loop
-mul-is-known c = search needs
+mul-is-known c = omega arith
 
 shared-slice-read-is-known : tie.Need-shared-slice-read-is-known Inv-loop μ-loop
-shared-slice-read-is-known c = search needs
+shared-slice-read-is-known c = omega arith
 
 is-known-requires : tie.Need-is-known-requires Inv-loop μ-loop
-is-known-requires c κs = search needs
+is-known-requires c κs = tt
 
 returns : tie.Need-returns Inv-loop μ-loop
 returns c =
@@ -37,10 +37,10 @@ returns c =
     sym (every-miss known l i (omega arith) k) ∙ c .before .before .before .before .loop .inv .1
 
 add-i : tie.Need-add-i Inv-loop μ-loop
-add-i c = search needs
+add-i c = omega arith
 
 loop-less : tie.Need-loop-less Inv-loop μ-loop
-loop-less c = search needs
+loop-less c = omega arith
 
 loop-again : tie.Need-loop-again Inv-loop μ-loop
 loop-again c =

@@ -1,12 +1,12 @@
+use native.Mathlib.Omega.{arith}
 use mathlib.Core.Path.{sym, _∙_}
-use borrow.Author.Needs.{needs}
 use lib.ListN.{List·getD-eq-default}
 use Rattle.registers.proofs.text.Laws.{first-at}
 use Rattle.registers.proofs.text.byte_at.Statement.{statement}
 use Rattle.registers.proofs.text.byte_at.Tie as tie
 
 shared-slice-read-result : tie.Need-shared-slice-read-result
-shared-slice-read-result c = search needs
+shared-slice-read-result c = omega arith
 
 returns : tie.Need-returns
 returns c = let a = c .before .before .args in sym (first-at (a .text .now) (a .at))

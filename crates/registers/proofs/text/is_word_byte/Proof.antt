@@ -1,13 +1,12 @@
-use borrow.Author.Needs.{needs}
 use Rattle.registers.specs.Text.{wordByte}
 use Rattle.registers.proofs.text.is_word_byte.Statement.{statement}
 use Rattle.registers.proofs.text.is_word_byte.Tie as tie
 
 is-letter-requires : tie.Need-is-letter-requires
-is-letter-requires c κs = search needs
+is-letter-requires c κs = tt
 
 is-digit-requires : tie.Need-is-digit-requires
-is-digit-requires c κs = search needs
+is-digit-requires c κs = tt
 
 returns : tie.Need-returns
 unfolding wordByte

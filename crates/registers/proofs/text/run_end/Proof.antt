@@ -2,7 +2,6 @@ use mathlib.Core.Path.{refl}
 use Prim.Native.Nat.{_-_}
 use lib.ListN.{length}
 use native.Mathlib.Omega.{arith}
-use borrow.Author.Needs.{needs}
 use Rattle.registers.specs.TextParts.{whiteIs}
 use Rattle.registers.proofs.text.Laws.{kind-told, OnWay, way-on, way-stop, way-end}
 use Rattle.registers.proofs.text.run_end.Statement.{statement}
@@ -18,10 +17,10 @@ loop-holds : tie.Need-loop-holds Inv-loop μ-loop
 loop-holds c = refl
 
 shared-slice-read-is-white : tie.Need-shared-slice-read-is-white Inv-loop μ-loop
-shared-slice-read-is-white c = search needs
+shared-slice-read-is-white c = omega arith
 
 is-white-requires : tie.Need-is-white-requires Inv-loop μ-loop
-is-white-requires c κs = search needs
+is-white-requires c κs = tt
 
 returns : tie.Need-returns Inv-loop μ-loop
 returns c =
@@ -32,10 +31,10 @@ returns c =
     (kind-told (a .blank) _ _ (c .before .is-white .ensures) t)
 
 add-i : tie.Need-add-i Inv-loop μ-loop
-add-i c = search needs
+add-i c = omega arith
 
 loop-less : tie.Need-loop-less Inv-loop μ-loop
-loop-less c = search needs
+loop-less c = omega arith
 
 loop-again : tie.Need-loop-again Inv-loop μ-loop
 loop-again c =

@@ -1,3 +1,4 @@
+use native.Mathlib.Omega.{arith}
 use lib.ListN.{getD}
 use lib.IntN.{pos}
 use lib.Dec.{eqb}
@@ -5,12 +6,11 @@ use mir.Syntax.{w32}
 use mir.Facts.{toZ-ofZ}
 use Rattle.registers.specs.Settings.{conflict}
 use Rattle.registers.proofs.Tests.{and-assoc}
-use borrow.Author.Needs.{needs}
 use Rattle.registers.proofs.settings.Settings.conflicts.Statement.{statement}
 use Rattle.registers.proofs.settings.Settings.conflicts.Tie as tie
 
 element-copy-out-volts : tie.Need-element-copy-out-volts
-element-copy-out-volts c = search needs
+element-copy-out-volts c = omega arith
 
 returns : tie.Need-returns
 unfolding conflict

@@ -1,15 +1,15 @@
+use native.Mathlib.Omega.{arith}
 use mathlib.Core.Path.{_∙_}
 use lib.ListN.{getD}
 use lib.IntN.{pos}
 use mir.Syntax.{w32}
 use mir.Facts.{toZ-ofZ}
 use Rattle.registers.proofs.settings.Laws.{high-read, high-behind, high-narrow, high-other}
-use borrow.Author.Needs.{needs}
 use Rattle.registers.proofs.settings.Settings.highest.Statement.{statement}
 use Rattle.registers.proofs.settings.Settings.highest.Tie as tie
 
 element-copy-out-range : tie.Need-element-copy-out-range
-element-copy-out-range c = search needs
+element-copy-out-range c = omega arith
 
 returns : tie.Need-returns
 returns c =
@@ -18,10 +18,10 @@ returns c =
     high-narrow s (c .before .before .args .row) (rw b at (c .if1 .taken))
 
 mul-result : tie.Need-mul-result
-mul-result c = search needs
+mul-result c = omega arith
 
 array-copy-out-result : tie.Need-array-copy-out-result
-array-copy-out-result c = search needs
+array-copy-out-result c = omega arith
 
 returns-2 : tie.Need-returns-2
 returns-2 c =

@@ -1,13 +1,13 @@
+use native.Mathlib.Omega.{arith}
 use Rattle.registers.proofs.settings.Laws.{low-read, low-behind}
-use borrow.Author.Needs.{needs}
 use Rattle.registers.proofs.settings.Settings.lowest.Statement.{statement}
 use Rattle.registers.proofs.settings.Settings.lowest.Tie as tie
 
 mul-result : tie.Need-mul-result
-mul-result c = search needs
+mul-result c = omega arith
 
 array-copy-out-result : tie.Need-array-copy-out-result
-array-copy-out-result c = search needs
+array-copy-out-result c = omega arith
 
 returns : tie.Need-returns
 returns c = low-read (c .before .before .args .row)

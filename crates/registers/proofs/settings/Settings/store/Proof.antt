@@ -13,16 +13,16 @@ use Rattle.registers.proofs.settings.Settings.store.Statement.{statemen
 use Rattle.registers.proofs.settings.Settings.store.Tie as tie
 
 within-requires : tie.Need-within-requires
-within-requires c κs = search needs
+within-requires c κs = tt
 
 conflicts-requires : tie.Need-conflicts-requires
-conflicts-requires c κs = search needs
+conflicts-requires c κs = tt
 
 mul-value : tie.Need-mul-value
-mul-value c = search needs
+mul-value c = omega arith
 
 element-set-from-value : tie.Need-element-set-from-value
-element-set-from-value c = search needs
+element-set-from-value c = omega arith
 
 returns : tie.Need-returns
 returns c =

@@ -7,10 +7,10 @@ use Rattle.registers.proofs.settings.Settings.value.Statement.{statemen
 use Rattle.registers.proofs.settings.Settings.value.Tie as tie
 
 mul-result : tie.Need-mul-result
-mul-result c = search needs
+mul-result c = omega arith
 
 array-copy-out-result : tie.Need-array-copy-out-result
-array-copy-out-result c = search needs
+array-copy-out-result c = omega arith
 
 returns : tie.Need-returns
 returns c = search needs

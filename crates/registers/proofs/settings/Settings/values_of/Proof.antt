@@ -1,14 +1,14 @@
+use native.Mathlib.Omega.{arith}
 use mathlib.Core.Path.{_∙_}
 use Rattle.registers.proofs.settings.Laws.{kind-at, behind-is}
-use borrow.Author.Needs.{needs}
 use Rattle.registers.proofs.settings.Settings.values_of.Statement.{statement}
 use Rattle.registers.proofs.settings.Settings.values_of.Tie as tie
 
 array-read-values-from : tie.Need-array-read-values-from
-array-read-values-from c = search needs
+array-read-values-from c = omega arith
 
 values-from-requires : tie.Need-values-from-requires
-values-from-requires c κs = search needs
+values-from-requires c κs = tt
 
 returns : tie.Need-returns
 returns c = c .values-from .ensures ∙ kind-at (c .before .before .args .row)

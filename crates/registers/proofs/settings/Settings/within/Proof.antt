@@ -2,15 +2,14 @@ use mir.Syntax.{w32}
 use mir.Facts.{toZ-ofZ}
 use Rattle.registers.specs.Settings.{lowest, highest, within}
 use Rattle.registers.proofs.settings.Laws.{low-back, high-back}
-use borrow.Author.Needs.{needs}
 use Rattle.registers.proofs.settings.Settings.within.Statement.{statement}
 use Rattle.registers.proofs.settings.Settings.within.Tie as tie
 
 lowest-requires : tie.Need-lowest-requires
-lowest-requires c κs = search needs
+lowest-requires c κs = tt
 
 highest-requires : tie.Need-highest-requires
-highest-requires c κs = search needs
+highest-requires c κs = tt
 
 returns : tie.Need-returns
 unfolding within

@@ -1,12 +1,11 @@
 use mathlib.Core.Path.{ap}
 use Rattle.registers.specs.Status.{registersOf, withOperation, withRegisters, withTrouble, clearedIn}
 use Rattle.registers.specs.declared.group.Group.{Group}
-use borrow.Author.Needs.{needs}
 use Rattle.registers.proofs.status.Status.clear.Statement.{statement}
 use Rattle.registers.proofs.status.Status.clear.Tie as tie
 
 read-event-requires : tie.Need-read-event-requires
-read-event-requires c κs = search needs
+read-event-requires c κs = tt
 
 returns : tie.Need-returns
 unfolding clearedIn

@@ -12,7 +12,7 @@ returns : tie.Need-returns
 returns c = queue-above (c .before .before .args .self) (c .if1 .taken)
 
 possible-registers-requires : tie.Need-possible-registers-requires
-possible-registers-requires c κs = search needs
+possible-registers-requires c κs = tt
 
 returns-2 : tie.Need-returns-2
 returns-2 c = register-above (c .before .before .before .before .args .self) (c .before .before .if1 .left) (sym (c .before .possible-registers .ensures) ∙ not-true _ (c .if2 .taken))
@@ -21,10 +21,10 @@ returns-3 : tie.Need-returns-3
 returns-3 c = events-above (c .before .before .before .before .before .before .args .self) (c .before .before .before .before .if1 .left) (c .if3 .taken)
 
 sub-all-known : tie.Need-sub-all-known
-sub-all-known c = search needs
+sub-all-known c = omega arith
 
 part-all-known-start : tie.Need-part-all-known-start
-part-all-known-start c = search needs
+part-all-known-start c = omega arith
 
 part-all-known-end : tie.Need-part-all-known-end
 part-all-known-end c =
@@ -35,7 +35,7 @@ part-all-known-end c =
     omega arith
 
 all-known-requires : tie.Need-all-known-requires
-all-known-requires c κs = search needs
+all-known-requires c κs = tt
 
 returns-4 : tie.Need-returns-4
 returns-4 c =

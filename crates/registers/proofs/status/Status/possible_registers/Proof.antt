@@ -1,10 +1,9 @@
 use Rattle.registers.specs.Status.{possibleRegisters}
-use borrow.Author.Needs.{needs}
 use Rattle.registers.proofs.status.Status.possible_registers.Statement.{statement}
 use Rattle.registers.proofs.status.Status.possible_registers.Tie as tie
 
 possible-requires : tie.Need-possible-requires
-possible-requires c κs = search needs
+possible-requires c κs = tt
 
 returns : tie.Need-returns
 unfolding possibleRegisters

@@ -1,10 +1,9 @@
 use Rattle.registers.specs.Status.{atStart}
-use borrow.Author.Needs.{needs}
 use Rattle.registers.proofs.status.Status.power_up.Statement.{statement}
 use Rattle.registers.proofs.status.Status.power_up.Tie as tie
 
 power-up-requires : tie.Need-power-up-requires
-power-up-requires c κs = search needs
+power-up-requires c κs = tt
 
 returns : tie.Need-returns
 unfolding atStart

@@ -1,29 +1,29 @@
+use native.Mathlib.Omega.{arith}
 use mathlib.Core.Path.{sym}
 use Rattle.registers.proofs.status.Laws.{raised-more, raised-full}
-use borrow.Author.Needs.{needs}
 use Rattle.registers.proofs.status.Status.raise.Statement.{statement}
 use Rattle.registers.proofs.status.Status.raise.Tie as tie
 
 number-requires : tie.Need-number-requires
-number-requires c κs = search needs
+number-requires c κs = tt
 
 event-bit-requires : tie.Need-event-bit-requires
-event-bit-requires c κs = search needs
+event-bit-requires c κs = tt
 
 mul-self : tie.Need-mul-self
-mul-self c = search needs
+mul-self c = omega arith
 
 element-write-self : tie.Need-element-write-self
-element-write-self c = search needs
+element-write-self c = omega arith
 
 add-self : tie.Need-add-self
-add-self c = search needs
+add-self c = omega arith
 
 element-write-self-2 : tie.Need-element-write-self-2
-element-write-self-2 c = search needs
+element-write-self-2 c = omega arith
 
 event-bit-requires-2 : tie.Need-event-bit-requires-2
-event-bit-requires-2 c κs = search needs
+event-bit-requires-2 c κs = tt
 
 returns : tie.Need-returns
 returns c = rw (c .before .event-bit .ensures, c .before .before .number .ensures) (sym (raised-more _ (c .before .before .before .args .t1) (c .if1 .taken)))

@@ -1,3 +1,4 @@
+use native.Mathlib.Omega.{arith}
 use Rattle.registers.specs.Status.{registersOf, troubleOf, summary}
 use Prim.Native.Nat.{_+_}
 use lib.ListN.{length}
@@ -8,34 +9,34 @@ use Rattle.registers.proofs.status.Status.status_byte.Statement.{statem
 use Rattle.registers.proofs.status.Status.status_byte.Tie as tie
 
 bit-if-requires : tie.Need-bit-if-requires
-bit-if-requires c κs = search needs
+bit-if-requires c κs = tt
 
 bit-if-requires-2 : tie.Need-bit-if-requires-2
-bit-if-requires-2 c κs = search needs
+bit-if-requires-2 c κs = tt
 
 bit-if-requires-3 : tie.Need-bit-if-requires-3
-bit-if-requires-3 c κs = search needs
+bit-if-requires-3 c κs = tt
 
 bit-if-requires-4 : tie.Need-bit-if-requires-4
-bit-if-requires-4 c κs = search needs
+bit-if-requires-4 c κs = tt
 
 add-summary : tie.Need-add-summary
-add-summary c = search needs
+add-summary c = omega arith
 
 add-summary-2 : tie.Need-add-summary-2
-add-summary-2 c = search needs
+add-summary-2 c = omega arith
 
 add-summary-3 : tie.Need-add-summary-3
-add-summary-3 c = search needs
+add-summary-3 c = omega arith
 
 cast-bit-if : tie.Need-cast-bit-if
-cast-bit-if c = search needs
+cast-bit-if c = omega arith
 
 bit-if-requires-5 : tie.Need-bit-if-requires-5
-bit-if-requires-5 c κs = search needs
+bit-if-requires-5 c κs = tt
 
 add-result : tie.Need-add-result
-add-result c = search needs
+add-result c = omega arith
 
 returns : tie.Need-returns
 returns c =

@@ -1,13 +1,13 @@
+use native.Mathlib.Omega.{arith}
 use Prim.Native.Nat.{_≤_, _<_}
 use Rattle.registers.proofs.status.Laws.{set-yes, set-no}
 use mathlib.Core.Path.{sym, _∙_}
 use Rattle.registers.specs.Status.{storedIn, widest}
-use borrow.Author.Needs.{needs}
 use Rattle.registers.proofs.status.Status.store.Statement.{statement}
 use Rattle.registers.proofs.status.Status.store.Tie as tie
 
 widest-requires : tie.Need-widest-requires
-widest-requires c κs = search needs
+widest-requires c κs = tt
 
 returns : tie.Need-returns
 returns c =
@@ -16,22 +16,22 @@ returns c =
     sym (set-no (a .self) (a .value) (a .register) h)
 
 enum-told : tie.Need-enum-told
-enum-told c = search needs
+enum-told c = omega arith
 
 enum-told-2 : tie.Need-enum-told-2
-enum-told-2 c = search needs
+enum-told-2 c = omega arith
 
 without-bit6-requires : tie.Need-without-bit6-requires
-without-bit6-requires c κs = search needs
+without-bit6-requires c κs = tt
 
 enum-told-3 : tie.Need-enum-told-3
-enum-told-3 c = search needs
+enum-told-3 c = omega arith
 
 enum-told-4 : tie.Need-enum-told-4
-enum-told-4 c = search needs
+enum-told-4 c = omega arith
 
 enum-told-5 : tie.Need-enum-told-5
-enum-told-5 c = search needs
+enum-told-5 c = omega arith
 
 returns-2 : tie.Need-returns-2
 unfolding storedIn
