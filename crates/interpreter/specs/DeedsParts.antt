@@ -2,44 +2,47 @@
 use mathlib.Core.Path.{_≡_}
 use mathlib.Core.Bool.{Bool, true, false}
 use mathlib.Core.List.{[]}
-use Prim.Native.Nat.{ℕ, _+_, _≤_, _<_}
-use lib.Dec.{eqb}
-use lib.ListN.{take, set}
+use Prim.Native.Nat.{ℕ, _-_, _≤_, _<_}
+use lib.ListN.{length, take, drop}
 use lib.IntN.{ℤ}
 use Rattle.registers.specs.Text.{Text, if_then_else_, bytes, first}
 use Rattle.registers.specs.Check.{refused, passed}
-use Rattle.registers.specs.Answer.{decimal}
+use Rattle.registers.specs.Answer.{decimal, tenths, signedText}
 use Rattle.registers.specs.Errors.{numberOf, errorText}
-use Rattle.registers.specs.Settings.{kindOf, answerOf, wordText}
-use Rattle.registers.specs.Status.{most, registersOf, troubleOf, noTrouble, completed, raisedIn, statusByte}
+use Rattle.registers.specs.Settings.{kindOf, withValue, atReset, wordText}
+use Rattle.registers.specs.Status.{Registers, Trouble, most, registersOf, troubleOf, noTrouble, completed, raisedIn, storedIn, operationRead, statusByte}
 use Rattle.registers.specs.declared.error.Error as errors
-use Rattle.registers.specs.declared.error.Error.the-variants.{QueryDeadlocked}
 use Rattle.registers.specs.declared.settings.Settings.{Settings}
 use Rattle.registers.specs.declared.status.Status.{Status}
 use Rattle.interpreter.specs.Parameter.{wordsOf}
+use Rattle.interpreter.specs.RowsParts.{wordTable}
+use Rattle.interpreter.specs.UnitParts.{Allowed}
 use Rattle.interpreter.specs.Box.{Core, Box, box, mostAnswer}
-use Rattle.interpreter.specs.Deeds.{changed, replyTo, operationCleared, afterQuery, afterInquiry, perform}
+use Rattle.interpreter.specs.Deeds.{replyTo, afterInquiry, joined, perform}
 use Rattle.interpreter.specs.Line.{refuse}
 use Rattle.interpreter.specs.declared.deed.Deed.{Deed}
 use Rattle.interpreter.specs.declared.deed.Deed.the-variants.{Change, Complete, Clear, Query, Inquire}
+use Rattle.interpreter.specs.declared.deed.Change as changes
+use Rattle.interpreter.specs.declared.deed.Change.the-variants.{Nothing as noChange, Put, Reset, Store}
 use Rattle.interpreter.specs.declared.deed.Query as queries
+use Rattle.interpreter.specs.declared.deed.Query.the-variants.{Identity as identity, SelfTest, Completed, Limit, Value, Stored, Condition, OperationEvents}
 use Rattle.interpreter.specs.declared.deed.Inquiry as inquiries
 use Rattle.interpreter.specs.declared.deed.Inquiry.the-variants.{StandardEvents, StatusByte, NextError}
 use Rattle.interpreter.specs.declared.perform.Present.{Present}
 use Rattle.interpreter.specs.declared.perform.Performed.{Performed}
 use Rattle.interpreter.specs.declared.reply.Reply.{Reply}
-use Rattle.interpreter.specs.declared.reply.Reply.the-variants.{Nothing, Identity, Value, Number, Error}
+use Rattle.interpreter.specs.declared.reply.Reply.the-variants.{Nothing, Identity, Word, Tenths, Whole, Number, Error}
 
 -- ---- what settings and status mean while a line runs: its bytes are taken, and a is what its units answered so far
 
-abbrev pub coreWith : Settings → Status → Text → Core
-coreWith s t a = record { settings = s; registers = registersOf t; line = []; overlong = false; answer = a }
+abbrev pub coreOf : Settings → Registers → Text → Core
+coreOf s r a = record { settings = s; registers = r; line = []; overlong = false; answer = a }
 
 abbrev pub coreIn : Settings → Status → Core
-coreIn s t = coreWith s t []
+coreIn s t = coreOf s (registersOf t) []
 
 abbrev pub boxIn : Present → Text → Box
-boxIn p a = box (coreWith (p .settings) (p .status) a) (troubleOf (p .status))
+boxIn p a = box (coreOf (p .settings) (registersOf (p .status)) a) (troubleOf (p .status))
 
 -- ---- texts
 
@@ -56,60 +59,108 @@ inquiryText NextError s answers = errorText (first (troubleOf s .queue))
 unfoldable pub textOf : Reply → Text
 textOf Nothing = []
 textOf Identity = bytes "COURSE,BENCH24,0,4.00"
-textOf (Value i v) = answerOf (kindOf i) v
+textOf (Word start end) = take (end - start) (drop start wordTable)
+textOf (Tenths v) = signedText tenths v
+textOf (Whole v) = signedText decimal v
 textOf (Number n) = decimal n
 textOf (Error n) = errorText n
+
+-- a word lies within the table
+abbrev pub Stands : Reply → Type 0
+Stands Nothing = Unit {0}
+Stands Identity = Unit {0}
+Stands (Word start end) = (start ≤ end) × (end ≤ 832)
+Stands (Tenths v) = Unit {0}
+Stands (Whole v) = Unit {0}
+Stands (Number n) = Unit {0}
+Stands (Error n) = Unit {0}
 
 abbrev pub said : Reply → Bool
 said Nothing = false
 said Identity = true
-said (Value i v) = true
+said (Word start end) = true
+said (Tenths v) = true
+said (Whole v) = true
 said (Number n) = true
 said (Error n) = true
 
 pub record RepliesWith (t : Text) (r : Reply) : Type 0 where
   pub is : textOf r ≡ t
   pub some : said r ≡ true
+  pub stands : Stands r
 
 -- what a deed answers
-abbrev pub ReplyTo : Deed → Settings → Status → Bool → Reply → Type 0
-ReplyTo (Change x) s t answers r = r ≡ Nothing
-ReplyTo Complete s t answers r = r ≡ Nothing
-ReplyTo Clear s t answers r = r ≡ Nothing
-ReplyTo (Query q) s t answers r = RepliesWith (replyTo q (coreIn s t)) r
-ReplyTo (Inquire q) s t answers r = RepliesWith (inquiryText q t answers) r
+abbrev pub ReplyTo : Deed → Present → Bool → Reply → Type 0
+ReplyTo (Change x) p answers r = r ≡ Nothing
+ReplyTo Complete p answers r = r ≡ Nothing
+ReplyTo Clear p answers r = r ≡ Nothing
+ReplyTo (Query q) p answers r = RepliesWith (replyTo q (coreIn (p .settings) (p .status))) r
+ReplyTo (Inquire q) p answers r = RepliesWith (inquiryText q (p .status) answers) r
+
+-- the answers so far with a reply behind them
+unfoldable pub answeredWith : Reply → Text → Text
+answeredWith r a = if said r then joined a (textOf r) else a
+
+-- check 9 on a reply behind the answers that stand in out: they end at r then, and r is the end of out if it leaves no room
+pub record GivenTo (reply : Reply) (answered : ℕ) (out : Text) (r : ℕ) (left : Text) : Type 0 where
+  pub stands : r < mostAnswer
+      → (length (answeredWith reply (take answered out)) < mostAnswer) × (take r left ≡ answeredWith reply (take answered out))
+  pub falls : mostAnswer ≤ r → mostAnswer ≤ length (answeredWith reply (take answered out))
+
+-- ---- what a deed leaves of settings, registers and trouble
+
+abbrev pub settingsChanged : changes.Change → Settings → Settings
+settingsChanged noChange s = s
+settingsChanged (Put i v) s = withValue i v s
+settingsChanged Reset s = atReset
+settingsChanged (Store x n) s = s
+
+abbrev pub settingsLeft : Deed → Settings → Settings
+settingsLeft (Change x) s = settingsChanged x s
+settingsLeft Complete s = s
+settingsLeft Clear s = s
+settingsLeft (Query q) s = s
+settingsLeft (Inquire q) s = s
+
+abbrev pub registersChanged : changes.Change → Registers → Registers
+registersChanged noChange r = r
+registersChanged (Put i v) r = r
+registersChanged Reset r = r
+registersChanged (Store x n) r = storedIn x n r
+
+abbrev pub registersAsked : queries.Query → Registers → Registers
+registersAsked identity r = r
+registersAsked SelfTest r = r
+registersAsked Completed r = r
+registersAsked (Limit i v) r = r
+registersAsked (Value i) r = r
+registersAsked (Stored x) r = r
+registersAsked Condition r = r
+registersAsked OperationEvents r = operationRead r
+
+abbrev pub registersLeft : Deed → Registers → Registers
+registersLeft (Change x) r = registersChanged x r
+registersLeft Complete r = r
+registersLeft Clear r = operationRead r
+registersLeft (Query q) r = registersAsked q r
+registersLeft (Inquire q) r = r
+
+abbrev pub troubleLeft : Deed → Trouble → Trouble
+troubleLeft (Change x) t = t
+troubleLeft Complete t = completed t
+troubleLeft Clear t = noTrouble
+troubleLeft (Query q) t = t
+troubleLeft (Inquire q) t = afterInquiry q t
+
+pub record StatusLeft (d : Deed) (s r : Status) : Type 0 where
+  pub registers : (c : Settings) → Allowed c d → registersOf r ≡ registersLeft d (registersOf s)
+  pub trouble : troubleOf r ≡ troubleLeft d (troubleOf s)
+  pub queued : r .queued ≤ most
 
 -- ---- what each function leaves
 
 unfoldable pub raisedWith : errors.Error → Present → Present
 raisedWith e p = record { settings = p .settings; status = raisedIn (numberOf e) (p .status) }
-
-unfoldable pub droppedWith : Present → Performed
-droppedWith p = record { present = raisedWith QueryDeadlocked p; answered = 0; obeyed = false }
-
-unfoldable pub startOf : ℕ → ℕ
-startOf n = if eqb n 0 then 0 else n + 1
-
-unfoldable pub separated : ℕ → Text → Text
-separated n out = if eqb n 0 then out else set out n 59
-
--- what a deed leaves of the box, but for its answer
-abbrev pub leftBy : Deed → Box → Box
-leftBy (Change x) b = box (changed x (b .core)) (b .trouble)
-leftBy Complete b = box (b .core) (completed (b .trouble))
-leftBy Clear b = box (operationCleared (b .core)) noTrouble
-leftBy (Query q) b = box (afterQuery q (b .core)) (b .trouble)
-leftBy (Inquire q) b = box (b .core) (afterInquiry q (b .trouble))
-
-pub record LeftTo (d : Deed) (p r : Present) : Type 0 where
-  pub is : (a : Text) → boxIn r a ≡ leftBy d (boxIn p a)
-  pub queued : p .status .queued ≤ most → r .status .queued ≤ most
-
--- check 9 on an answer of n bytes behind those that stand in out: q is what is left if it is given, p what there was before
-pub record SettledTo (p q : Present) (answered n : ℕ) (out : Text) (r : Performed) (left : Text) : Type 0 where
-  pub stands : startOf answered + n < mostAnswer
-      → (r ≡ record { present = q; answered = startOf answered + n; obeyed = true }) × (left ≡ separated answered out)
-  pub falls : mostAnswer ≤ startOf answered + n → r ≡ droppedWith p
 
 -- a deed is performed, or refused by check 9
 pub record PerformedIn (d : Deed) (p : Present) (out : Text) (answered : ℕ) (r : Performed) (left : Text) : Type 0 where

@@ -1,24 +1,31 @@
--- What the deeds do to settings and status, in terms of the box.
-use mathlib.Core.Path.{_≡_, refl, sym, ap, _∙_}
-use mathlib.Core.Bool.{Bool, true, not, false≢true}
+-- What the deeds leave of settings and status, in terms of the box, with check 9.
+use mathlib.Core.Path.{_≡_, refl, sym, ap}
+use mathlib.Core.Bool.{Bool, true, false, not, false≢true}
 use mathlib.Core.List.{[], _∷_}
 use Prim.Native.Nat.{ℕ, zero, suc, _≤_, _<_}
 use native.Mathlib.Omega.{arith}
-use lib.Dec.{eqb}
-use lib.ListN.{length, take}
+use lib.Dec.{eqb, leb}
+use lib.ListN.{length, take, length-take}
 use types.Run.{OneOf, miss}
 use denote.Enum.Declared.{tagOf}
-use borrow.Author.Tests.{ne-eqb}
-use Rattle.registers.specs.Text.{Text, empty}
-use Rattle.registers.specs.Check.{passed, _>>=_}
-use Rattle.registers.specs.Status.{troubleOf}
+use borrow.Author.Tests.{ne-eqb, lt-ltb, le-ltb, leb-true, leb-false}
+use Rattle.registers.specs.Text.{Text, if_then_else_, empty}
+use Rattle.registers.specs.Check.{refused, passed, _>>=_, _>>_, check}
+use Rattle.registers.specs.Status.{Registers, most, registersOf, troubleOf, raisedIn, registerSet, widest}
 use Rattle.registers.specs.declared.settings.Settings.{Settings}
 use Rattle.registers.specs.declared.status.Status.{Status}
-use Rattle.interpreter.specs.Box.{Core, box, withAnswer, mostAnswer}
-use Rattle.interpreter.specs.Deeds.{replyTo, afterQuery, inquiryReply, reply, perform}
-use Rattle.interpreter.specs.DeedsParts.{coreIn, coreWith, boxIn, inquiryText, textOf, ReplyTo, leftBy, LeftTo, PerformedIn}
+use Rattle.registers.specs.declared.status.Register.{Register}
+use Rattle.registers.proofs.status.Laws.{set-yes, set-no}
+use Rattle.registers.proofs.status.Means.{raised-trouble, raised-registers, raised-queued}
+use Rattle.interpreter.specs.Box.{Core, Box, box, withAnswer, mostAnswer}
+use Rattle.interpreter.specs.Deeds.{changed, replyTo, afterQuery, inquiryReply, joined, fitsAnswer, reply, perform}
+use Rattle.interpreter.specs.Line.{refuse}
+use Rattle.interpreter.specs.UnitParts.{Allowed}
+use Rattle.interpreter.specs.DeedsParts.{coreOf, boxIn, inquiryText, textOf, Stands, said, ReplyTo, answeredWith, GivenTo, settingsChanged, settingsLeft, registersChanged, registersAsked, registersLeft, troubleLeft, StatusLeft, PerformedIn}
 use Rattle.interpreter.specs.declared.deed.Deed.{Deed}
 use Rattle.interpreter.specs.declared.deed.Deed.the-variants.{Change, Complete, Clear, Query, Inquire}
+use Rattle.interpreter.specs.declared.deed.Change as changes
+use Rattle.interpreter.specs.declared.deed.Change.the-variants.{Nothing as noChange, Put, Reset, Store}
 use Rattle.interpreter.specs.declared.deed.Query as queries
 use Rattle.interpreter.specs.declared.deed.Query.the-variants.{Identity, SelfTest, Completed, Limit, Value, Stored, Condition, OperationEvents}
 use Rattle.interpreter.specs.declared.deed.Inquiry as inquiries
@@ -26,60 +33,78 @@ use Rattle.interpreter.specs.declared.deed.Inquiry.the-variants.{Standar
 use Rattle.interpreter.specs.declared.perform.Present.{Present}
 use Rattle.interpreter.specs.declared.reply.Reply.{Reply}
 use Rattle.interpreter.specs.declared.reply.Reply.the-variants.{Nothing}
+use Rattle.interpreter.proofs.deed.Deed as deeds
+use Rattle.interpreter.proofs.deed.Change as orders
 use Rattle.interpreter.proofs.deed.Query as asked
-use Rattle.interpreter.proofs.reply.Reply as replies
 
--- ---- deeds that answer nothing
+-- ---- what leaves the settings alone
 
-silent-does : (d : Deed) (p : Present) (answers : Bool) → ReplyTo d (p .settings) (p .status) answers Nothing → (a : Text)
-    → perform d (boxIn p a) ≡ passed (leftBy d (boxIn p a))
-unfolding perform
-silent-does (Change x) p b h a = refl
-silent-does Complete p b h a = refl
-silent-does Clear p b h a = refl
-silent-does (Query q) p b h a = absurd (false≢true (h .some))
-silent-does (Inquire q) p b h a = absurd (false≢true (h .some))
+pub same-settings : (x : changes.Change) → OneOf (0 ∷ 3 ∷ []) (tagOf orders.the-type x) → (s : Settings) → s ≡ settingsChanged x s
+same-settings noChange h s = refl
+same-settings (Put i v) h s = absurd (miss (0 ∷ 3 ∷ []) 1 tt h)
+same-settings Reset h s = absurd (miss (0 ∷ 3 ∷ []) 2 tt h)
+same-settings (Store x n) h s = refl
 
-pub unanswered : (d : Deed) (answers : Bool) {p q : Present} {out : Text} {answered : ℕ}
-    → ReplyTo d (p .settings) (p .status) answers Nothing → LeftTo d p q → answered < mostAnswer → p .status .queued ≤ 16
-    → PerformedIn d p out answered (record { present = q; answered = answered; obeyed = true }) out
-unanswered d b {p} {q} {out} {answered} h left room k =
-    let a = take answered out in
-    record {
-      queued = left .queued k;
-      room = room;
-      done = λ _. silent-does d p b h a ∙ ap passed (sym (left .is a));
-      dropped = λ z. absurd (false≢true (sym z));
-    }
+pub no-change : (d : Deed) → OneOf (1 ∷ 2 ∷ 3 ∷ 4 ∷ []) (tagOf deeds.the-type d) → (s : Settings) → s ≡ settingsLeft d s
+no-change (Change x) h s = absurd (miss (1 ∷ 2 ∷ 3 ∷ 4 ∷ []) 0 tt h)
+no-change Complete h s = refl
+no-change Clear h s = refl
+no-change (Query q) h s = refl
+no-change (Inquire q) h s = refl
 
--- ---- queries that see settings and registers alone
+-- ---- what leaves the status alone
 
--- a query sees nothing of the answers so far and leaves them alone; all but one change nothing at all
+module _ (s : Status) (k : s .queued ≤ most) where
+  pub same-status : (x : changes.Change) → OneOf (0 ∷ 1 ∷ 2 ∷ []) (tagOf orders.the-type x) → StatusLeft (Change x) s s
+  same-status noChange h = record { registers = λ _ _. refl; trouble = refl; queued = k }
+  same-status (Put i v) h = record { registers = λ _ _. refl; trouble = refl; queued = k }
+  same-status Reset h = record { registers = λ _ _. refl; trouble = refl; queued = k }
+  same-status (Store x n) h = absurd (miss (0 ∷ 1 ∷ 2 ∷ []) 3 tt h)
+
+  pub only-asked : (q : queries.Query) → OneOf (0 ∷ 1 ∷ 2 ∷ 3 ∷ 4 ∷ 5 ∷ 6 ∷ []) (tagOf asked.the-type q) → StatusLeft (Query q) s s
+  only-asked Identity h = record { registers = λ _ _. refl; trouble = refl; queued = k }
+  only-asked SelfTest h = record { registers = λ _ _. refl; trouble = refl; queued = k }
+  only-asked Completed h = record { registers = λ _ _. refl; trouble = refl; queued = k }
+  only-asked (Limit i v) h = record { registers = λ _ _. refl; trouble = refl; queued = k }
+  only-asked (Value i) h = record { registers = λ _ _. refl; trouble = refl; queued = k }
+  only-asked (Stored x) h = record { registers = λ _ _. refl; trouble = refl; queued = k }
+  only-asked Condition h = record { registers = λ _ _. refl; trouble = refl; queued = k }
+  only-asked OperationEvents h = absurd (miss (0 ∷ 1 ∷ 2 ∷ 3 ∷ 4 ∷ 5 ∷ 6 ∷ []) 7 tt h)
+
+pub stored-left : (x : Register) (n : ℕ) (s : Status) → s .queued ≤ most → StatusLeft (Change (Store x n)) s (registerSet x n s)
+stored-left x n s k = go (leb n (widest x)) refl
+  where
+    go : (b : Bool) → leb n (widest x) ≡ b → StatusLeft (Change (Store x n)) s (registerSet x n s)
+    go true e = rw (set-yes s n x (leb-true n (widest x) e)) (record { registers = λ _ _. refl; trouble = refl; queued = k })
+    go false e =
+        let h = leb-false n (widest x) e in
+        rw (set-no s n x h) (record { registers = λ _ a. absurd (omega arith); trouble = refl; queued = k })
+
+-- ---- what is asked, and what is left, as the box has it
+
+changed-is : (x : changes.Change) (s : Settings) (r : Registers) (a : Text)
+    → changed x (coreOf s r a) ≡ coreOf (settingsChanged x s) (registersChanged x r) a
+unfolding changed
+changed-is noChange s r a = refl
+changed-is (Put i v) s r a = refl
+changed-is Reset s r a = refl
+changed-is (Store x n) s r a = refl
+
+-- a query sees nothing of the answers so far
 record Apart (q : queries.Query) : Type 0 where
-  unseen : (s : Settings) (t : Status) (a : Text) → replyTo q (coreWith s t a) ≡ replyTo q (coreIn s t)
-  kept : (c : Core) (a : Text) → withAnswer a (afterQuery q c) ≡ afterQuery q (withAnswer a c)
-  quiet : (q ≡ OperationEvents → ⊥) → (c : Core) → afterQuery q c ≡ c
+  unseen : (s : Settings) (r : Registers) (a : Text) → replyTo q (coreOf s r a) ≡ replyTo q (coreOf s r [])
+  left : (s : Settings) (r : Registers) (a : Text) → afterQuery q (coreOf s r a) ≡ coreOf s (registersAsked q r) a
 
 apart : (q : queries.Query) → Apart q
 unfolding replyTo
-apart Identity = record { unseen = λ s t a. refl; kept = λ c a. refl; quiet = λ _ c. refl }
-apart SelfTest = record { unseen = λ s t a. refl; kept = λ c a. refl; quiet = λ _ c. refl }
-apart Completed = record { unseen = λ s t a. refl; kept = λ c a. refl; quiet = λ _ c. refl }
-apart (Limit i v) = record { unseen = λ s t a. refl; kept = λ c a. refl; quiet = λ _ c. refl }
-apart (Value i) = record { unseen = λ s t a. refl; kept = λ c a. refl; quiet = λ _ c. refl }
-apart (Stored x) = record { unseen = λ s t a. refl; kept = λ c a. refl; quiet = λ _ c. refl }
-apart Condition = record { unseen = λ s t a. refl; kept = λ c a. refl; quiet = λ _ c. refl }
-apart OperationEvents = record { unseen = λ s t a. refl; kept = λ c a. refl; quiet = λ ne c. absurd (ne refl) }
-
-pub quiet-after : (q : queries.Query) (p : Present) → OneOf (0 ∷ 1 ∷ 2 ∷ 3 ∷ 4 ∷ 5 ∷ 6 ∷ []) (tagOf asked.the-type q) → LeftTo (Query q) p p
-quiet-after q p h =
-    let ne : q ≡ OperationEvents → ⊥ = λ e. miss (0 ∷ 1 ∷ 2 ∷ 3 ∷ 4 ∷ 5 ∷ 6 ∷ []) 7 tt (rw e at h) in
-    record {
-      is = λ a. ap (λ (c : Core). box c (troubleOf (p .status))) (sym (apart q .quiet ne (boxIn p a .core)));
-      queued = λ k. k;
-    }
-
--- ---- the three that see the trouble
+apart Identity = record { unseen = λ s r a. refl; left = λ s r a. refl }
+apart SelfTest = record { unseen = λ s r a. refl; left = λ s r a. refl }
+apart Completed = record { unseen = λ s r a. refl; left = λ s r a. refl }
+apart (Limit i v) = record { unseen = λ s r a. refl; left = λ s r a. refl }
+apart (Value i) = record { unseen = λ s r a. refl; left = λ s r a. refl }
+apart (Stored x) = record { unseen = λ s r a. refl; left = λ s r a. refl }
+apart Condition = record { unseen = λ s r a. refl; left = λ s r a. refl }
+apart OperationEvents = record { unseen = λ s r a. refl; left = λ s r a. refl }
 
 inquiry-same : (q : inquiries.Inquiry) (p : Present) (a : Text) → inquiryReply q (boxIn p a) ≡ inquiryText q (p .status) (not (empty a))
 unfolding inquiryReply
@@ -93,28 +118,102 @@ some-answer out zero h = refl
 some-answer [] (suc n) h = absurd (omega arith)
 some-answer (x ∷ out) (suc n) h = sym (ne-eqb (suc n) 0 (λ e. omega arith))
 
--- ---- deeds that answer: check 9 on the answer, and what is left but for it
+pub reply-stands : (d : Deed) (p : Present) (answers : Bool) (r : Reply) → ReplyTo d p answers r → Stands r
+reply-stands (Change x) p answers r e = rw e tt
+reply-stands Complete p answers r e = rw e tt
+reply-stands Clear p answers r e = rw e tt
+reply-stands (Query q) p answers r e = e .stands
+reply-stands (Inquire q) p answers r e = e .stands
 
-pub record Answers (d : Deed) (p : Present) (out : Text) (n : ℕ) (t : Text) : Type 0 where
-  pub does : perform d (boxIn p (take n out))
-      ≡ (reply t (leftBy d (boxIn p (take n out)) .core) >>= λ c. passed (box c (leftBy d (boxIn p (take n out)) .trouble)))
-  pub before : leftBy d (boxIn p (take n out)) .core .answer ≡ take n out
-  pub after : (a : Text)
-      → leftBy d (boxIn p a) ≡ box (withAnswer a (leftBy d (boxIn p (take n out)) .core)) (leftBy d (boxIn p (take n out)) .trouble)
+-- ---- check 9 on a reply that says something
 
-pub answers-in : (d : Deed) (p : Present) (out : Text) (n : ℕ) → n < length out
-    → (r : Reply) → ReplyTo d (p .settings) (p .status) (not (eqb n 0)) r → OneOf (1 ∷ 2 ∷ 3 ∷ 4 ∷ []) (tagOf replies.the-type r)
-    → Answers d p out n (textOf r)
-unfolding perform
-answers-in (Change x) p out n h r e k = absurd (miss (1 ∷ 2 ∷ 3 ∷ 4 ∷ []) 0 tt (rw e at k))
-answers-in Complete p out n h r e k = absurd (miss (1 ∷ 2 ∷ 3 ∷ 4 ∷ []) 0 tt (rw e at k))
-answers-in Clear p out n h r e k = absurd (miss (1 ∷ 2 ∷ 3 ∷ 4 ∷ []) 0 tt (rw e at k))
-answers-in (Query q) p out n h r e k =
-    let c = boxIn p (take n out) .core in
-    record {
-      does = rw (apart q .unseen (p .settings) (p .status) (take n out), e .is);
-      before = sym (ap (λ (x : Core). x .answer) (apart q .kept c (take n out)));
-      after = λ a. ap (λ (x : Core). box x (troubleOf (p .status))) (sym (apart q .kept c a));
-    }
-answers-in (Inquire q) p out n h r e k =
-    record { does = rw (inquiry-same q p (take n out), some-answer out n h, e .is); before = refl; after = λ a. refl }
+module _ (r : Reply) (c : Core) (some : said r ≡ true) where
+  joined-is : answeredWith r (c .answer) ≡ joined (c .answer) (textOf r)
+  unfolding answeredWith if_then_else_
+  joined-is = rw some
+
+  reply-given : length (answeredWith r (c .answer)) < mostAnswer → reply (textOf r) c ≡ passed (withAnswer (answeredWith r (c .answer)) c)
+  unfolding reply check _>>_ fitsAnswer
+  reply-given h =
+      let k = rw joined-is at h in
+      rw (joined-is, lt-ltb (length (joined (c .answer) (textOf r))) mostAnswer k)
+
+  reply-refused : mostAnswer ≤ length (answeredWith r (c .answer)) → reply (textOf r) c ≡ refused 430
+  unfolding reply check _>>_ fitsAnswer
+  reply-refused h =
+      let k = rw joined-is at h in
+      rw (le-ltb (length (joined (c .answer) (textOf r))) mostAnswer k)
+
+-- nothing that is said always has room
+silent : (r : Reply) (a : Text) → r ≡ Nothing → length a < mostAnswer → mostAnswer ≤ length (answeredWith r a) → ⊥
+unfolding answeredWith if_then_else_
+silent r a e k h = let l = rw e at h in omega arith
+
+-- ---- a deed that answers with reply r
+
+module _ (p : Present) (a : Text) (r : Reply) where
+  abbrev left : Deed → Text → Box
+  left d b = box (coreOf (settingsLeft d (p .settings)) (registersLeft d (registersOf (p .status))) b) (troubleLeft d (troubleOf (p .status)))
+
+  abbrev after : Deed → Core
+  after d = left d a .core
+
+  given : (d : Deed) → ReplyTo d p (not (empty a)) r → length (answeredWith r a) < mostAnswer
+      → perform d (boxIn p a) ≡ passed (left d (answeredWith r a))
+  unfolding perform answeredWith if_then_else_ _>>=_
+  given (Change x) e h = rw e (ap (λ (c : Core). passed (box c (troubleOf (p .status)))) (changed-is x (p .settings) (registersOf (p .status)) a))
+  given Complete e h = rw e
+  given Clear e h = rw e
+  given (Query q) e h =
+      let t = registersOf (p .status) in
+      rw (apart q .unseen (p .settings) t a, ← e .is, apart q .left (p .settings) t a, reply-given r (after (Query q)) (e .some) h)
+  given (Inquire q) e h = rw (inquiry-same q p a, ← e .is, reply-given r (after (Inquire q)) (e .some) h)
+
+  dropped : (d : Deed) → ReplyTo d p (not (empty a)) r → length a < mostAnswer → mostAnswer ≤ length (answeredWith r a)
+      → perform d (boxIn p a) ≡ refused 430
+  unfolding perform _>>=_
+  dropped (Change x) e k h = absurd (silent r a e k h)
+  dropped Complete e k h = absurd (silent r a e k h)
+  dropped Clear e k h = absurd (silent r a e k h)
+  dropped (Query q) e k h =
+      let t = registersOf (p .status) in
+      rw (apart q .unseen (p .settings) t a, ← e .is, apart q .left (p .settings) t a, reply-refused r (after (Query q)) (e .some) h)
+  dropped (Inquire q) e k h = rw (inquiry-same q p a, ← e .is, reply-refused r (after (Inquire q)) (e .some) h)
+
+-- the deed as the code performs it: what its reply leaves of the answers, and where they end
+module _ (d : Deed) (p : Present) {r : Reply} {out end-of : Text} {answered end : ℕ} (room : answered < mostAnswer) (size : length out ≡ mostAnswer)
+    (says : ReplyTo d p (not (eqb answered 0)) r) (answers : GivenTo r answered out end end-of) where
+  abbrev so-far : Text
+  so-far = take answered out
+
+  replies : ReplyTo d p (not (empty so-far)) r
+  replies = rw (some-answer out answered (omega arith)) says
+
+  pub obeyed : {t : Status} → Allowed (p .settings) d → StatusLeft d (p .status) t → end < mostAnswer
+      → PerformedIn d p out answered
+      (record { present = record { settings = settingsLeft d (p .settings); status = t }; answered = end; obeyed = true }) end-of
+  obeyed {t} k s h =
+      let e = answers .stands h in
+      record {
+        queued = s .queued;
+        room = h;
+        done = λ _. rw (s .registers (p .settings) k, s .trouble, e .1) (given p so-far r d replies (e .0));
+        dropped = λ z. absurd (false≢true (sym z));
+      }
+
+  -- the error of check 9 is all that it leaves
+  pub deadlocked : length (p .status .errors) ≡ 16 → p .status .queued ≤ most → mostAnswer ≤ end
+      → PerformedIn d p out answered
+      (record { present = record { settings = p .settings; status = raisedIn 430 (p .status) }; answered = 0; obeyed = false }) end-of
+  unfolding refuse if_then_else_
+  deadlocked full k h =
+      let short : length so-far < mostAnswer = rw length-take (omega arith) in
+      record {
+        queued = raised-queued 430 (p .status) full k;
+        room = omega arith;
+        done = λ z. absurd (false≢true z);
+        dropped = λ _. (
+          dropped p so-far r d replies short (answers .falls h),
+          rw (raised-trouble 430 (p .status) full, raised-registers 430 (p .status) full),
+        );
+      }

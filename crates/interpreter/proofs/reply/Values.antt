@@ -14,19 +14,19 @@ use mir.Val.{SFits, toZ, ofZ}
 use mir.Facts.{toZ-ofZ}
 use borrow.Author.Tests.{ltb-true, ltb-false}
 use Rattle.registers.specs.Text.{Text, if_then_else_}
-use Rattle.registers.specs.Answer.{decimal, tenths, signedText, Laid}
+use Rattle.registers.specs.Answer.{decimal, tenths, signedText}
 use Rattle.registers.specs.Settings.{Kind, bool, words, number, kindOf, answerOf, valuesIn, wordText}
-use Rattle.registers.specs.declared.settings.Settings.{Settings}
 use Rattle.registers.specs.declared.settings.Values.{Values}
 use Rattle.registers.specs.declared.settings.Values.the-variants.{Bool as BoolValue, Word, Tenths, Whole}
-use Rattle.registers.specs.declared.status.Status.{Status}
 use Rattle.registers.proofs.settings.Laws.{behind-is}
 use Rattle.registers.proofs.settings.Values as values
-use Rattle.interpreter.specs.DeedsParts.{ReplyTo}
+use Rattle.interpreter.specs.DeedsParts.{textOf, RepliesWith, ReplyTo}
 use Rattle.interpreter.specs.Parameter.{wordsOf, limitWords}
 use Rattle.interpreter.specs.declared.deed.Deed.{Deed}
 use Rattle.interpreter.specs.declared.deed.Deed.the-variants.{Change, Complete, Clear, Query, Inquire}
-use Rattle.interpreter.specs.declared.reply.Reply.the-variants.{Nothing}
+use Rattle.interpreter.specs.declared.perform.Present.{Present}
+use Rattle.interpreter.specs.declared.reply.Reply.{Reply}
+use Rattle.interpreter.specs.declared.reply.Reply.the-variants.{Nothing, Whole as said-whole}
 use Rattle.interpreter.proofs.deed.Deed as deeds
 
 -- ---- a setting
@@ -47,19 +47,22 @@ answer-is (number k low high) v = go (eqb k 10)
     go true = refl
     go false = refl
 
--- what a writer wrote of a value that came as its bits, by the kind v that the code was told
-pub laid-value : (k : Kind) {z : ℤ} → SFits w32 z → {told v : Values} {before tail : Text} {n : ℕ}
-    → told ≡ valuesIn k → told ≡ v
-    → Laid (answerAs v (wordsOf k) (toZ w32 (ofZ w32 z))) before n tail → Laid (answerOf k z) before n tail
-laid-value k {z} h e f l = rw (answer-is k z, sym e ∙ f) (rw (toZ-ofZ {w = w32} h) at l)
+-- the reply to a value that came as its bits, by the kind v that the code was told
+module _ (k : Kind) {z : ℤ} (h : SFits w32 z) {told : Values} (is : told ≡ valuesIn k) where
+  pub told-value : {v : Values} {r : Reply} → told ≡ v → RepliesWith (answerAs v (wordsOf k) (toZ w32 (ofZ w32 z))) r → RepliesWith (answerOf k z) r
+  told-value f e = rw (answer-is k z, sym is ∙ f) (rw (toZ-ofZ {w = w32} h) at e)
 
--- a bool is answered as a whole number is
-pub whole-or-bool : (v : Values) → OneOf (3 ∷ 0 ∷ []) (tagOf values.the-type v) → (ws : List String) (z : ℤ)
-    → signedText decimal z ≡ answerAs v ws z
-whole-or-bool BoolValue h ws z = refl
-whole-or-bool Word h ws z = absurd (miss (3 ∷ 0 ∷ []) 1 tt h)
-whole-or-bool Tenths h ws z = absurd (miss (3 ∷ 0 ∷ []) 2 tt h)
-whole-or-bool Whole h ws z = refl
+  -- a bool is answered as a whole number is
+  pub told-whole : OneOf (3 ∷ 0 ∷ []) (tagOf values.the-type told) → RepliesWith (answerOf k z) (said-whole (toZ w32 (ofZ w32 z)))
+  unfolding textOf
+  told-whole o = told-value refl (record { is = whole told o; some = refl; stands = tt })
+    where
+      whole : (v : Values) → OneOf (3 ∷ 0 ∷ []) (tagOf values.the-type v)
+          → signedText decimal (toZ w32 (ofZ w32 z)) ≡ answerAs v (wordsOf k) (toZ w32 (ofZ w32 z))
+      whole BoolValue h = refl
+      whole Word h = absurd (miss (3 ∷ 0 ∷ []) 1 tt h)
+      whole Tenths h = absurd (miss (3 ∷ 0 ∷ []) 2 tt h)
+      whole Whole h = refl
 
 -- a row whose values are words is one of the table: behind it rows count as bools
 pub word-row : (i : ℕ) {told : Values} → told ≡ valuesIn (kindOf i) → told ≡ Word → i < 16
@@ -74,10 +77,10 @@ word-row i is e = go (ltb i 16) refl
 
 -- ---- a deed without an answer is of one of the first three kinds
 
-pub nothing-said : (d : Deed) → OneOf (0 ∷ 1 ∷ 2 ∷ []) (tagOf deeds.the-type d) → (s : Settings) (t : Status) (answers : Bool)
-    → ReplyTo d s t answers Nothing
-nothing-said (Change x) h s t answers = refl
-nothing-said Complete h s t answers = refl
-nothing-said Clear h s t answers = refl
-nothing-said (Query q) h s t answers = absurd (miss (0 ∷ 1 ∷ 2 ∷ []) 3 tt h)
-nothing-said (Inquire q) h s t answers = absurd (miss (0 ∷ 1 ∷ 2 ∷ []) 4 tt h)
+pub nothing-said : (d : Deed) → OneOf (0 ∷ 1 ∷ 2 ∷ []) (tagOf deeds.the-type d) → (p : Present) (answers : Bool)
+    → ReplyTo d p answers Nothing
+nothing-said (Change x) h p answers = refl
+nothing-said Complete h p answers = refl
+nothing-said Clear h p answers = refl
+nothing-said (Query q) h p answers = absurd (miss (0 ∷ 1 ∷ 2 ∷ []) 3 tt h)
+nothing-said (Inquire q) h p answers = absurd (miss (0 ∷ 1 ∷ 2 ∷ []) 4 tt h)

@@ -1,6 +1,6 @@
 -- The table of words: where a word's short form stands in it, and the word of a setting by its place.
 use mathlib.Core.Path.{_≡_, refl, sym, _∙_}
-use mathlib.Core.Bool.{Bool, true, false, _&&_, false≢true}
+use mathlib.Core.Bool.{Bool, true, false, _&&_, _||_, false≢true}
 use mathlib.Core.List.{List, [], _++_}
 use Prim.Native.Nat.{ℕ, suc, _+_, _*_, _-_, _≤_, _<_}
 use Prim.Native.String.{String}
@@ -8,17 +8,19 @@ use native.Mathlib.Nat.{add-zero}
 use native.Mathlib.Omega.{arith}
 use lib.Dec.{leb, eqb}
 use lib.IntN.{ℤ, pos, negsuc, natAbs}
-use lib.Signed.{ltZ}
+use lib.Signed.{ltZ, leZ}
 use lib.ListN.{length, getD, take, drop, length-take, length-drop, List·getD-eq-default}
 use lib.Seq.{drop-append-le, drop-drop, getD-drop, getD-take, take-append-le}
-use borrow.Author.Tests.{leb-true, eqb-true, ltb-true}
+use borrow.Author.Tests.{le-ltb, leb-true, leb-false, eqb-true}
 use Rattle.registers.specs.Text.{Text, if_then_else_, bytes, small, capital, every, same}
 use Rattle.registers.specs.Words.{shortForm, longForm}
 use Rattle.registers.specs.Settings.{wordText}
 use Rattle.registers.proofs.Tests.{and-both}
 use Rattle.interpreter.specs.ParameterParts.{takenWords}
 use Rattle.interpreter.specs.RowsParts.{wordList, wordAt, wordRow, wordTableOf, wordTable}
+use Rattle.interpreter.specs.DeedsParts.{textOf, RepliesWith}
 use Rattle.interpreter.specs.declared.parameter.Takes.{Takes}
+use Rattle.interpreter.specs.declared.reply.Reply.the-variants.{Word}
 use Rattle.interpreter.proofs.Lists.{every-at, table-at}
 use Rattle.interpreter.proofs.rows.Greedy.{same-eq}
 
@@ -60,15 +62,11 @@ module _ (i : ℕ) (k : i < 52) where
   unfolding wordTable wordTableOf wordAt
   from = table-at wordRow 16 wordTableOf refl (λ x xs. refl) wordList all-wide i "" within
 
-  pub word-length : getD wordTable (i * 16) 0 ≡ length short
+  word-length : getD wordTable (i * 16) 0 ≡ length short
   unfolding wordRow
   word-length = let e = getD-drop (i * 16) wordTable 0 0 in rw (add-zero, from) at (sym e)
 
-  pub word-fits : i * 16 + 2 + length short ≤ 832
-  word-fits = let t = tidy-is .0 in omega arith
-
-  -- what the code reads
-  pub word-read : take (i * 16 + 2 + getD wordTable (i * 16) 0 - (i * 16 + 2)) (drop (i * 16 + 2) wordTable) ≡ short
+  word-read : take (i * 16 + 2 + getD wordTable (i * 16) 0 - (i * 16 + 2)) (drop (i * 16 + 2) wordTable) ≡ short
   word-read =
       let n : i * 16 + 2 + length short - (i * 16 + 2) ≡ length short = omega arith in
       let row = wordRow (wordAt i) in
@@ -77,30 +75,45 @@ module _ (i : ℕ) (k : i < 52) where
       rw (word-length, n, ← drop-drop 2 (i * 16) wordTable, from, drop-append-le 2 row (wordTableOf (drop (suc i) wordList)) (omega arith))
       (take-append-le (length short) (drop 2 row) (wordTableOf (drop (suc i) wordList)) room ∙ tidy-is .1)
 
+  -- what the code reads
+  pub word-said : (t : Text) → t ≡ wordTable → RepliesWith short (Word (i * 16 + 2) (i * 16 + 2 + getD t (i * 16) 0))
+  unfolding textOf
+  word-said t e =
+      let l = word-length in
+      let h = tidy-is .0 in
+      rw e (record { is = word-read; some = refl; stands = (omega arith, omega arith) })
+
 -- ---- the word of a setting by its place
 
 no-word : shortForm "" ≡ []
 unfolding shortForm bytes
 no-word = refl
 
-pub place-minus : (ws : List String) (z : ℤ) → ltZ z (pos 0) ≡ true → wordText ws z ≡ []
-place-minus ws (pos n) e = let h = ltb-true n 0 e in absurd (omega arith)
-place-minus ws (negsuc n) e = refl
-
-place-is : (ws : List String) (z : ℤ) → ltZ z (pos 0) ≡ false → wordText ws z ≡ shortForm (getD ws (natAbs z) "")
-place-is ws (pos n) e = refl
-place-is ws (negsuc n) e = absurd (false≢true (sym e))
-
 -- the words that a setting takes stand together in the table
-module _ (s : Takes) (ws : List String) (is : takenWords s ≡ ws) (z : ℤ) (from : ltZ z (pos 0) ≡ false) where
-  pub place-none : s .count ≤ natAbs z → wordText ws z ≡ []
-  place-none h =
-      let l = length-take (s .count) (drop (s .first) wordList) in
-      let none = List·getD-eq-default (takenWords s) "" {n = natAbs z} (omega arith) in
-      rw (place-is ws z from, ← is, none) no-word
+module _ (s : Takes) (ws : List String) (is : takenWords s ≡ ws) where
+  -- whether a place has no word
+  abbrev absent : ℤ → Bool
+  absent z = ltZ z (pos 0) || leZ (pos (s .count)) z
 
-  pub place-word : natAbs z < s .count → wordText ws z ≡ shortForm (wordAt (s .first + natAbs z))
+  absent-at : (n : ℕ) → absent (pos n) ≡ leb (s .count) n
+  absent-at n = rw (le-ltb n 0 (omega arith))
+
+  pub place-none : (z : ℤ) → absent z ≡ true → wordText ws z ≡ []
+  place-none (pos n) e =
+      let h = leb-true (s .count) n (sym (absent-at n) ∙ e) in
+      let l = length-take (s .count) (drop (s .first) wordList) in
+      let none = List·getD-eq-default (takenWords s) "" {n = n} (omega arith) in
+      rw (← is, none) no-word
+  place-none (negsuc n) e = refl
+
+  pub place-word : (z : ℤ) → absent z ≡ false → (natAbs z < s .count) × (wordText ws z ≡ shortForm (wordAt (s .first + natAbs z)))
   unfolding wordAt
-  place-word h =
+  place-word (pos n) e =
+      let h = leb-false (s .count) n (sym (absent-at n) ∙ e) in
       let l = drop (s .first) wordList in
-      rw (place-is ws z from, ← is, getD-take (s .count) l (natAbs z) "" h, getD-drop (s .first) wordList (natAbs z) "")
+      (h, rw (← is, getD-take (s .count) l n "" h, getD-drop (s .first) wordList n ""))
+  place-word (negsuc n) e = absurd (false≢true (sym e))
+
+pub not-minus : (z : ℤ) (b : Bool) → (ltZ z (pos 0) || b) ≡ false → ltZ z (pos 0) ≡ false
+not-minus (pos n) b e = le-ltb n 0 (omega arith)
+not-minus (negsuc n) b e = absurd (false≢true (sym e))

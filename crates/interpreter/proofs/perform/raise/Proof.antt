@@ -6,12 +6,9 @@ use Rattle.interpreter.proofs.perform.raise.Tie as tie
 raise-requires : tie.Need-raise-requires
 raise-requires c κs = search needs
 
-with-status-requires : tie.Need-with-status-requires
-with-status-requires c κs = search needs
-
 returns : tie.Need-returns
 unfolding raisedWith
-returns c = rw (c .with-status .ensures, c .before .raise .ensures)
+returns c = rw (c .raise .ensures)
 
 pub raise-spec : {M : Type 1} → statement M
-raise-spec = tie.close (tie.spec raise-requires with-status-requires returns)
+raise-spec = tie.close (tie.spec raise-requires returns)

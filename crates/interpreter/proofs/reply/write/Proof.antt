@@ -1,10 +1,14 @@
+use mathlib.Core.Path.{ap, _∙_}
+use native.Mathlib.Omega.{arith}
+use lib.ListN.{length}
 use mir.Syntax.{w32}
 use mir.Val.{SFits}
 use mir.Facts.{toZ-ofZ}
-use borrow.Author.Needs.{needs}
 use Rattle.registers.specs.Text.{bytes}
 use Rattle.registers.proofs.answer.Laws.{laid-whole, laid-none}
 use Rattle.interpreter.specs.DeedsParts.{textOf}
+use Rattle.interpreter.proofs.rows.Words.{words-long}
+use borrow.Author.Needs.{needs}
 use Rattle.interpreter.proofs.reply.write.Statement.{statement}
 use Rattle.interpreter.proofs.reply.write.Tie as tie
 
@@ -23,11 +27,40 @@ write-text-requires c κs = search needs
 enum-known-reply : tie.Need-enum-known-reply
 enum-known-reply c = search needs
 
-write-value-requires : tie.Need-write-value-requires
-write-value-requires c κs = search needs
+sub-write-text : tie.Need-sub-write-text
+sub-write-text c =
+    let h = rw (c .before .reply .given .1) at (c .before .before .before .before .before .pre .1) in
+    h .0
+
+part-write-text-start : tie.Need-part-write-text-start
+part-write-text-start c =
+    let h = rw (c .before .reply .given .1) at (c .before .before .before .before .before .pre .1) in
+    h .0
+
+part-write-text-end : tie.Need-part-write-text-end
+part-write-text-end c =
+    let h = rw (c .before .reply .given .1) at (c .before .before .before .before .before .pre .1) in
+    let l = ap length (c .before .before .before .before .before .pre .0) ∙ words-long in
+    let k = h .1 in
+    omega arith
+
+write-text-requires-2 : tie.Need-write-text-requires-2
+write-text-requires-2 c κs = search needs
 
 enum-known-reply-2 : tie.Need-enum-known-reply-2
 enum-known-reply-2 c = search needs
+
+write-tenths-requires : tie.Need-write-tenths-requires
+write-tenths-requires c κs = search needs
+
+enum-known-reply-3 : tie.Need-enum-known-reply-3
+enum-known-reply-3 c = search needs
+
+write-whole-requires : tie.Need-write-whole-requires
+write-whole-requires c κs = search needs
+
+enum-known-reply-4 : tie.Need-enum-known-reply-4
+enum-known-reply-4 c = search needs
 
 cast-write-decimal : tie.Need-cast-write-decimal
 cast-write-decimal c = search needs
@@ -35,8 +68,8 @@ cast-write-decimal c = search needs
 write-decimal-requires : tie.Need-write-decimal-requires
 write-decimal-requires c κs = search needs
 
-enum-known-reply-3 : tie.Need-enum-known-reply-3
-enum-known-reply-3 c = search needs
+enum-known-reply-5 : tie.Need-enum-known-reply-5
+enum-known-reply-5 c = search needs
 
 write-error-requires : tie.Need-write-error-requires
 write-error-requires c κs = search needs
@@ -57,24 +90,39 @@ same-length-2 c = search needs
 
 returns-3 : tie.Need-returns-3
 unfolding textOf
-returns-3 c =
-    let m = c .before .before .before .before in
-    let h : SFits w32 (m .before .reply .given .0 .1 .0) = record { sfits = m .known-told .given .1 .0 .1 } in
-    rw (m .before .reply .given .1) (rw (toZ-ofZ {w = w32} h) at (c .before .before .write-value .ensures))
+returns-3 c = rw (c .before .before .before .before .before .before .reply .given .1) (rw (c .before .before .before .before .before .before .before .before .before .before .pre .0) at (c .before .before .write-text2 .ensures))
 
 same-length-3 : tie.Need-same-length-3
 same-length-3 c = search needs
 
 returns-4 : tie.Need-returns-4
 unfolding textOf
-returns-4 c = rw (c .before .before .before .before .before .reply2 .given .1) (c .before .before .write-decimal .ensures)
+returns-4 c =
+    let h : SFits w32 (c .before .before .before .before .before .reply2 .given .0 .0) = record { sfits = c .before .before .before .before .known-told2 .given .0 .1 } in
+    rw (c .before .before .before .before .before .reply2 .given .1) (rw (toZ-ofZ {w = w32} h) at (c .before .before .write-tenths .ensures))
 
 same-length-4 : tie.Need-same-length-4
 same-length-4 c = search needs
 
 returns-5 : tie.Need-returns-5
 unfolding textOf
-returns-5 c = rw (c .before .before .before .before .before .reply3 .given .1) (c .before .before .write-error .ensures)
+returns-5 c =
+    let h : SFits w32 (c .before .before .before .before .before .reply3 .given .0 .0) = record { sfits = c .before .before .before .before .known-told3 .given .0 .1 } in
+    rw (c .before .before .before .before .before .reply3 .given .1) (rw (toZ-ofZ {w = w32} h) at (c .before .before .write-whole .ensures))
+
+same-length-5 : tie.Need-same-length-5
+same-length-5 c = search needs
+
+returns-6 : tie.Need-returns-6
+unfolding textOf
+returns-6 c = rw (c .before .before .before .before .before .reply4 .given .1) (c .before .before .write-decimal .ensures)
+
+same-length-6 : tie.Need-same-length-6
+same-length-6 c = search needs
+
+returns-7 : tie.Need-returns-7
+unfolding textOf
+returns-7 c = rw (c .before .before .before .before .before .reply5 .given .1) (c .before .before .write-error .ensures)
 
 pub write-spec : {M : Type 1} → statement M
 write-spec =
@@ -85,11 +133,18 @@ write-spec =
     slice-aggregate-write-text
     write-text-requires
     enum-known-reply
-    write-value-requires
+    sub-write-text
+    part-write-text-start
+    part-write-text-end
+    write-text-requires-2
     enum-known-reply-2
+    write-tenths-requires
+    enum-known-reply-3
+    write-whole-requires
+    enum-known-reply-4
     cast-write-decimal
     write-decimal-requires
-    enum-known-reply-3
+    enum-known-reply-5
     write-error-requires
     returns
     same-length
@@ -99,4 +154,8 @@ write-spec =
     same-length-3
     returns-4
     same-length-4
-    returns-5)
+    returns-5
+    same-length-5
+    returns-6
+    same-length-6
+    returns-7)

@@ -1,0 +1,54 @@
+use mir.Facts.{toZ-ofZ}
+use mir.Val.{SFits}
+use mir.Syntax.{w32}
+use Rattle.registers.proofs.settings.Laws.{stored-yes}
+use Rattle.interpreter.proofs.perform.Laws.{same-settings, no-change}
+use borrow.Author.Needs.{needs}
+use Rattle.interpreter.proofs.perform.settings_after.Statement.{statement}
+use Rattle.interpreter.proofs.perform.settings_after.Tie as tie
+
+enum-known-deed : tie.Need-enum-known-deed
+enum-known-deed c = search needs
+
+enum-known-change : tie.Need-enum-known-change
+enum-known-change c = search needs
+
+store-requires : tie.Need-store-requires
+store-requires c κs = search needs
+
+returns : tie.Need-returns
+returns c =
+    let v = c .before .before .change .given .0 in
+    let h : SFits w32 (v .1 .0) = record { sfits = c .before .known-told2 .given .1 .0 .1 } in
+    let p = rw (c .before .before .before .before .before .deed .given .1, c .before .before .change .given .1) at (c .before .before .before .before .before .before .before .pre) in
+    rw (c .before .before .before .before .before .deed .given .1, c .before .before .change .given .1, c .store .ensures, toZ-ofZ {w = w32} h)
+    (stored-yes (v .0) (v .1 .0) (c .before .before .before .before .before .before .before .args .settings) (p .1) (p .2))
+
+enum-told : tie.Need-enum-told
+enum-told c = search needs
+
+reset-requires : tie.Need-reset-requires
+reset-requires c κs = search needs
+
+returns-2 : tie.Need-returns-2
+returns-2 c = rw (c .before .before .before .before .deed .given .1, c .before .enum-told .given .1) (c .reset .ensures)
+
+returns-3 : tie.Need-returns-3
+returns-3 c = rw (c .before .before .deed .given .1) (same-settings (c .before .before .deed .given .0 .0) (c .match2 .keys3) (c .before .before .before .before .args .settings))
+
+returns-4 : tie.Need-returns-4
+returns-4 c = no-change (c .before .args .deed) (c .match .keys2) (c .before .args .settings)
+
+pub settings-after-spec : {M : Type 1} → statement M
+settings-after-spec =
+    tie.close
+    (tie.spec
+    enum-known-deed
+    enum-known-change
+    store-requires
+    returns
+    enum-told
+    reset-requires
+    returns-2
+    returns-3
+    returns-4)

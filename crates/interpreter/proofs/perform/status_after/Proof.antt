@@ -1,0 +1,132 @@
+use mathlib.Core.Path.{_≡_, refl}
+use native.Mathlib.Omega.{arith}
+use lib.ListN.{length}
+use Rattle.registers.specs.Status.{completed, eventsIn, eventsRead, clearedIn}
+use Rattle.registers.proofs.status.Means.{oldest-trouble, oldest-registers, oldest-queued}
+use Rattle.interpreter.proofs.perform.Laws.{same-status, only-asked, stored-left}
+use borrow.Author.Needs.{needs}
+use Rattle.interpreter.proofs.perform.status_after.Statement.{statement}
+use Rattle.interpreter.proofs.perform.status_after.Tie as tie
+
+enum-known-deed : tie.Need-enum-known-deed
+enum-known-deed c = search needs
+
+enum-known-change : tie.Need-enum-known-change
+enum-known-change c = search needs
+
+store-requires : tie.Need-store-requires
+store-requires c κs = search needs
+
+returns : tie.Need-returns
+returns c =
+    let v = c .before .before .change .given .0 in
+    rw (c .before .before .before .before .before .deed .given .1, c .before .before .change .given .1, c .store .ensures) (stored-left (v .0) (v .1 .0) (c .before .before .before .before .before .before .before .args .status) (c .before .before .before .before .before .before .before .pre))
+
+returns-2 : tie.Need-returns-2
+returns-2 c = rw (c .before .before .deed .given .1) (same-status (c .before .before .before .before .args .status) (c .before .before .before .before .pre) _ (c .match2 .keys2))
+
+enum-told : tie.Need-enum-told
+enum-told c = search needs
+
+complete-requires : tie.Need-complete-requires
+complete-requires c κs = search needs
+
+returns-3 : tie.Need-returns-3
+unfolding completed eventsIn
+returns-3 c = rw (c .before .enum-told .given .1, c .complete .ensures)
+    (record { registers = λ _ _. refl; trouble = refl; queued = c .before .before .before .pre })
+
+enum-told-2 : tie.Need-enum-told-2
+enum-told-2 c = search needs
+
+clear-requires : tie.Need-clear-requires
+clear-requires c κs = search needs
+
+returns-4 : tie.Need-returns-4
+unfolding clearedIn
+returns-4 c = rw (c .before .enum-told2 .given .1, c .clear .ensures)
+    (record { registers = λ _ _. refl; trouble = refl; queued = omega arith })
+
+enum-known-deed-2 : tie.Need-enum-known-deed-2
+enum-known-deed-2 c = search needs
+
+enum-told-3 : tie.Need-enum-told-3
+enum-told-3 c = search needs
+
+read-operation-requires : tie.Need-read-operation-requires
+read-operation-requires c κs = search needs
+
+returns-5 : tie.Need-returns-5
+returns-5 c = rw (c .before .before .before .before .deed2 .given .1, c .before .enum-told3 .given .1, c .read-operation .ensures)
+    (record { registers = λ _ _. refl; trouble = refl; queued = c .before .before .before .before .before .before .pre })
+
+returns-6 : tie.Need-returns-6
+returns-6 c = rw (c .before .before .deed2 .given .1) (only-asked (c .before .before .before .before .args .status) (c .before .before .before .before .pre) _ (c .match3 .keys2))
+
+enum-known-deed-3 : tie.Need-enum-known-deed-3
+enum-known-deed-3 c = search needs
+
+enum-told-4 : tie.Need-enum-told-4
+enum-told-4 c = search needs
+
+read-events-requires : tie.Need-read-events-requires
+read-events-requires c κs = search needs
+
+returns-7 : tie.Need-returns-7
+unfolding eventsIn eventsRead
+returns-7 c = rw (c .before .before .before .before .deed3 .given .1, c .before .enum-told4 .given .1, c .read-events .ensures)
+    (record { registers = λ _ _. refl; trouble = refl; queued = c .before .before .before .before .before .before .pre })
+
+enum-told-5 : tie.Need-enum-told-5
+enum-told-5 c = search needs
+
+returns-8 : tie.Need-returns-8
+returns-8 c = rw (c .before .before .before .deed3 .given .1, c .enum-told5 .given .1)
+    (record { registers = λ _ _. refl; trouble = refl; queued = c .before .before .before .before .before .pre })
+
+enum-told-6 : tie.Need-enum-told-6
+enum-told-6 c = search needs
+
+read-oldest-requires : tie.Need-read-oldest-requires
+read-oldest-requires c κs = search needs
+
+returns-9 : tie.Need-returns-9
+returns-9 c =
+    let t = c .before .before .before .before .before .before .args .status in
+    let long : length (t .errors) ≡ 16 = search needs in
+    rw (c .before .before .before .before .deed3 .given .1, c .before .enum-told6 .given .1, c .read-oldest .ensures)
+    (record {
+      registers = λ _ _. oldest-registers t long (c .before .before .before .before .before .before .pre);
+      trouble = oldest-trouble t long (c .before .before .before .before .before .before .pre);
+      queued = oldest-queued t long (c .before .before .before .before .before .before .pre);
+    })
+
+pub status-after-spec : {M : Type 1} → statement M
+status-after-spec =
+    tie.close
+    (tie.spec
+    enum-known-deed
+    enum-known-change
+    store-requires
+    returns
+    returns-2
+    enum-told
+    complete-requires
+    returns-3
+    enum-told-2
+    clear-requires
+    returns-4
+    enum-known-deed-2
+    enum-told-3
+    read-operation-requires
+    returns-5
+    returns-6
+    enum-known-deed-3
+    enum-told-4
+    read-events-requires
+    returns-7
+    enum-told-5
+    returns-8
+    enum-told-6
+    read-oldest-requires
+    returns-9)

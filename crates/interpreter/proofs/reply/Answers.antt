@@ -1,0 +1,118 @@
+-- Where a reply stands in the buffer, behind the answers so far.
+use mathlib.Core.Path.{_≡_, refl, sym, ap, _∙_}
+use mathlib.Core.Bool.{true, not}
+use mathlib.Core.List.{[], _∷_, _++_}
+use Prim.Native.Nat.{ℕ, zero, suc, _+_, _-_, _≤_, _<_}
+use native.Mathlib.Nat.{zero-add}
+use native.Mathlib.Numerals.{add-one}
+use native.Mathlib.Omega.{arith}
+use lib.Dec.{eqb}
+use lib.ListN.{length, take, drop, set, length-append, length-take, length-drop, length-set}
+use lib.Seq.{take-append-add, take-append-le, take-suc-set, append-snoc}
+use types.Run.{OneOf, miss}
+use denote.Enum.Declared.{tagOf}
+use mir.Val.{boolByte}
+use borrow.Author.Tests.{ne-eqb}
+use borrow.Rule.Slice.PartMut.{midOf, putMid}
+use Rattle.registers.specs.Text.{Text, if_then_else_}
+use Rattle.registers.specs.Answer.{Laid}
+use Rattle.registers.proofs.answer.Laws.{over-start, over-length}
+use Rattle.interpreter.specs.Box.{mostAnswer}
+use Rattle.interpreter.specs.Deeds.{joined}
+use Rattle.interpreter.specs.DeedsParts.{textOf, said, answeredWith, GivenTo}
+use Rattle.interpreter.specs.declared.reply.Reply.{Reply}
+use Rattle.interpreter.specs.declared.reply.Reply.the-variants.{Nothing, Identity, Word, Tenths, Whole, Number, Error}
+use Rattle.interpreter.proofs.reply.Reply as replies
+
+-- ---- texts that are joined
+
+-- where the next answer starts: behind a separator, if there is one already
+abbrev pub start : ℕ → ℕ
+start n = n + boolByte (not (eqb n 0))
+
+start-more : (n : ℕ) → start (suc n) ≡ suc n + 1
+start-more n = rw (ne-eqb (suc n) 0 (λ e. omega arith))
+
+pub start-room : (n : ℕ) → n < mostAnswer → start n ≤ mostAnswer
+start-room zero h = omega arith
+start-room (suc n) h = rw (start-more n) (omega arith)
+
+joined-length : (a t : Text) → length (joined a t) ≡ start (length a) + length t
+unfolding joined if_then_else_
+joined-length [] t = sym (zero-add (length t))
+joined-length (x ∷ a) t = rw (start-more (length a)) (simp length-append (omega arith))
+
+joined-more : (a t : Text) → 0 < length a → joined a t ≡ a ++ 59 ∷ t
+unfolding joined if_then_else_
+joined-more [] t h = absurd (omega arith)
+joined-more (x ∷ a) t h = refl
+
+-- ---- a text that was written into the tail that was lent, seen from the whole buffer
+
+module _ (out tail t : Text) (k : ℕ) (bytes : take (length t) tail ≡ t) (long : length t ≤ length tail) where
+  behind : (p l : Text) (m : ℕ) → length p ≡ m → take (m + length t) (p ++ (tail ++ l)) ≡ p ++ t
+  behind p l m e =
+      rw (← e)
+      (take-append-add p (tail ++ l) (length t)
+      ∙ ap (λ (y : Text). p ++ y) (take-append-le (length t) tail l long ∙ bytes))
+
+  -- the separator is written first: the text of the first answer stands over it
+  stands : (n : ℕ) → n < length out → take (start n + length t) (putMid (start n) k (set out n 59) tail) ≡ joined (take n out) t
+  unfolding joined if_then_else_
+  stands zero h = behind [] (drop k (set out 0 59)) 0 refl
+  stands (suc n) h =
+      let p : Text = take (suc n) out ++ 59 ∷ [] in
+      let some : 0 < length (take (suc n) out) = rw length-take (omega arith) in
+      let size : length p ≡ suc n + 1 = simp (length-append, length-take) (omega arith) in
+      let front : take (suc n + 1) (set out (suc n) 59) ≡ p = rw (add-one (suc n)) (take-suc-set out (suc n) 59 h) in
+      rw (start-more n, front, behind p (drop k (drop (suc n + 1) (set out (suc n) 59))) (suc n + 1) size, joined-more (take (suc n) out) t some)
+      (append-snoc (take (suc n) out) 59 t)
+
+-- ---- check 9
+
+pub says : (r : Reply) → OneOf (1 ∷ 2 ∷ 3 ∷ 4 ∷ 5 ∷ 6 ∷ []) (tagOf replies.the-type r) → said r ≡ true
+says Nothing h = absurd (miss (1 ∷ 2 ∷ 3 ∷ 4 ∷ 5 ∷ 6 ∷ []) 0 tt h)
+says Identity h = refl
+says (Word from to) h = refl
+says (Tenths v) h = refl
+says (Whole v) h = refl
+says (Number n) h = refl
+says (Error n) h = refl
+
+module _ (out : Text) {answered : ℕ} (room : answered < mostAnswer) (size : length out ≡ mostAnswer) where
+  abbrev so-far : Text
+  so-far = take answered out
+
+  pub given-none : GivenTo Nothing answered out answered out
+  unfolding answeredWith if_then_else_
+  given-none =
+      let l : length so-far < mostAnswer = rw length-take (omega arith) in
+      record { stands = λ _. (l, refl); falls = λ h. absurd (omega arith) }
+
+  module _ (reply : Reply) (some : said reply ≡ true) {tail : Text} {n : ℕ}
+      (laid : Laid (textOf reply) (midOf (start answered) (length (set out answered 59) - start answered) (set out answered 59)) n tail) where
+    abbrev left : Text
+    left = putMid (start answered) (length (set out answered 59) - start answered) (set out answered 59) tail
+
+    long : length (answeredWith reply so-far) ≡ start answered + n
+    unfolding answeredWith if_then_else_
+    long =
+        let taken : length so-far ≡ answered = rw length-take (omega arith) in
+        rw (some, joined-length, taken, laid .long)
+
+    pub given-whole : start answered + n < mostAnswer → GivenTo reply answered out (start answered + n) left
+    unfolding answeredWith if_then_else_
+    given-whole h =
+        let lent = midOf (start answered) (length (set out answered 59) - start answered) (set out answered 59) in
+        let l : length lent ≡ mostAnswer - start answered = simp (length-take, length-drop, length-set) (omega arith) in
+        let k : length (textOf reply) ≤ length lent = let e = laid .long in omega arith in
+        let bytes : take (length (textOf reply)) tail ≡ textOf reply = rw (laid .bytes) (over-start (textOf reply) lent k) in
+        let fits : length (textOf reply) ≤ length tail = rw (laid .bytes, over-length (textOf reply) lent) k in
+        let is = stands out tail (textOf reply) (length (set out answered 59) - start answered) bytes fits answered (omega arith) in
+        record {
+          stands = λ _. (rw long h, rw (some, laid .long) is);
+          falls = λ f. absurd (omega arith);
+        }
+
+    pub given-over : {r : ℕ} → r ≡ mostAnswer → mostAnswer ≤ start answered + n → GivenTo reply answered out r left
+    given-over e h = record { stands = λ k. absurd (omega arith); falls = λ _. rw long h }

@@ -1,0 +1,43 @@
+use mathlib.Core.Path.{refl}
+use Rattle.registers.specs.Settings.{kindOf}
+use Rattle.interpreter.specs.DeedsParts.{textOf}
+use Rattle.interpreter.proofs.reply.Values.{told-value, told-whole, word-row}
+use borrow.Author.Needs.{needs}
+use Rattle.interpreter.proofs.reply.to_value.Statement.{statement}
+use Rattle.interpreter.proofs.reply.to_value.Tie as tie
+
+values-of-requires : tie.Need-values-of-requires
+values-of-requires c κs = search needs
+
+enum-told : tie.Need-enum-told
+enum-told c = search needs
+
+to-word-requires : tie.Need-to-word-requires
+to-word-requires c κs = (c .before .before .before .before .pre, word-row (c .before .before .before .before .args .row) (c .before .before .values-of .ensures) (c .enum-told .given .1))
+
+enum-told-2 : tie.Need-enum-told-2
+enum-told-2 c = search needs
+
+returns : tie.Need-returns
+returns c = told-value (kindOf (c .before .before .before .before .before .args .row)) (c .before .before .before .before .before .fits .value) (c .before .before .before .values-of .ensures) (c .before .enum-told .given .1) (c .to-word .ensures)
+
+returns-2 : tie.Need-returns-2
+unfolding textOf
+returns-2 c =
+    told-value (kindOf (c .before .before .before .before .args .row)) (c .before .before .before .before .fits .value) (c .before .before .values-of .ensures) (c .enum-told2 .given .1)
+    (record { is = refl; some = refl; stands = tt })
+
+returns-3 : tie.Need-returns-3
+returns-3 c = told-whole (kindOf (c .before .before .before .args .row)) (c .before .before .before .fits .value) (c .before .values-of .ensures) (c .match .keys3)
+
+pub to-value-spec : {M : Type 1} → statement M
+to-value-spec =
+    tie.close
+    (tie.spec
+    values-of-requires
+    enum-told
+    to-word-requires
+    enum-told-2
+    returns
+    returns-2
+    returns-3)
