@@ -100,19 +100,32 @@ module _ (out : Text) {answered : ℕ} (room : answered < mostAnswer) (size : le
         let taken : length so-far ≡ answered = rw length-take (omega arith) in
         rw (some, joined-length, taken, laid .long)
 
-    pub given-whole : start answered + n < mostAnswer → GivenTo reply answered out (start answered + n) left
-    unfolding answeredWith if_then_else_
-    given-whole h =
-        let lent = midOf (start answered) (length (set out answered 59) - start answered) (set out answered 59) in
-        let l : length lent ≡ mostAnswer - start answered = simp (length-take, length-drop, length-set) (omega arith) in
-        let k : length (textOf reply) ≤ length lent = let e = laid .long in omega arith in
-        let bytes : take (length (textOf reply)) tail ≡ textOf reply = rw (laid .bytes) (over-start (textOf reply) lent k) in
-        let fits : length (textOf reply) ≤ length tail = rw (laid .bytes, over-length (textOf reply) lent) k in
-        let is = stands out tail (textOf reply) (length (set out answered 59) - start answered) bytes fits answered (omega arith) in
-        record {
-          stands = λ _. (rw long h, rw (some, laid .long) is);
-          falls = λ f. absurd (omega arith);
-        }
+    -- the code has it from the length m of the buffer, which is kept
+    module _ {m : ℕ} (kept : m ≡ length (set out answered 59)) where
+      whole : m ≡ mostAnswer
+      whole = kept ∙ length-set out answered 59 ∙ size
 
-    pub given-over : {r : ℕ} → r ≡ mostAnswer → mostAnswer ≤ start answered + n → GivenTo reply answered out r left
-    given-over e h = record { stands = λ k. absurd (omega arith); falls = λ _. rw long h }
+      pub given-over : m - start answered ≤ n → GivenTo reply answered out m left
+      given-over h =
+          let e = whole in
+          let k = start-room answered room in
+          record { stands = λ f. absurd (omega arith); falls = λ _. rw long (omega arith) }
+
+      pub end-room : n < m - start answered → start answered + n < mostAnswer
+      end-room h = let e = whole in omega arith
+
+      pub given-whole : n < m - start answered → GivenTo reply answered out (start answered + n) left
+      unfolding answeredWith if_then_else_
+      given-whole h =
+          let e = whole in
+          let fits = end-room h in
+          let lent = midOf (start answered) (length (set out answered 59) - start answered) (set out answered 59) in
+          let l : length lent ≡ mostAnswer - start answered = simp (length-take, length-drop, length-set) (omega arith) in
+          let k : length (textOf reply) ≤ length lent = let e = laid .long in omega arith in
+          let bytes : take (length (textOf reply)) tail ≡ textOf reply = rw (laid .bytes) (over-start (textOf reply) lent k) in
+          let t : length (textOf reply) ≤ length tail = rw (laid .bytes, over-length (textOf reply) lent) k in
+          let is = stands out tail (textOf reply) (length (set out answered 59) - start answered) bytes t answered (omega arith) in
+          record {
+            stands = λ _. (rw long fits, rw (some, laid .long) is);
+            falls = λ f. absurd (omega arith);
+          }

@@ -2,7 +2,7 @@ use mathlib.Core.Path.{_∙_}
 use Prim.Native.Nat.{_≤_}
 use native.Mathlib.Omega.{arith}
 use lib.ListN.{length, set, length-set}
-use Rattle.interpreter.proofs.reply.Answers.{start, start-room, says, given-none, given-whole, given-over}
+use Rattle.interpreter.proofs.reply.Answers.{start, start-room, says, given-none, given-whole, given-over, end-room}
 use borrow.Author.Needs.{needs}
 use Rattle.interpreter.proofs.reply.give.Statement.{statement}
 use Rattle.interpreter.proofs.reply.give.Tie as tie
@@ -10,11 +10,16 @@ use Rattle.interpreter.proofs.reply.give.Tie as tie
 room-at : (s : tie.Start) → start (s .args .answered) ≤ length (set (s .args .out .now) (s .args .answered) 59)
 room-at s = rw length-set (rw (s .pre .1 .1) (start-room (s .args .answered) (s .pre .1 .0)))
 
+abbrev entry : tie.After-out → tie.Start
+entry o = o .before .before .before .before .before .before
+
 enum-told : tie.Need-enum-told
 enum-told c = search needs
 
 returns : tie.Need-returns
-returns c = rw (c .enum-told .given .1) (given-none (c .before .before .before .before .args .out .now) (c .before .before .before .before .pre .1 .0) (c .before .before .before .before .pre .1 .1))
+returns c =
+    let s = c .before .before .before .before in
+    rw (c .enum-told .given .1) (given-none (s .args .out .now) (s .pre .1 .0) (s .pre .1 .1))
 
 slice-write-out : tie.Need-slice-write-out
 slice-write-out c = search needs
@@ -38,35 +43,39 @@ write-requires : tie.Need-write-requires
 write-requires c κs = search needs
 
 sub-if1 : tie.Need-sub-if1
-sub-if1 c = let e = c .before .out .given .1 in let h = room-at (c .before .before .before .before .before .before .before) in rw e h
+sub-if1 c = rw (c .before .out .given .1) (room-at (entry (c .before)))
 
 same-length : tie.Need-same-length
-same-length c = c .before .before .out .given .1 ∙ length-set (c .before .before .before .before .before .before .before .before .args .out .now) (c .before .before .before .before .before .before .before .before .args .answered) 59
+same-length c = let o = c .before .before in o .out .given .1 ∙ length-set (entry o .args .out .now) (entry o .args .answered) 59
 
 returns-2 : tie.Need-returns-2
 returns-2 c =
-    let p = c .before .before .before .before .before .before .before .before .pre .1 in
-    let a = c .before .before .before .before .before .before .before .before .args in
-    let e = c .before .before .out .given .1 ∙ length-set (a .out .now) (a .answered) 59 ∙ p .1 in
-    let h = c .if1 .taken in
-    given-over (a .out .now) (p .0) (p .1) (a .reply) (says (a .reply) (c .before .before .before .before .before .match .keys2)) (c .before .before .before .write .ensures) e (omega arith)
+    let o = c .before .before in
+    let a = entry o .args in
+    let p = entry o .pre .1 in
+    given-over (a .out .now) (p .0) (p .1) (a .reply) (says (a .reply) (o .before .before .before .match .keys2)) (o .before .write .ensures)
+    (o .out .given .1) (c .if1 .taken)
 
 add-result : tie.Need-add-result
 add-result c =
-    let e = c .before .before .out .given .1 ∙ length-set (c .before .before .before .before .before .before .before .before .args .out .now) (c .before .before .before .before .before .before .before .before .args .answered) 59 ∙ c .before .before .before .before .before .before .before .before .pre .1 .1 in
-    let h = c .if1 .left in
+    let o = c .before .before in
+    let a = entry o .args in
+    let p = entry o .pre .1 in
+    let h =
+    end-room (a .out .now) (p .0) (p .1) (a .reply) (says (a .reply) (o .before .before .before .match .keys2)) (o .before .write .ensures)
+    (o .out .given .1) (c .if1 .left) in
     omega arith
 
 same-length-2 : tie.Need-same-length-2
-same-length-2 c = c .before .before .out .given .1 ∙ length-set (c .before .before .before .before .before .before .before .before .args .out .now) (c .before .before .before .before .before .before .before .before .args .answered) 59
+same-length-2 c = let o = c .before .before in o .out .given .1 ∙ length-set (entry o .args .out .now) (entry o .args .answered) 59
 
 returns-3 : tie.Need-returns-3
 returns-3 c =
-    let p = c .before .before .before .before .before .before .before .before .pre .1 in
-    let a = c .before .before .before .before .before .before .before .before .args in
-    let e = c .before .before .out .given .1 ∙ length-set (a .out .now) (a .answered) 59 ∙ p .1 in
-    let h = c .if1 .left in
-    given-whole (a .out .now) (p .0) (p .1) (a .reply) (says (a .reply) (c .before .before .before .before .before .match .keys2)) (c .before .before .before .write .ensures) (omega arith)
+    let o = c .before .before in
+    let a = entry o .args in
+    let p = entry o .pre .1 in
+    given-whole (a .out .now) (p .0) (p .1) (a .reply) (says (a .reply) (o .before .before .before .match .keys2)) (o .before .write .ensures)
+    (o .out .given .1) (c .if1 .left)
 
 pub give-spec : {M : Type 1} → statement M
 give-spec =
