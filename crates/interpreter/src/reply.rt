@@ -8,14 +8,16 @@ use registers::answer;
 use registers::error;
 use registers::settings::Settings;
 use registers::settings::Values;
+use registers::status::Status;
 ghost use mathlib.Core.Path.{_≡_};
 ghost use Prim.Native.Nat.{_<_};
 ghost use lib.ListN.{length};
 ghost use Rattle.registers.specs.Answer.{Laid};
 ghost use Rattle.registers.specs.Settings.{kindOf, answerOf};
 ghost use Rattle.interpreter.specs.Box.{mostAnswer};
+ghost use Rattle.interpreter.specs.Deeds.{replyTo};
 ghost use Rattle.interpreter.specs.RowsParts.{wordTable};
-ghost use Rattle.interpreter.specs.DeedsParts.{placeText, textOf, Stands, RepliesWith, ReplyTo, GivenTo};
+ghost use Rattle.interpreter.specs.DeedsParts.{coreIn, placeText, inquiryText, textOf, Stands, RepliesWith, ReplyTo, GivenTo};
 
 // What is answered, by how it is written: a word is what stands between two places of the table.
 pub(crate) enum Reply {
@@ -58,27 +60,42 @@ fn to_value(words: &[u8], row: usize, value: i32) -> Reply
     }
 }
 
+// What a query that sees settings and registers alone answers.
+fn to_query(words: &[u8], present: Present, query: Query) -> Reply
+    requires { ⌜ now words ≡ wordTable ⌝ }
+    ensures { λ r. ⌜ RepliesWith (replyTo query (coreIn (present .settings) (present .status))) r ⌝ }
+{
+    match query {
+        Query::Identity => Reply::Identity,
+        Query::SelfTest => Reply::Number(0),
+        Query::Completed => Reply::Number(1),
+        Query::Limit { row, value } => to_value(words, row, value),
+        Query::Value(row) => to_value(words, row, present.settings.value(row)),
+        Query::Stored(register) => Reply::Number(present.status.register(register)),
+        Query::Condition => Reply::Number(present.status.operation.condition),
+        Query::OperationEvents => Reply::Number(present.status.operation.event),
+    }
+}
+
+// What one answers that sees the event status register or the error queue.
+fn to_inquiry(status: Status, answers: bool, inquiry: Inquiry) -> Reply
+    ensures { λ r. ⌜ RepliesWith (inquiryText inquiry status answers) r ⌝ }
+{
+    match inquiry {
+        Inquiry::StandardEvents => Reply::Number(status.events),
+        Inquiry::StatusByte => Reply::Number(status.status_byte(answers) as u16),
+        Inquiry::NextError => Reply::Error(status.oldest()),
+    }
+}
+
 // What a deed answers.
 pub(crate) fn to_deed(words: &[u8], present: Present, answers: bool, deed: Deed) -> Reply
     requires { ⌜ now words ≡ wordTable ⌝ }
     ensures { λ r. ⌜ ReplyTo deed present answers r ⌝ }
 {
     match deed {
-        Deed::Query(query) => match query {
-            Query::Identity => Reply::Identity,
-            Query::SelfTest => Reply::Number(0),
-            Query::Completed => Reply::Number(1),
-            Query::Limit { row, value } => to_value(words, row, value),
-            Query::Value(row) => to_value(words, row, present.settings.value(row)),
-            Query::Stored(register) => Reply::Number(present.status.register(register)),
-            Query::Condition => Reply::Number(present.status.operation.condition),
-            Query::OperationEvents => Reply::Number(present.status.operation.event),
-        },
-        Deed::Inquire(inquiry) => match inquiry {
-            Inquiry::StandardEvents => Reply::Number(present.status.events),
-            Inquiry::StatusByte => Reply::Number(present.status.status_byte(answers) as u16),
-            Inquiry::NextError => Reply::Error(present.status.oldest()),
-        },
+        Deed::Query(query) => to_query(words, present, query),
+        Deed::Inquire(inquiry) => to_inquiry(present.status, answers, inquiry),
         _ => Reply::Nothing,
     }
 }

@@ -1,161 +1,39 @@
-use mathlib.Core.Path.{refl}
-use mir.Syntax.{w32}
-use mir.Val.{SFits}
-use mir.Facts.{toZ-ofZ}
-use Rattle.registers.specs.Text.{if_then_else_, bytes}
-use Rattle.registers.specs.Answer.{inPlaces, decimal}
-use Rattle.interpreter.specs.Deeds.{replyTo}
-use Rattle.interpreter.specs.DeedsParts.{textOf}
-use Rattle.interpreter.proofs.reply.Values.{nothing-said}
 use borrow.Author.Needs.{needs}
+use Rattle.interpreter.proofs.reply.Values.{nothing-said}
 use Rattle.interpreter.proofs.reply.to_deed.Statement.{statement}
 use Rattle.interpreter.proofs.reply.to_deed.Tie as tie
 
 enum-known-deed : tie.Need-enum-known-deed
 enum-known-deed c = search needs
 
-enum-told : tie.Need-enum-told
-enum-told c = search needs
-
-enum-told-2 : tie.Need-enum-told-2
-enum-told-2 c = search needs
-
-enum-told-3 : tie.Need-enum-told-3
-enum-told-3 c = search needs
-
-enum-known-query : tie.Need-enum-known-query
-enum-known-query c = search needs
-
-to-value-requires : tie.Need-to-value-requires
-to-value-requires c κs = search needs
-
-enum-known-query-2 : tie.Need-enum-known-query-2
-enum-known-query-2 c = search needs
-
-value-requires : tie.Need-value-requires
-value-requires c κs = search needs
-
-to-value-requires-2 : tie.Need-to-value-requires-2
-to-value-requires-2 c κs = search needs
-
-enum-known-query-3 : tie.Need-enum-known-query-3
-enum-known-query-3 c = search needs
-
-register-requires : tie.Need-register-requires
-register-requires c κs = search needs
-
-enum-told-4 : tie.Need-enum-told-4
-enum-told-4 c = search needs
-
-enum-told-5 : tie.Need-enum-told-5
-enum-told-5 c = search needs
+to-query-requires : tie.Need-to-query-requires
+to-query-requires c κs = search needs
 
 enum-known-deed-2 : tie.Need-enum-known-deed-2
 enum-known-deed-2 c = search needs
 
-enum-told-6 : tie.Need-enum-told-6
-enum-told-6 c = search needs
-
-enum-told-7 : tie.Need-enum-told-7
-enum-told-7 c = search needs
-
-status-byte-requires : tie.Need-status-byte-requires
-status-byte-requires c κs = search needs
-
-cast-t17 : tie.Need-cast-t17
-cast-t17 c = search needs
-
-enum-told-8 : tie.Need-enum-told-8
-enum-told-8 c = search needs
-
-oldest-requires : tie.Need-oldest-requires
-oldest-requires c κs = search needs
+to-inquiry-requires : tie.Need-to-inquiry-requires
+to-inquiry-requires c κs = search needs
 
 returns : tie.Need-returns
-unfolding textOf replyTo
-returns c = rw (c .before .before .before .deed .given .1, c .enum-told .given .1) (record { is = refl; some = refl; stands = tt })
+returns c = rw (c .before .before .deed .given .1) (c .to-query .ensures)
 
 returns-2 : tie.Need-returns-2
-unfolding textOf replyTo decimal inPlaces bytes if_then_else_
-returns-2 c = rw (c .before .before .before .deed .given .1, c .enum-told2 .given .1) (record { is = refl; some = refl; stands = tt })
+returns-2 c = rw (c .before .before .deed2 .given .1) (c .to-inquiry .ensures)
 
 returns-3 : tie.Need-returns-3
-unfolding textOf replyTo decimal inPlaces bytes if_then_else_
-returns-3 c = rw (c .before .before .before .deed .given .1, c .enum-told3 .given .1) (record { is = refl; some = refl; stands = tt })
-
-returns-4 : tie.Need-returns-4
-unfolding replyTo
-returns-4 c =
-    let q = c .before .before .query .given in
-    let h : SFits w32 (q .0 .1 .0) = record { sfits = c .before .known-told2 .given .1 .0 .1 } in
-    rw (c .before .before .before .before .before .deed .given .1, q .1) (rw (toZ-ofZ {w = w32} h) at (c .to-value .ensures))
-
-returns-5 : tie.Need-returns-5
-unfolding replyTo
-returns-5 c =
-    let h : SFits w32 (c .before .value .result) = record { sfits = c .before .value .ok } in
-    rw (c .before .before .before .before .before .before .deed .given .1, c .before .before .before .query2 .given .1) (rw (toZ-ofZ {w = w32} h, c .before .value .ensures) at (c .to-value2 .ensures))
-
-returns-6 : tie.Need-returns-6
-unfolding textOf replyTo
-returns-6 c = rw (c .before .before .before .before .before .deed .given .1, c .before .before .query3 .given .1, c .register .ensures) (record { is = refl; some = refl; stands = tt })
-
-returns-7 : tie.Need-returns-7
-unfolding textOf replyTo
-returns-7 c = rw (c .before .before .before .deed .given .1, c .enum-told4 .given .1) (record { is = refl; some = refl; stands = tt })
-
-returns-8 : tie.Need-returns-8
-unfolding textOf replyTo
-returns-8 c = rw (c .before .before .before .deed .given .1, c .enum-told5 .given .1) (record { is = refl; some = refl; stands = tt })
-
-returns-9 : tie.Need-returns-9
-unfolding textOf
-returns-9 c = rw (c .before .before .before .deed2 .given .1, c .enum-told6 .given .1) (record { is = refl; some = refl; stands = tt })
-
-returns-10 : tie.Need-returns-10
-unfolding textOf
-returns-10 c = rw (c .before .before .before .before .deed2 .given .1, c .before .enum-told7 .given .1, c .status-byte .ensures) (record { is = refl; some = refl; stands = tt })
-
-returns-11 : tie.Need-returns-11
-unfolding textOf
-returns-11 c = rw (c .before .before .before .before .deed2 .given .1, c .before .enum-told8 .given .1, c .oldest .ensures) (record { is = refl; some = refl; stands = tt })
-
-returns-12 : tie.Need-returns-12
-returns-12 c = nothing-said (c .before .before .args .deed) (c .match .keys3) (c .before .before .args .present) (c .before .before .args .answers)
+returns-3 c =
+    let a = c .before .before .args in
+    nothing-said (a .deed) (c .match .keys3) (a .present) (a .answers)
 
 pub to-deed-spec : {M : Type 1} → statement M
 to-deed-spec =
     tie.close
     (tie.spec
     enum-known-deed
-    enum-told
-    enum-told-2
-    enum-told-3
-    enum-known-query
-    to-value-requires
-    enum-known-query-2
-    value-requires
-    to-value-requires-2
-    enum-known-query-3
-    register-requires
-    enum-told-4
-    enum-told-5
+    to-query-requires
     enum-known-deed-2
-    enum-told-6
-    enum-told-7
-    status-byte-requires
-    cast-t17
-    enum-told-8
-    oldest-requires
+    to-inquiry-requires
     returns
     returns-2
-    returns-3
-    returns-4
-    returns-5
-    returns-6
-    returns-7
-    returns-8
-    returns-9
-    returns-10
-    returns-11
-    returns-12)
+    returns-3)

@@ -1,0 +1,49 @@
+use mathlib.Core.Path.{refl}
+use borrow.Author.Needs.{needs}
+use Rattle.interpreter.specs.DeedsParts.{textOf}
+use Rattle.interpreter.proofs.reply.to_inquiry.Statement.{statement}
+use Rattle.interpreter.proofs.reply.to_inquiry.Tie as tie
+
+enum-told : tie.Need-enum-told
+enum-told c = search needs
+
+enum-told-2 : tie.Need-enum-told-2
+enum-told-2 c = search needs
+
+status-byte-requires : tie.Need-status-byte-requires
+status-byte-requires c κs = search needs
+
+cast-t6 : tie.Need-cast-t6
+cast-t6 c = search needs
+
+enum-told-3 : tie.Need-enum-told-3
+enum-told-3 c = search needs
+
+oldest-requires : tie.Need-oldest-requires
+oldest-requires c κs = search needs
+
+returns : tie.Need-returns
+unfolding textOf
+returns c = rw (c .enum-told .given .1) (record { is = refl; some = refl; stands = tt })
+
+returns-2 : tie.Need-returns-2
+unfolding textOf
+returns-2 c = rw (c .before .enum-told2 .given .1, c .status-byte .ensures) (record { is = refl; some = refl; stands = tt })
+
+returns-3 : tie.Need-returns-3
+unfolding textOf
+returns-3 c = rw (c .before .enum-told3 .given .1, c .oldest .ensures) (record { is = refl; some = refl; stands = tt })
+
+pub to-inquiry-spec : {M : Type 1} → statement M
+to-inquiry-spec =
+    tie.close
+    (tie.spec
+    enum-told
+    enum-told-2
+    status-byte-requires
+    cast-t6
+    enum-told-3
+    oldest-requires
+    returns
+    returns-2
+    returns-3)

@@ -1,0 +1,109 @@
+use mathlib.Core.Path.{refl}
+use mir.Syntax.{w32}
+use mir.Val.{SFits}
+use mir.Facts.{toZ-ofZ}
+use borrow.Author.Needs.{needs}
+use Rattle.registers.specs.Text.{if_then_else_, bytes}
+use Rattle.registers.specs.Answer.{inPlaces, decimal}
+use Rattle.interpreter.specs.Deeds.{replyTo}
+use Rattle.interpreter.specs.DeedsParts.{textOf}
+use Rattle.interpreter.proofs.reply.to_query.Statement.{statement}
+use Rattle.interpreter.proofs.reply.to_query.Tie as tie
+
+enum-told : tie.Need-enum-told
+enum-told c = search needs
+
+enum-told-2 : tie.Need-enum-told-2
+enum-told-2 c = search needs
+
+enum-told-3 : tie.Need-enum-told-3
+enum-told-3 c = search needs
+
+enum-known-query : tie.Need-enum-known-query
+enum-known-query c = search needs
+
+to-value-requires : tie.Need-to-value-requires
+to-value-requires c κs = search needs
+
+enum-known-query-2 : tie.Need-enum-known-query-2
+enum-known-query-2 c = search needs
+
+value-requires : tie.Need-value-requires
+value-requires c κs = search needs
+
+to-value-requires-2 : tie.Need-to-value-requires-2
+to-value-requires-2 c κs = search needs
+
+enum-known-query-3 : tie.Need-enum-known-query-3
+enum-known-query-3 c = search needs
+
+register-requires : tie.Need-register-requires
+register-requires c κs = search needs
+
+enum-told-4 : tie.Need-enum-told-4
+enum-told-4 c = search needs
+
+enum-told-5 : tie.Need-enum-told-5
+enum-told-5 c = search needs
+
+returns : tie.Need-returns
+unfolding textOf replyTo
+returns c = rw (c .enum-told .given .1) (record { is = refl; some = refl; stands = tt })
+
+returns-2 : tie.Need-returns-2
+unfolding textOf replyTo decimal inPlaces bytes if_then_else_
+returns-2 c = rw (c .enum-told2 .given .1) (record { is = refl; some = refl; stands = tt })
+
+returns-3 : tie.Need-returns-3
+unfolding textOf replyTo decimal inPlaces bytes if_then_else_
+returns-3 c = rw (c .enum-told3 .given .1) (record { is = refl; some = refl; stands = tt })
+
+returns-4 : tie.Need-returns-4
+unfolding replyTo
+returns-4 c =
+    let q = c .before .before .query .given in
+    let h : SFits w32 (q .0 .1 .0) = record { sfits = c .before .known-told .given .1 .0 .1 } in
+    rw (q .1) (rw (toZ-ofZ {w = w32} h) at (c .to-value .ensures))
+
+returns-5 : tie.Need-returns-5
+unfolding replyTo
+returns-5 c =
+    let h : SFits w32 (c .before .value .result) = record { sfits = c .before .value .ok } in
+    rw (c .before .before .before .query2 .given .1) (rw (toZ-ofZ {w = w32} h, c .before .value .ensures) at (c .to-value2 .ensures))
+
+returns-6 : tie.Need-returns-6
+unfolding textOf replyTo
+returns-6 c = rw (c .before .before .query3 .given .1, c .register .ensures) (record { is = refl; some = refl; stands = tt })
+
+returns-7 : tie.Need-returns-7
+unfolding textOf replyTo
+returns-7 c = rw (c .enum-told4 .given .1) (record { is = refl; some = refl; stands = tt })
+
+returns-8 : tie.Need-returns-8
+unfolding textOf replyTo
+returns-8 c = rw (c .enum-told5 .given .1) (record { is = refl; some = refl; stands = tt })
+
+pub to-query-spec : {M : Type 1} → statement M
+to-query-spec =
+    tie.close
+    (tie.spec
+    enum-told
+    enum-told-2
+    enum-told-3
+    enum-known-query
+    to-value-requires
+    enum-known-query-2
+    value-requires
+    to-value-requires-2
+    enum-known-query-3
+    register-requires
+    enum-told-4
+    enum-told-5
+    returns
+    returns-2
+    returns-3
+    returns-4
+    returns-5
+    returns-6
+    returns-7
+    returns-8)
