@@ -19,13 +19,13 @@ give-requires c κs =
     ((p .0 .0, reply-stands (a .deed) (a .present) _ _ (c .before .to-deed .ensures)), (p .1 .0, p .1 .1))
 
 status-after-requires : tie.Need-status-after-requires
-status-after-requires c κs = search needs
+status-after-requires c κs = omega arith
 
 raise-requires : tie.Need-raise-requires
-raise-requires c κs = search needs
+raise-requires c κs = tt
 
 same-length : tie.Need-same-length
-same-length c = search needs
+same-length c = omega arith
 
 returns : tie.Need-returns
 returns c =
@@ -39,7 +39,7 @@ settings-after-requires : tie.Need-settings-after-requires
 settings-after-requires c κs = search needs
 
 same-length-2 : tie.Need-same-length-2
-same-length-2 c = search needs
+same-length-2 c = omega arith
 
 returns-2 : tie.Need-returns-2
 returns-2 c =

@@ -1,10 +1,9 @@
-use borrow.Author.Needs.{needs}
 use Rattle.interpreter.specs.DeedsParts.{raisedWith}
 use Rattle.interpreter.proofs.perform.raise.Statement.{statement}
 use Rattle.interpreter.proofs.perform.raise.Tie as tie
 
 raise-requires : tie.Need-raise-requires
-raise-requires c κs = search needs
+raise-requires c κs = tt
 
 returns : tie.Need-returns
 unfolding raisedWith

@@ -1,20 +1,20 @@
+use native.Mathlib.Omega.{arith}
 use mir.Facts.{toZ-ofZ}
 use mir.Val.{SFits}
 use mir.Syntax.{w32}
 use Rattle.registers.proofs.settings.Laws.{stored-yes}
 use Rattle.interpreter.proofs.perform.Laws.{same-settings, no-change}
-use borrow.Author.Needs.{needs}
 use Rattle.interpreter.proofs.perform.settings_after.Statement.{statement}
 use Rattle.interpreter.proofs.perform.settings_after.Tie as tie
 
 enum-known-deed : tie.Need-enum-known-deed
-enum-known-deed c = search needs
+enum-known-deed c = omega arith
 
 enum-known-change : tie.Need-enum-known-change
-enum-known-change c = search needs
+enum-known-change c = omega arith
 
 store-requires : tie.Need-store-requires
-store-requires c κs = search needs
+store-requires c κs = tt
 
 returns : tie.Need-returns
 returns c =
@@ -25,10 +25,10 @@ returns c =
     (stored-yes (v .0) (v .1 .0) (c .before .before .before .before .before .before .before .args .settings) (p .1) (p .2))
 
 enum-told : tie.Need-enum-told
-enum-told c = search needs
+enum-told c = omega arith
 
 reset-requires : tie.Need-reset-requires
-reset-requires c κs = search needs
+reset-requires c κs = tt
 
 returns-2 : tie.Need-returns-2
 returns-2 c = rw (c .before .before .before .before .deed .given .1, c .before .enum-told .given .1) (c .reset .ensures)

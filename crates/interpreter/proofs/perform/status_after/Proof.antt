@@ -9,13 +9,13 @@ use Rattle.interpreter.proofs.perform.status_after.Statement.{statement
 use Rattle.interpreter.proofs.perform.status_after.Tie as tie
 
 enum-known-deed : tie.Need-enum-known-deed
-enum-known-deed c = search needs
+enum-known-deed c = omega arith
 
 enum-known-change : tie.Need-enum-known-change
-enum-known-change c = search needs
+enum-known-change c = omega arith
 
 store-requires : tie.Need-store-requires
-store-requires c κs = search needs
+store-requires c κs = tt
 
 returns : tie.Need-returns
 returns c =
@@ -26,10 +26,10 @@ returns-2 : tie.Need-returns-2
 returns-2 c = rw (c .before .before .deed .given .1) (same-status (c .before .before .before .before .args .status) (c .before .before .before .before .pre) _ (c .match2 .keys2))
 
 enum-told : tie.Need-enum-told
-enum-told c = search needs
+enum-told c = omega arith
 
 complete-requires : tie.Need-complete-requires
-complete-requires c κs = search needs
+complete-requires c κs = tt
 
 returns-3 : tie.Need-returns-3
 unfolding completed eventsIn
@@ -37,10 +37,10 @@ returns-3 c = rw (c .before .enum-told .given .1, c .complete .ensures)
     (record { registers = λ _ _. refl; trouble = refl; queued = c .before .before .before .pre })
 
 enum-told-2 : tie.Need-enum-told-2
-enum-told-2 c = search needs
+enum-told-2 c = omega arith
 
 clear-requires : tie.Need-clear-requires
-clear-requires c κs = search needs
+clear-requires c κs = tt
 
 returns-4 : tie.Need-returns-4
 unfolding clearedIn
@@ -48,13 +48,13 @@ returns-4 c = rw (c .before .enum-told2 .given .1, c .clear .ensures)
     (record { registers = λ _ _. refl; trouble = refl; queued = omega arith })
 
 enum-known-deed-2 : tie.Need-enum-known-deed-2
-enum-known-deed-2 c = search needs
+enum-known-deed-2 c = omega arith
 
 enum-told-3 : tie.Need-enum-told-3
-enum-told-3 c = search needs
+enum-told-3 c = omega arith
 
 read-operation-requires : tie.Need-read-operation-requires
-read-operation-requires c κs = search needs
+read-operation-requires c κs = tt
 
 returns-5 : tie.Need-returns-5
 returns-5 c = rw (c .before .before .before .before .deed2 .given .1, c .before .enum-told3 .given .1, c .read-operation .ensures)
@@ -64,13 +64,13 @@ returns-6 : tie.Need-returns-6
 returns-6 c = rw (c .before .before .deed2 .given .1) (only-asked (c .before .before .before .before .args .status) (c .before .before .before .before .pre) _ (c .match3 .keys2))
 
 enum-known-deed-3 : tie.Need-enum-known-deed-3
-enum-known-deed-3 c = search needs
+enum-known-deed-3 c = omega arith
 
 enum-told-4 : tie.Need-enum-told-4
-enum-told-4 c = search needs
+enum-told-4 c = omega arith
 
 read-events-requires : tie.Need-read-events-requires
-read-events-requires c κs = search needs
+read-events-requires c κs = tt
 
 returns-7 : tie.Need-returns-7
 unfolding eventsIn eventsRead
@@ -78,17 +78,17 @@ returns-7 c = rw (c .before .before .before .before .deed3 .given .1, c .before 
     (record { registers = λ _ _. refl; trouble = refl; queued = c .before .before .before .before .before .before .pre })
 
 enum-told-5 : tie.Need-enum-told-5
-enum-told-5 c = search needs
+enum-told-5 c = omega arith
 
 returns-8 : tie.Need-returns-8
 returns-8 c = rw (c .before .before .before .deed3 .given .1, c .enum-told5 .given .1)
     (record { registers = λ _ _. refl; trouble = refl; queued = c .before .before .before .before .before .pre })
 
 enum-told-6 : tie.Need-enum-told-6
-enum-told-6 c = search needs
+enum-told-6 c = omega arith
 
 read-oldest-requires : tie.Need-read-oldest-requires
-read-oldest-requires c κs = search needs
+read-oldest-requires c κs = tt
 
 returns-9 : tie.Need-returns-9
 returns-9 c =

@@ -14,7 +14,7 @@ abbrev entry : tie.After-out → tie.Start
 entry o = o .before .before .before .before .before .before
 
 enum-told : tie.Need-enum-told
-enum-told c = search needs
+enum-told c = omega arith
 
 returns : tie.Need-returns
 returns c =
@@ -22,10 +22,10 @@ returns c =
     rw (c .enum-told .given .1) (given-none (s .args .out .now) (s .pre .1 .0) (s .pre .1 .1))
 
 slice-write-out : tie.Need-slice-write-out
-slice-write-out c = search needs
+slice-write-out c = omega arith
 
 cast-start : tie.Need-cast-start
-cast-start c = search needs
+cast-start c = tt
 
 add-start : tie.Need-add-start
 add-start c = let h = start-room (c .before .before .before .args .answered) (c .before .before .before .pre .1 .0) in omega arith
@@ -37,7 +37,7 @@ part-write-start : tie.Need-part-write-start
 part-write-start c = room-at (c .before .before .before)
 
 part-write-end : tie.Need-part-write-end
-part-write-end c = search needs
+part-write-end c = omega arith
 
 write-requires : tie.Need-write-requires
 write-requires c κs = search needs

@@ -1,19 +1,20 @@
+use native.Mathlib.Omega.{arith}
 use borrow.Author.Needs.{needs}
 use Rattle.interpreter.proofs.reply.Values.{nothing-said}
 use Rattle.interpreter.proofs.reply.to_deed.Statement.{statement}
 use Rattle.interpreter.proofs.reply.to_deed.Tie as tie
 
 enum-known-deed : tie.Need-enum-known-deed
-enum-known-deed c = search needs
+enum-known-deed c = omega arith
 
 to-query-requires : tie.Need-to-query-requires
 to-query-requires c κs = search needs
 
 enum-known-deed-2 : tie.Need-enum-known-deed-2
-enum-known-deed-2 c = search needs
+enum-known-deed-2 c = omega arith
 
 to-inquiry-requires : tie.Need-to-inquiry-requires
-to-inquiry-requires c κs = search needs
+to-inquiry-requires c κs = tt
 
 returns : tie.Need-returns
 returns c = rw (c .before .before .deed .given .1) (c .to-query .ensures)

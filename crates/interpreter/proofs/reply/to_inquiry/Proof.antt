@@ -1,26 +1,26 @@
+use native.Mathlib.Omega.{arith}
 use mathlib.Core.Path.{refl}
-use borrow.Author.Needs.{needs}
 use Rattle.interpreter.specs.DeedsParts.{textOf}
 use Rattle.interpreter.proofs.reply.to_inquiry.Statement.{statement}
 use Rattle.interpreter.proofs.reply.to_inquiry.Tie as tie
 
 enum-told : tie.Need-enum-told
-enum-told c = search needs
+enum-told c = omega arith
 
 enum-told-2 : tie.Need-enum-told-2
-enum-told-2 c = search needs
+enum-told-2 c = omega arith
 
 status-byte-requires : tie.Need-status-byte-requires
-status-byte-requires c κs = search needs
+status-byte-requires c κs = tt
 
 cast-t6 : tie.Need-cast-t6
-cast-t6 c = search needs
+cast-t6 c = omega arith
 
 enum-told-3 : tie.Need-enum-told-3
-enum-told-3 c = search needs
+enum-told-3 c = omega arith
 
 oldest-requires : tie.Need-oldest-requires
-oldest-requires c κs = search needs
+oldest-requires c κs = tt
 
 returns : tie.Need-returns
 unfolding textOf

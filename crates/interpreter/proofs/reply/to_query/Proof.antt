@@ -1,3 +1,4 @@
+use native.Mathlib.Omega.{arith}
 use mathlib.Core.Path.{refl}
 use mir.Syntax.{w32}
 use mir.Val.{SFits}
@@ -11,40 +12,40 @@ use Rattle.interpreter.proofs.reply.to_query.Statement.{statement}
 use Rattle.interpreter.proofs.reply.to_query.Tie as tie
 
 enum-told : tie.Need-enum-told
-enum-told c = search needs
+enum-told c = omega arith
 
 enum-told-2 : tie.Need-enum-told-2
-enum-told-2 c = search needs
+enum-told-2 c = omega arith
 
 enum-told-3 : tie.Need-enum-told-3
-enum-told-3 c = search needs
+enum-told-3 c = omega arith
 
 enum-known-query : tie.Need-enum-known-query
-enum-known-query c = search needs
+enum-known-query c = omega arith
 
 to-value-requires : tie.Need-to-value-requires
 to-value-requires c κs = search needs
 
 enum-known-query-2 : tie.Need-enum-known-query-2
-enum-known-query-2 c = search needs
+enum-known-query-2 c = omega arith
 
 value-requires : tie.Need-value-requires
-value-requires c κs = search needs
+value-requires c κs = tt
 
 to-value-requires-2 : tie.Need-to-value-requires-2
 to-value-requires-2 c κs = search needs
 
 enum-known-query-3 : tie.Need-enum-known-query-3
-enum-known-query-3 c = search needs
+enum-known-query-3 c = omega arith
 
 register-requires : tie.Need-register-requires
-register-requires c κs = search needs
+register-requires c κs = tt
 
 enum-told-4 : tie.Need-enum-told-4
-enum-told-4 c = search needs
+enum-told-4 c = omega arith
 
 enum-told-5 : tie.Need-enum-told-5
-enum-told-5 c = search needs
+enum-told-5 c = omega arith
 
 returns : tie.Need-returns
 unfolding textOf replyTo

@@ -5,7 +5,6 @@ use lib.IntN.{pos, natAbs}
 use mir.Syntax.{w32}
 use mir.Val.{toZ, ofZ}
 use mir.Facts.{toZ-ofZ, toZ-pos, fits-natAbs}
-use borrow.Author.Needs.{needs}
 use Rattle.registers.specs.Words.{shortForm}
 use Rattle.registers.specs.Settings.{kindOf}
 use Rattle.registers.proofs.answer.Signs.{size-plus}
@@ -41,10 +40,10 @@ at-word e =
     rw (back (entry e)) (omega arith, p .1)
 
 setting-takes-requires : tie.Need-setting-takes-requires
-setting-takes-requires c κs = search needs
+setting-takes-requires c κs = omega arith
 
 cast-if1 : tie.Need-cast-if1
-cast-if1 c = search needs
+cast-if1 c = omega arith
 
 returns : tie.Need-returns
 unfolding textOf

@@ -1,3 +1,4 @@
+use mathlib.Core.Path.{refl}
 use mathlib.Core.Path.{ap, _∙_}
 use native.Mathlib.Omega.{arith}
 use lib.ListN.{length}
@@ -8,24 +9,23 @@ use Rattle.registers.specs.Text.{bytes}
 use Rattle.registers.proofs.answer.Laws.{laid-whole, laid-none}
 use Rattle.interpreter.specs.DeedsParts.{textOf}
 use Rattle.interpreter.proofs.rows.Words.{words-long}
-use borrow.Author.Needs.{needs}
 use Rattle.interpreter.proofs.reply.write.Statement.{statement}
 use Rattle.interpreter.proofs.reply.write.Tie as tie
 
 enum-told : tie.Need-enum-told
-enum-told c = search needs
+enum-told c = omega arith
 
 enum-told-2 : tie.Need-enum-told-2
-enum-told-2 c = search needs
+enum-told-2 c = omega arith
 
 slice-aggregate-write-text : tie.Need-slice-aggregate-write-text
-slice-aggregate-write-text c = search needs
+slice-aggregate-write-text c = refl
 
 write-text-requires : tie.Need-write-text-requires
-write-text-requires c κs = search needs
+write-text-requires c κs = tt
 
 enum-known-reply : tie.Need-enum-known-reply
-enum-known-reply c = search needs
+enum-known-reply c = omega arith
 
 sub-write-text : tie.Need-sub-write-text
 sub-write-text c =
@@ -45,55 +45,55 @@ part-write-text-end c =
     omega arith
 
 write-text-requires-2 : tie.Need-write-text-requires-2
-write-text-requires-2 c κs = search needs
+write-text-requires-2 c κs = tt
 
 enum-known-reply-2 : tie.Need-enum-known-reply-2
-enum-known-reply-2 c = search needs
+enum-known-reply-2 c = omega arith
 
 write-tenths-requires : tie.Need-write-tenths-requires
-write-tenths-requires c κs = search needs
+write-tenths-requires c κs = tt
 
 enum-known-reply-3 : tie.Need-enum-known-reply-3
-enum-known-reply-3 c = search needs
+enum-known-reply-3 c = omega arith
 
 write-whole-requires : tie.Need-write-whole-requires
-write-whole-requires c κs = search needs
+write-whole-requires c κs = tt
 
 enum-known-reply-4 : tie.Need-enum-known-reply-4
-enum-known-reply-4 c = search needs
+enum-known-reply-4 c = omega arith
 
 cast-write-decimal : tie.Need-cast-write-decimal
-cast-write-decimal c = search needs
+cast-write-decimal c = omega arith
 
 write-decimal-requires : tie.Need-write-decimal-requires
-write-decimal-requires c κs = search needs
+write-decimal-requires c κs = tt
 
 enum-known-reply-5 : tie.Need-enum-known-reply-5
-enum-known-reply-5 c = search needs
+enum-known-reply-5 c = omega arith
 
 write-error-requires : tie.Need-write-error-requires
-write-error-requires c κs = search needs
+write-error-requires c κs = tt
 
 returns : tie.Need-returns
 unfolding textOf
 returns c = rw (c .enum-told .given .1) (laid-whole (laid-none 0 (c .before .before .before .before .args .tail .now)))
 
 same-length : tie.Need-same-length
-same-length c = search needs
+same-length c = omega arith
 
 returns-2 : tie.Need-returns-2
 unfolding textOf bytes
 returns-2 c = rw (c .before .before .before .before .before .enum-told2 .given .1) (c .before .before .write-text .ensures)
 
 same-length-2 : tie.Need-same-length-2
-same-length-2 c = search needs
+same-length-2 c = omega arith
 
 returns-3 : tie.Need-returns-3
 unfolding textOf
 returns-3 c = rw (c .before .before .before .before .before .before .reply .given .1) (rw (c .before .before .before .before .before .before .before .before .before .before .pre .0) at (c .before .before .write-text2 .ensures))
 
 same-length-3 : tie.Need-same-length-3
-same-length-3 c = search needs
+same-length-3 c = omega arith
 
 returns-4 : tie.Need-returns-4
 unfolding textOf
@@ -102,7 +102,7 @@ returns-4 c =
     rw (c .before .before .before .before .before .reply2 .given .1) (rw (toZ-ofZ {w = w32} h) at (c .before .before .write-tenths .ensures))
 
 same-length-4 : tie.Need-same-length-4
-same-length-4 c = search needs
+same-length-4 c = omega arith
 
 returns-5 : tie.Need-returns-5
 unfolding textOf
@@ -111,14 +111,14 @@ returns-5 c =
     rw (c .before .before .before .before .before .reply3 .given .1) (rw (toZ-ofZ {w = w32} h) at (c .before .before .write-whole .ensures))
 
 same-length-5 : tie.Need-same-length-5
-same-length-5 c = search needs
+same-length-5 c = omega arith
 
 returns-6 : tie.Need-returns-6
 unfolding textOf
 returns-6 c = rw (c .before .before .before .before .before .reply4 .given .1) (c .before .before .write-decimal .ensures)
 
 same-length-6 : tie.Need-same-length-6
-same-length-6 c = search needs
+same-length-6 c = omega arith
 
 returns-7 : tie.Need-returns-7
 unfolding textOf
