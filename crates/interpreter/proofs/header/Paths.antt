@@ -5,7 +5,7 @@ use mathlib.Core.List.{List, [], _∷_, _++_, append-assoc}
 use Prim.Native.Nat.{ℕ, suc, _+_, _-_, _≤_, _<_}
 use native.Mathlib.Omega.{arith}
 use lib.Dec.{eqb}
-use lib.ListN.{length, getD, take, drop, length-take, length-append}
+use lib.ListN.{length, getD, take, drop, length-take, length-drop, length-append}
 use lib.Seq.{take-suc, take-length, take-append-add, take-append-seam, take-take}
 use borrow.Author.Tests.{ne-eqb}
 use borrow.Rule.Slice.PartMut.{putMid}
@@ -152,6 +152,10 @@ unfolding pathOf
 path-none t e h k = let z : e ≡ 0 = omega arith in rw z at k
 
 -- ---- the path's buffer
+
+-- there is room for them behind the path
+pub room-behind : (xs names : Text) (used : ℕ) → used + length names ≤ length xs → length names ≤ length (take (length xs - used) (drop used xs))
+room-behind xs names used h = rw (length-take, length-drop) (omega arith)
 
 -- names copied behind the path
 pub copied : (xs names ys z : Text) (used k : ℕ) → used ≤ length xs → ys ≡ take (length names) names ++ z

@@ -5,13 +5,13 @@ use mathlib.Core.Logic.{⊎-elim}
 use Prim.Native.Nat.{ℕ, _+_, _-_, _≤_}
 use native.Mathlib.Omega.{arith}
 use lib.Dec.{ltb}
-use lib.ListN.{length, take, drop, length-take, length-drop}
+use lib.ListN.{length, take, drop, length-take}
 use borrow.Rule.Slice.PartMut.{putMid}
 use borrow.Author.Tests.{not-true, not-false}
 use Rattle.registers.specs.Text.{Text}
 use Rattle.interpreter.specs.HeaderParts.{closed}
 use Rattle.interpreter.proofs.header.Laws.{closed-nil}
-use Rattle.interpreter.proofs.header.Paths.{copied, entered}
+use Rattle.interpreter.proofs.header.Paths.{room-behind, copied, entered}
 use Rattle.interpreter.proofs.header.Whole.{Read, read-body, look-bad, names-fit, joined-well, look-star, look-root, look-here}
 use Rattle.interpreter.proofs.header.look_up.Statement.{statement}
 use Rattle.interpreter.proofs.header.look_up.Tie as tie
@@ -104,7 +104,7 @@ part-copy-end : tie.Need-part-copy-end
 part-copy-end c = omega arith
 
 copy-requires : tie.Need-copy-requires
-copy-requires c κs = let f = fits (c .before .before) in rw (length-take, length-drop) (omega arith)
+copy-requires c κs = let j = c .before .before in room-behind (entry j .args .path .now) (names-at j) (j .if3 .from) (fits j)
 
 add-all : tie.Need-add-all
 add-all c = let f = fits (c .before .before .before .before .before) in omega (arith, c .before .before .copy .ensures .0, c .before .before .before .before .before .before .before .before .before .before .before .before .before .before .before .before .before .good)
