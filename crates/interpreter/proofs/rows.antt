@@ -6,3 +6,4 @@ pub mod Spelling
 pub mod Rows
 pub mod Walks
 pub mod Search
+pub mod Table

@@ -15,7 +15,7 @@ use Rattle.registers.specs.declared.error.Error as errors
 use Rattle.registers.specs.declared.settings.Settings.{Settings}
 use Rattle.registers.specs.declared.status.Status.{Status}
 use Rattle.interpreter.specs.Parameter.{wordsOf}
-use Rattle.interpreter.specs.RowsParts.{wordTable}
+use Rattle.interpreter.specs.RowsParts.{commandTable}
 use Rattle.interpreter.specs.UnitParts.{Allowed}
 use Rattle.interpreter.specs.Box.{Core, Box, box, mostAnswer}
 use Rattle.interpreter.specs.Deeds.{replyTo, afterInquiry, joined, perform}
@@ -59,7 +59,7 @@ inquiryText NextError s answers = errorText (first (troubleOf s .queue))
 unfoldable pub textOf : Reply → Text
 textOf Nothing = []
 textOf Identity = bytes "COURSE,BENCH24,0,4.00"
-textOf (Word start end) = take (end - start) (drop start wordTable)
+textOf (Word start end) = take (end - start) (drop start commandTable)
 textOf (Tenths v) = signedText tenths v
 textOf (Whole v) = signedText decimal v
 textOf (Number n) = decimal n

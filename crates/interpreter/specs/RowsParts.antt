@@ -1,4 +1,4 @@
--- How the code keeps the rows and the words, two tables of bytes made of 01's rows, and what the row search's own functions say. Nothing
+-- How the code keeps the words and the rows, as a table of bytes made of 01's rows, and what the row search's own functions say. Nothing
 -- of 01 is defined here.
 use mathlib.Core.Path.{_≡_}
 use mathlib.Core.Bool.{Bool, true, false, not, _||_}
@@ -104,6 +104,10 @@ rowTableOf (f ∷ fs) = rowRow f ++ rowTableOf fs
 
 unfoldable pub rowTable : Text
 rowTable = rowTableOf (following [] rows)
+
+-- the table that is searched: the words, and behind them the rows
+unfoldable pub commandTable : Text
+commandTable = wordTable ++ rowTable
 
 -- ---- the row that a search finds
 

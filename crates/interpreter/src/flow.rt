@@ -9,7 +9,7 @@ ghost use Prim.Native.Nat.{_+_, _^_, _≤_, _<_, min};
 ghost use lib.ListN.{length, drop};
 ghost use lib.Seq as seq;
 ghost use Rattle.registers.specs.Text.{Text};
-ghost use Rattle.interpreter.specs.RowsParts.{rowTable, wordTable};
+ghost use Rattle.interpreter.specs.RowsParts.{commandTable};
 ghost use Rattle.interpreter.specs.Line.{newlines};
 ghost use Rattle.interpreter.specs.FlowParts.{FlowFits, firstLine, FlowFed};
 
@@ -60,15 +60,15 @@ fn hold(mut flow: Flow, line: &mut [u8; LINE], part: &[u8]) -> Flow
 }
 
 // A newline: a waiting answer is first discarded, and the line that was held is run.
-fn newline(rows: &[u8], words: &[u8], flow: Flow, line: &[u8; LINE], out: &mut [u8; ANSWER]) -> Flow
-    requires { ⌜ (now rows ≡ rowTable) × (now words ≡ wordTable) ⌝ }
+fn newline(table: &[u8], flow: Flow, line: &[u8; LINE], out: &mut [u8; ANSWER]) -> Flow
+    requires { ⌜ now table ≡ commandTable ⌝ }
     requires { ⌜ FlowFits flow × (flow .count < 2 ^ 63) ⌝ }
     ensures { λ r. ⌜ FlowFed flow (now (line .entry)) (now (out .entry)) (10 ∷ []) r (now (line .entry)) (now (out .exit)) ⌝ }
 {
     let filled = flow.filled;
     let bytes: &[u8] = line;
     let present = line::discard(flow.present, flow.waiting);
-    let ran = line::run_line(rows, words, present, &bytes[0..filled], flow.overlong, out);
+    let ran = line::run_line(table, present, &bytes[0..filled], flow.overlong, out);
     let next = ran.present;
     Flow {
         present: next,
@@ -81,15 +81,14 @@ fn newline(rows: &[u8], words: &[u8], flow: Flow, line: &[u8; LINE], out: &mut [
 
 // Takes in the line that starts at a place: its bytes up to a newline and with it, or all there are.
 pub(crate) fn feed_line(
-    rows: &[u8],
-    words: &[u8],
+    table: &[u8],
     flow: Flow,
     line: &mut [u8; LINE],
     out: &mut [u8; ANSWER],
     bytes: &[u8],
     at: usize,
 ) -> Advance
-    requires { ⌜ (now rows ≡ rowTable) × (now words ≡ wordTable) ⌝ }
+    requires { ⌜ now table ≡ commandTable ⌝ }
     requires { ⌜ FlowFits flow × (flow .count < 2 ^ 63) × (at ≤ length (now bytes)) ⌝ }
     ensures { λ r. ⌜ FlowFed flow (now (line .entry)) (now (out .entry)) (firstLine (drop at (now (bytes .entry)))) (r .flow) (now (line .exit)) (now (out .exit)) ⌝ }
     ensures { λ r. ⌜ r .next ≡ at + length (firstLine (drop at (now (bytes .entry)))) ⌝ }
@@ -99,7 +98,7 @@ pub(crate) fn feed_line(
     let mut flow = hold(flow, line, &bytes[at..end]);
     let mut next = end;
     if end < n {
-        flow = newline(rows, words, flow, line, out);
+        flow = newline(table, flow, line, out);
         next += 1;
     }
     Advance { flow, next }
@@ -107,21 +106,20 @@ pub(crate) fn feed_line(
 
 // Takes bytes in, line by line, with the line and the answer in place.
 pub(crate) fn feed(
-    rows: &[u8],
-    words: &[u8],
+    table: &[u8],
     start: Flow,
     line: &mut [u8; LINE],
     out: &mut [u8; ANSWER],
     bytes: &[u8],
 ) -> Flow
-    requires { ⌜ (now rows ≡ rowTable) × (now words ≡ wordTable) ⌝ }
+    requires { ⌜ now table ≡ commandTable ⌝ }
     requires { ⌜ FlowFits start × (start .count ≡ 0) ⌝ }
     ensures { λ r. ⌜ FlowFed start (now (line .entry)) (now (out .entry)) (now (bytes .entry)) r (now (line .exit)) (now (out .exit)) ⌝ }
 {
     let mut flow = start;
     let mut at: usize = 0;
     while at < bytes.len() {
-        let fed = feed_line(rows, words, flow, line, out, bytes, at);
+        let fed = feed_line(table, flow, line, out, bytes, at);
         flow = fed.flow;
         at = fed.next;
     }

@@ -10,7 +10,7 @@ ghost use Prim.Native.Nat.{_+_, _≤_, _<_};
 ghost use lib.ListN.{length, take};
 ghost use lib.Dec.{eqb};
 ghost use Rattle.interpreter.specs.Header.{asks};
-ghost use Rattle.interpreter.specs.RowsParts.{rowTable, wordTable};
+ghost use Rattle.interpreter.specs.RowsParts.{commandTable};
 ghost use Rattle.interpreter.specs.HeaderParts.{closed, pathOf, nameByte, well, bodyOf, HeadingRead, LookedUp};
 
 // A header's grammar, where its names start, and what leads them.
@@ -106,13 +106,12 @@ fn path_end(text: &[u8]) -> usize
 // A header's row, and the path that it leaves in the path's buffer: its names are entered behind the path, or at the
 // root, where the search reads them.
 pub(crate) fn look_up(
-    rows: &[u8],
-    words: &[u8],
+    table: &[u8],
     path: &mut [u8],
     used: usize,
     header: &[u8],
 ) -> Looked
-    requires { ⌜ (now rows ≡ rowTable) × (now words ≡ wordTable) ⌝ }
+    requires { ⌜ now table ≡ commandTable ⌝ }
     requires { ⌜ (used + length (now header) ≤ length (now path)) × (closed (take used (now path)) ≡ true) ⌝ }
     ensures { λ r. ⌜ LookedUp (take used (now (path .entry))) (now (header .entry)) r (now (path .exit)) ⌝ }
 {
@@ -126,13 +125,13 @@ pub(crate) fn look_up(
     let start = h.start;
     let names = &body[start..];
     if h.star {
-        let row = rows::find(rows, words, names, true, asked);
+        let row = rows::find(table, names, true, asked);
         return Looked::At { row, used, asked };
     }
     let from = if h.root { 0 } else { used };
     let n = bytes::copy(names, &mut path[from..]);
     let all = from + n;
-    let row = rows::find(rows, words, &path[0..all], false, asked);
+    let row = rows::find(table, &path[0..all], false, asked);
     let left = path_end(&path[0..all]);
     Looked::At {
         row,

@@ -13,5 +13,5 @@ mod reply;
 mod rows;
 pub mod server;
 pub mod state;
-mod tables;
+mod table;
 mod unit;

@@ -12,7 +12,7 @@ ghost use Prim.Native.Nat.{_+_, _≤_, _<_};
 ghost use lib.ListN.{length, take};
 ghost use Rattle.registers.specs.Status.{most};
 ghost use Rattle.interpreter.specs.Box.{mostLine, mostAnswer};
-ghost use Rattle.interpreter.specs.RowsParts.{rowTable, wordTable};
+ghost use Rattle.interpreter.specs.RowsParts.{commandTable};
 ghost use Rattle.interpreter.specs.HeaderParts.{closed};
 ghost use Rattle.interpreter.specs.LineParts.{RefusedWith, UnitRan, UnitsRan, LineRan, Discarded};
 
@@ -45,25 +45,24 @@ fn refuse(mut done: Done, error: Error) -> Done
 
 // One unit behind those before it: all nine checks, and what it does.
 fn run_unit(
-    rows: &[u8],
-    words: &[u8],
+    table: &[u8],
     done: Done,
     path: &mut [u8; LINE],
     unit: &[u8],
     out: &mut [u8],
 ) -> Done
-    requires { ⌜ (now rows ≡ rowTable) × (now words ≡ wordTable) ⌝ }
+    requires { ⌜ now table ≡ commandTable ⌝ }
     requires { ⌜ (done .used + length (now unit) ≤ mostLine) × (closed (take (done .used) (now path)) ≡ true) ⌝ }
     requires { ⌜ (done .answered < mostAnswer) × (length (now out) ≡ mostAnswer) × (done .present .status .queued ≤ most) ⌝ }
     ensures { λ r. ⌜ UnitRan done (take (done .used) (now (path .entry))) (now (unit .entry)) (now (out .entry)) r (now (path .exit)) (now (out .exit)) ⌝ }
 {
-    let reading = unit::read(rows, words, done.present.settings, path, done.used, unit);
+    let reading = unit::read(table, done.present.settings, path, done.used, unit);
     match reading {
         Reading::Refused(error) => {
             return refuse(done, error);
         }
         Reading::Obey { deed, used } => {
-            let performed = perform::perform(words, done.present, deed, out, done.answered);
+            let performed = perform::perform(table, done.present, deed, out, done.answered);
             let next = performed.present;
             return Done {
                 present: next,
@@ -77,8 +76,8 @@ fn run_unit(
 
 // The units of a line, which is cut at every `;`, up to the first that is refused. The path lives as long as
 // its line: it starts at the root, and is gone at the newline.
-fn run_units(rows: &[u8], words: &[u8], present: Present, line: &[u8], out: &mut [u8]) -> Ran
-    requires { ⌜ (now rows ≡ rowTable) × (now words ≡ wordTable) ⌝ }
+fn run_units(table: &[u8], present: Present, line: &[u8], out: &mut [u8]) -> Ran
+    requires { ⌜ now table ≡ commandTable ⌝ }
     requires { ⌜ (length (now line) ≤ mostLine) × (length (now out) ≡ mostAnswer) × (present .status .queued ≤ most) ⌝ }
     ensures { λ r. ⌜ UnitsRan present (now (line .entry)) r (now (out .exit)) ⌝ }
 {
@@ -92,7 +91,7 @@ fn run_units(rows: &[u8], words: &[u8], present: Present, line: &[u8], out: &mut
     let mut at: usize = 0;
     loop {
         let end = bytes::scan::find(line, at, line.len(), 59);
-        done = run_unit(rows, words, done, &mut path, &line[at..end], out);
+        done = run_unit(table, done, &mut path, &line[at..end], out);
         let more = done.obeyed & (end < line.len());
         if !more {
             let next = done.present;
@@ -107,14 +106,13 @@ fn run_units(rows: &[u8], words: &[u8], present: Present, line: &[u8], out: &mut
 
 // "at the newline -363 is raised and no unit runs"; a blank line does nothing; answers are ended by a newline.
 pub(crate) fn run_line(
-    rows: &[u8],
-    words: &[u8],
+    table: &[u8],
     present: Present,
     line: &[u8],
     overlong: bool,
     out: &mut [u8],
 ) -> Ran
-    requires { ⌜ (now rows ≡ rowTable) × (now words ≡ wordTable) ⌝ }
+    requires { ⌜ now table ≡ commandTable ⌝ }
     requires { ⌜ (length (now line) ≤ mostLine) × (length (now out) ≡ mostAnswer) × (present .status .queued ≤ most) ⌝ }
     ensures { λ r. ⌜ LineRan present (now (line .entry)) overlong r (now (out .exit)) ⌝ }
 {
@@ -130,7 +128,7 @@ pub(crate) fn run_line(
             answered: 0,
         };
     }
-    let mut ran = run_units(rows, words, present, line, out);
+    let mut ran = run_units(table, present, line, out);
     let answered = ran.answered;
     if answered == 0 {
         return ran;

@@ -19,7 +19,7 @@ ghost use mathlib.Core.Bool.{true, not, _&&_};
 ghost use Prim.Native.Nat.{_+_, _≤_, _<_};
 ghost use Rattle.registers.specs.Rounding.{rounded};
 ghost use Rattle.registers.specs.Settings.{kindOf};
-ghost use Rattle.interpreter.specs.RowsParts.{wordTable};
+ghost use Rattle.interpreter.specs.RowsParts.{commandTable};
 ghost use Rattle.interpreter.specs.Parameter.{Word, Figure, parameter, wordsOf, takesNumbers, least, greatest, valueGiven, deedOf};
 ghost use Rattle.interpreter.specs.ParameterParts.{meantGiven, meantDeed, CountedIn, takenWords, TakesOf, aWord, isNumber, fitIn, putFit, storeTo, registerTo, settled, partsOf};
 
@@ -103,13 +103,13 @@ pub(crate) fn setting_takes(row: usize) -> Takes
 
 // Check 5 on a parameter that starts with a letter. A word with other bytes than letters, digits and
 // underscore is none of the table, so the search refuses it by the same number.
-fn find_word(words: &[u8], takes: Takes, text: &[u8]) -> Parameter
-    requires { ⌜ (now words ≡ wordTable) × (takes .first + takes .count ≤ 52) ⌝ }
+fn find_word(table: &[u8], takes: Takes, text: &[u8]) -> Parameter
+    requires { ⌜ (now table ≡ commandTable) × (takes .first + takes .count ≤ 52) ⌝ }
     ensures { λ r. ⌜ meantGiven r ≡ aWord (takenWords takes) (now (text .entry)) ⌝ }
 {
     let mut n: usize = 0;
     while n < takes.count {
-        if rows::is_word(words, text, takes.first + n) {
+        if rows::is_word(table, text, takes.first + n) {
             return Parameter::Word(n);
         }
         n += 1;
@@ -118,13 +118,13 @@ fn find_word(words: &[u8], takes: Takes, text: &[u8]) -> Parameter
 }
 
 // Checks 5 and 6. A digit, a sign or a point starts a number, and no query takes one.
-fn read_parameter(words: &[u8], takes: Takes, asked: bool, text: &[u8]) -> Parameter
-    requires { ⌜ (now words ≡ wordTable) × (takes .first + takes .count ≤ 52) ⌝ }
+fn read_parameter(table: &[u8], takes: Takes, asked: bool, text: &[u8]) -> Parameter
+    requires { ⌜ (now table ≡ commandTable) × (takes .first + takes .count ≤ 52) ⌝ }
     ensures { λ r. ⌜ meantGiven r ≡ parameter (takenWords takes) (takes .numbers && not asked) (now (text .entry)) ⌝ }
 {
     let b = text::byte_at(text, 0);
     if text::is_letter(b) {
-        return find_word(words, takes, text);
+        return find_word(table, takes, text);
     }
     let starts = text::is_digit(b) | ((b == 43) | (b == 45)) | (b == 46);
     if !(takes.numbers & !asked & starts) {
@@ -231,21 +231,21 @@ fn store(register: Register, d: Decimal) -> Decision
 
 // Checks 5 to 8 on a setting.
 fn decide_setting(
-    words: &[u8],
+    table: &[u8],
     settings: Settings,
     row: usize,
     asked: bool,
     parts: usize,
     text: &[u8],
 ) -> Decision
-    requires { ⌜ (now words ≡ wordTable) × (row < 16) ⌝ }
+    requires { ⌜ (now table ≡ commandTable) × (row < 16) ⌝ }
     requires { ⌜ (least (Role.Setting row) asked ≤ parts) × (parts ≤ greatest (Role.Setting row) asked) ⌝ }
     ensures { λ r. ⌜ meantDeed r ≡ deedOf settings (Role.Setting row) asked (partsOf parts (now (text .entry))) ⌝ }
 {
     if parts == 0 {
         return obey_query(Query::Value(row));
     }
-    let parameter = read_parameter(words, setting_takes(row), asked, text);
+    let parameter = read_parameter(table, setting_takes(row), asked, text);
     match parameter {
         Parameter::Refused(e) => return Decision::Refused(e),
         Parameter::Word(word) => {
@@ -259,8 +259,8 @@ fn decide_setting(
 }
 
 // Checks 5 to 7 on a register, which takes no words.
-fn decide_register(words: &[u8], register: Register, asked: bool, text: &[u8]) -> Decision
-    requires { ⌜ now words ≡ wordTable ⌝ }
+fn decide_register(table: &[u8], register: Register, asked: bool, text: &[u8]) -> Decision
+    requires { ⌜ now table ≡ commandTable ⌝ }
     ensures { λ r. ⌜ meantDeed r ≡ registerTo register asked (now (text .entry)) ⌝ }
 {
     if asked {
@@ -271,7 +271,7 @@ fn decide_register(words: &[u8], register: Register, asked: bool, text: &[u8]) -
         count: 0,
         numbers: true,
     };
-    let parameter = read_parameter(words, takes, false, text);
+    let parameter = read_parameter(table, takes, false, text);
     match parameter {
         Parameter::Refused(e) => return Decision::Refused(e),
         Parameter::Word(_) => return Decision::Refused(Error::InvalidCharacterData),
@@ -281,20 +281,20 @@ fn decide_register(words: &[u8], register: Register, asked: bool, text: &[u8]) -
 
 // Checks 5 to 8, where check 4 let the number of parameters pass. Orders and questions have none.
 pub(crate) fn decide(
-    words: &[u8],
+    table: &[u8],
     settings: Settings,
     role: Role,
     asked: bool,
     parts: usize,
     text: &[u8],
 ) -> Decision
-    requires { ⌜ (now words ≡ wordTable) × (settled role ≡ true) ⌝ }
+    requires { ⌜ (now table ≡ commandTable) × (settled role ≡ true) ⌝ }
     requires { ⌜ (least role asked ≤ parts) × (parts ≤ greatest role asked) ⌝ }
     ensures { λ r. ⌜ meantDeed r ≡ deedOf settings role asked (partsOf parts (now (text .entry))) ⌝ }
 {
     match role {
-        Role::Setting(row) => return decide_setting(words, settings, row, asked, parts, text),
-        Role::Register(register) => return decide_register(words, register, asked, text),
+        Role::Setting(row) => return decide_setting(table, settings, row, asked, parts, text),
+        Role::Register(register) => return decide_register(table, register, asked, text),
         Role::Order(deed) | Role::Question(deed) => return Decision::Obey(deed),
     }
 }

@@ -12,7 +12,7 @@ ghost use Prim.Native.Nat.{_≤_, _<_};
 ghost use lib.ListN.{length};
 ghost use Rattle.registers.specs.Status.{most};
 ghost use Rattle.interpreter.specs.Box.{mostAnswer};
-ghost use Rattle.interpreter.specs.RowsParts.{wordTable};
+ghost use Rattle.interpreter.specs.RowsParts.{commandTable};
 ghost use Rattle.interpreter.specs.DeedsParts.{raisedWith, settingsLeft, StatusLeft, PerformedIn};
 ghost use Rattle.interpreter.specs.UnitParts.{Allowed};
 
@@ -79,18 +79,18 @@ fn status_after(status: Status, deed: Deed) -> Status
 
 // Performs a deed behind what the line's earlier units answered.
 pub(crate) fn perform(
-    words: &[u8],
+    table: &[u8],
     present: Present,
     deed: Deed,
     out: &mut [u8],
     answered: usize,
 ) -> Performed
-    requires { ⌜ (now words ≡ wordTable) × Allowed (present .settings) deed ⌝ }
+    requires { ⌜ (now table ≡ commandTable) × Allowed (present .settings) deed ⌝ }
     requires { ⌜ (answered < mostAnswer) × (length (now out) ≡ mostAnswer) × (present .status .queued ≤ most) ⌝ }
     ensures { λ r. ⌜ PerformedIn deed present (now (out .entry)) answered r (now (out .exit)) ⌝ }
 {
-    let reply = reply::to_deed(words, present, answered != 0, deed);
-    let end = reply::give(words, reply, out, answered);
+    let reply = reply::to_deed(table, present, answered != 0, deed);
+    let end = reply::give(table, reply, out, answered);
     let status = status_after(present.status, deed);
     if out.len() <= end {
         let settings = present.settings;

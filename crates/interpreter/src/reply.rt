@@ -16,7 +16,7 @@ ghost use Rattle.registers.specs.Answer.{Laid};
 ghost use Rattle.registers.specs.Settings.{kindOf, answerOf};
 ghost use Rattle.interpreter.specs.Box.{mostAnswer};
 ghost use Rattle.interpreter.specs.Deeds.{replyTo};
-ghost use Rattle.interpreter.specs.RowsParts.{wordTable};
+ghost use Rattle.interpreter.specs.RowsParts.{commandTable};
 ghost use Rattle.interpreter.specs.DeedsParts.{coreIn, placeText, inquiryText, textOf, Stands, RepliesWith, ReplyTo, GivenTo};
 
 // What is answered, by how it is written: a word is what stands between two places of the table.
@@ -31,8 +31,8 @@ pub(crate) enum Reply {
 }
 
 // The short form of a setting's word by its place; at a place that has no word it is empty.
-fn to_word(words: &[u8], row: usize, value: i32) -> Reply
-    requires { ⌜ (now words ≡ wordTable) × (row < 16) ⌝ }
+fn to_word(table: &[u8], row: usize, value: i32) -> Reply
+    requires { ⌜ (now table ≡ commandTable) × (row < 16) ⌝ }
     ensures { λ r. ⌜ RepliesWith (placeText row value) r ⌝ }
 {
     let takes = parameter::setting_takes(row);
@@ -43,34 +43,34 @@ fn to_word(words: &[u8], row: usize, value: i32) -> Reply
     let start = word + 2;
     Reply::Word {
         start,
-        end: start + words[word] as usize,
+        end: start + table[word] as usize,
     }
 }
 
 // A value of a setting.
-fn to_value(words: &[u8], row: usize, value: i32) -> Reply
-    requires { ⌜ now words ≡ wordTable ⌝ }
+fn to_value(table: &[u8], row: usize, value: i32) -> Reply
+    requires { ⌜ now table ≡ commandTable ⌝ }
     ensures { λ r. ⌜ RepliesWith (answerOf (kindOf row) value) r ⌝ }
 {
     let values = Settings::values_of(row);
     match values {
-        Values::Word => to_word(words, row, value),
+        Values::Word => to_word(table, row, value),
         Values::Tenths => Reply::Tenths(value),
         Values::Whole | Values::Bool => Reply::Whole(value),
     }
 }
 
 // What a query that sees settings and registers alone answers.
-fn to_query(words: &[u8], present: Present, query: Query) -> Reply
-    requires { ⌜ now words ≡ wordTable ⌝ }
+fn to_query(table: &[u8], present: Present, query: Query) -> Reply
+    requires { ⌜ now table ≡ commandTable ⌝ }
     ensures { λ r. ⌜ RepliesWith (replyTo query (coreIn (present .settings) (present .status))) r ⌝ }
 {
     match query {
         Query::Identity => Reply::Identity,
         Query::SelfTest => Reply::Number(0),
         Query::Completed => Reply::Number(1),
-        Query::Limit { row, value } => to_value(words, row, value),
-        Query::Value(row) => to_value(words, row, present.settings.value(row)),
+        Query::Limit { row, value } => to_value(table, row, value),
+        Query::Value(row) => to_value(table, row, present.settings.value(row)),
         Query::Stored(register) => Reply::Number(present.status.register(register)),
         Query::Condition => Reply::Number(present.status.operation.condition),
         Query::OperationEvents => Reply::Number(present.status.operation.event),
@@ -89,25 +89,25 @@ fn to_inquiry(status: Status, answers: bool, inquiry: Inquiry) -> Reply
 }
 
 // What a deed answers.
-pub(crate) fn to_deed(words: &[u8], present: Present, answers: bool, deed: Deed) -> Reply
-    requires { ⌜ now words ≡ wordTable ⌝ }
+pub(crate) fn to_deed(table: &[u8], present: Present, answers: bool, deed: Deed) -> Reply
+    requires { ⌜ now table ≡ commandTable ⌝ }
     ensures { λ r. ⌜ ReplyTo deed present answers r ⌝ }
 {
     match deed {
-        Deed::Query(query) => to_query(words, present, query),
+        Deed::Query(query) => to_query(table, present, query),
         Deed::Inquire(inquiry) => to_inquiry(present.status, answers, inquiry),
         _ => Reply::Nothing,
     }
 }
 
-fn write(words: &[u8], reply: Reply, tail: &mut [u8]) -> usize
-    requires { ⌜ (now words ≡ wordTable) × Stands reply ⌝ }
+fn write(table: &[u8], reply: Reply, tail: &mut [u8]) -> usize
+    requires { ⌜ (now table ≡ commandTable) × Stands reply ⌝ }
     ensures { λ r. ⌜ Laid (textOf reply) (now (tail .entry)) r (now (tail .exit)) ⌝ }
 {
     match reply {
         Reply::Nothing => 0,
         Reply::Identity => answer::write_text(b"COURSE,BENCH24,0,4.00", tail),
-        Reply::Word { start, end } => answer::write_text(&words[start..end], tail),
+        Reply::Word { start, end } => answer::write_text(&table[start..end], tail),
         Reply::Tenths(value) => answer::write_tenths(value, tail),
         Reply::Whole(value) => answer::write_whole(value, tail),
         Reply::Number(n) => answer::write_decimal(n as u32, tail),
@@ -118,8 +118,8 @@ fn write(words: &[u8], reply: Reply, tail: &mut [u8]) -> usize
 // Check 9: a reply is written behind the answers so far and their separator, which the first answer
 // overwrites. Gives where the answers end then; that is the buffer's end where they leave no room for
 // the newline.
-pub(crate) fn give(words: &[u8], reply: Reply, out: &mut [u8], answered: usize) -> usize
-    requires { ⌜ (now words ≡ wordTable) × Stands reply ⌝ }
+pub(crate) fn give(table: &[u8], reply: Reply, out: &mut [u8], answered: usize) -> usize
+    requires { ⌜ (now table ≡ commandTable) × Stands reply ⌝ }
     requires { ⌜ (answered < mostAnswer) × (length (now out) ≡ mostAnswer) ⌝ }
     ensures { λ r. ⌜ GivenTo reply answered (now (out .entry)) r (now (out .exit)) ⌝ }
 {
@@ -128,7 +128,7 @@ pub(crate) fn give(words: &[u8], reply: Reply, out: &mut [u8], answered: usize) 
     }
     out[answered] = 59;
     let start = answered + (answered != 0) as usize;
-    let n = write(words, reply, &mut out[start..]);
+    let n = write(table, reply, &mut out[start..]);
     if out.len() - start <= n {
         return out.len();
     }

@@ -4,7 +4,7 @@ ghost use mathlib.Core.Path.{_≡_};
 ghost use Prim.Native.Nat.{_≤_, _<_};
 ghost use lib.ListN.{length};
 ghost use Rattle.registers.specs.Words.{longForm, matches};
-ghost use Rattle.interpreter.specs.RowsParts.{rowTable, wordTable, wordAt, rowOf, named, agreed, formLength, WordTaken, wordCell, rowCell, wordIn, nodeOf, Walked, formBit};
+ghost use Rattle.interpreter.specs.RowsParts.{commandTable, wordAt, rowOf, named, agreed, formLength, WordTaken, wordCell, rowCell, wordIn, nodeOf, Walked, formBit};
 
 // How many rows there are.
 pub(crate) const ROWS: usize = 33;
@@ -18,42 +18,42 @@ enum Walk {
     Missed,
 }
 
-fn word_cell(words: &[u8], word: usize, i: usize) -> u8
-    requires { ⌜ (now words ≡ wordTable) × (word < 52) × (i < 16) ⌝ }
+fn word_cell(table: &[u8], word: usize, i: usize) -> u8
+    requires { ⌜ (now table ≡ commandTable) × (word < 52) × (i < 16) ⌝ }
     ensures { λ r. ⌜ r ≡ wordCell word i ⌝ }
 {
-    words[word * 16 + i]
+    table[word * 16 + i]
 }
 
-fn row_cell(rows: &[u8], row: usize, i: usize) -> u8
-    requires { ⌜ (now rows ≡ rowTable) × (row < 33) × (i < 8) ⌝ }
+fn row_cell(table: &[u8], row: usize, i: usize) -> u8
+    requires { ⌜ (now table ≡ commandTable) × (row < 33) × (i < 8) ⌝ }
     ensures { λ r. ⌜ r ≡ rowCell row i ⌝ }
 {
-    rows[row * 8 + i]
+    table[832 + row * 8 + i]
 }
 
 // Whether a word's short or its long form has so many letters.
-fn has_length(words: &[u8], word: usize, n: usize) -> bool
-    requires { ⌜ (now words ≡ wordTable) × (word < 52) ⌝ }
+fn has_length(table: &[u8], word: usize, n: usize) -> bool
+    requires { ⌜ (now table ≡ commandTable) × (word < 52) ⌝ }
     ensures { λ r. ⌜ r ≡ formLength word n ⌝ }
 {
-    let short = word_cell(words, word, 0) as usize;
-    let long = word_cell(words, word, 1) as usize;
+    let short = word_cell(table, word, 0) as usize;
+    let long = word_cell(table, word, 1) as usize;
     (n == short) | (n == long)
 }
 
 // How many first bytes of a text are a word's letters, in any letter case.
-fn agreed_letters(words: &[u8], text: &[u8], word: usize) -> usize
-    requires { ⌜ (now words ≡ wordTable) × (word < 52) ⌝ }
+fn agreed_letters(table: &[u8], text: &[u8], word: usize) -> usize
+    requires { ⌜ (now table ≡ commandTable) × (word < 52) ⌝ }
     ensures { λ r. ⌜ r ≡ agreed (now (text .entry)) (longForm (wordAt word)) ⌝ }
 {
-    let long = word_cell(words, word, 1) as usize;
+    let long = word_cell(table, word, 1) as usize;
     let mut n: usize = 0;
     while n < text.len() {
         if long <= n {
             return n;
         }
-        if text::in_capitals(text[n]) != word_cell(words, word, n + 2) {
+        if text::in_capitals(text[n]) != word_cell(table, word, n + 2) {
             return n;
         }
         n += 1;
@@ -62,29 +62,29 @@ fn agreed_letters(words: &[u8], text: &[u8], word: usize) -> usize
 }
 
 // Whether a name spells a word, in its short or its long form.
-pub(crate) fn is_word(words: &[u8], name: &[u8], word: usize) -> bool
-    requires { ⌜ (now words ≡ wordTable) × (word < 52) ⌝ }
+pub(crate) fn is_word(table: &[u8], name: &[u8], word: usize) -> bool
+    requires { ⌜ (now table ≡ commandTable) × (word < 52) ⌝ }
     ensures { λ r. ⌜ r ≡ matches (wordAt word) (now (name .entry)) ⌝ }
 {
-    let n = agreed_letters(words, name, word);
-    (n == name.len()) & has_length(words, word, n)
+    let n = agreed_letters(table, name, word);
+    (n == name.len()) & has_length(table, word, n)
 }
 
 // Takes a word as the name at a place, with the colon behind it. No letter is a colon, so one walk over
 // the letters finds the name's end too. Most names differ from a word in the first letter, so that is
 // compared before the walk begins.
-fn take_word(words: &[u8], text: &[u8], at: usize, word: usize) -> Walk
-    requires { ⌜ (now words ≡ wordTable) × (word < 52) ⌝ }
+fn take_word(table: &[u8], text: &[u8], at: usize, word: usize) -> Walk
+    requires { ⌜ (now table ≡ commandTable) × (word < 52) ⌝ }
     ensures { λ r. ⌜ WordTaken word (now (text .entry)) at r ⌝ }
 {
     if text.len() <= at {
         return Walk::Missed;
     }
-    if text::in_capitals(text[at]) != word_cell(words, word, 2) {
+    if text::in_capitals(text[at]) != word_cell(table, word, 2) {
         return Walk::Missed;
     }
-    let n = agreed_letters(words, &text[at..], word);
-    if !has_length(words, word, n) {
+    let n = agreed_letters(table, &text[at..], word);
+    if !has_length(table, word, n) {
         return Walk::Missed;
     }
     let end = at + n;
@@ -98,14 +98,14 @@ fn take_word(words: &[u8], text: &[u8], at: usize, word: usize) -> Walk
 }
 
 // Takes a row's node at the name that starts at a place, or leaves it out if it is optional.
-fn take_node(words: &[u8], text: &[u8], at: usize, node: u8) -> Walk
-    requires { ⌜ (now words ≡ wordTable) × (at ≤ length (now text)) × (wordIn node < 52) ⌝ }
+fn take_node(table: &[u8], text: &[u8], at: usize, node: u8) -> Walk
+    requires { ⌜ (now table ≡ commandTable) × (at ≤ length (now text)) × (wordIn node < 52) ⌝ }
     ensures { λ r. ⌜ Walked (nodeOf node) (now (text .entry)) at r ⌝ }
 {
     if node < 128 {
-        return take_word(words, text, at, node as usize);
+        return take_word(table, text, at, node as usize);
     }
-    let walk = take_word(words, text, at, (node - 128) as usize);
+    let walk = take_word(table, text, at, (node - 128) as usize);
     match walk {
         Walk::To(place) => Walk::To(place),
         Walk::Missed => Walk::To(at),
@@ -126,8 +126,8 @@ fn form_bit(star: bool, asked: bool) -> u8
 // The first row that spells the names of a text in the form asked for, or ROWS. At the first node
 // that is missed the inner loop is left and the next row is tried. A row that shares this node with
 // the row before misses it too; one that shares just the nodes that were passed goes on behind them.
-pub(crate) fn find(rows: &[u8], words: &[u8], text: &[u8], star: bool, asked: bool) -> usize
-    requires { ⌜ (now rows ≡ rowTable) × (now words ≡ wordTable) ⌝ }
+pub(crate) fn find(table: &[u8], text: &[u8], star: bool, asked: bool) -> usize
+    requires { ⌜ now table ≡ commandTable ⌝ }
     ensures { λ r. ⌜ r ≡ rowOf star (named (now (text .entry))) asked ⌝ }
 {
     let bit = form_bit(star, asked);
@@ -137,11 +137,11 @@ pub(crate) fn find(rows: &[u8], words: &[u8], text: &[u8], star: bool, asked: bo
     'rows: while next < ROWS {
         let row = next;
         next += 1;
-        let shared = row_cell(rows, row, 2) as usize;
+        let shared = row_cell(table, row, 2) as usize;
         if passed < shared {
             continue 'rows;
         }
-        if row_cell(rows, row, 0) & bit == 0 {
+        if row_cell(table, row, 0) & bit == 0 {
             passed = UNTRIED;
             continue 'rows;
         }
@@ -149,9 +149,9 @@ pub(crate) fn find(rows: &[u8], words: &[u8], text: &[u8], star: bool, asked: bo
             at = 0;
             passed = 0;
         }
-        let n = row_cell(rows, row, 1) as usize;
+        let n = row_cell(table, row, 1) as usize;
         while passed < n {
-            let walk = take_node(words, text, at, row_cell(rows, row, passed + 3));
+            let walk = take_node(table, text, at, row_cell(table, row, passed + 3));
             match walk {
                 Walk::To(place) => at = place,
                 Walk::Missed => continue 'rows,

@@ -6,9 +6,9 @@ use crate::state::ANSWER;
 use crate::state::LINE;
 use crate::state::Outcome;
 use crate::state::State;
-use crate::tables;
+use crate::table;
 ghost use mathlib.Core.Path.{_≡_};
-ghost use Rattle.interpreter.specs.RowsParts.{rowTable, wordTable};
+ghost use Rattle.interpreter.specs.RowsParts.{commandTable};
 ghost use Rattle.interpreter.specs.State.{numberOf};
 ghost use Rattle.interpreter.specs.FlowParts.{FlowFits};
 ghost use Rattle.interpreter.specs.Server.{Serves};
@@ -31,15 +31,14 @@ struct Progress {
 // Serves lines while the output has room for one answer more: each is received, and an answer that then waits is
 // taken behind those before it.
 fn lines(
-    rows: &[u8],
-    words: &[u8],
+    table: &[u8],
     start: Flow,
     line: &mut [u8; LINE],
     out: &mut [u8; ANSWER],
     input: &[u8],
     output: &mut [u8],
 ) -> Progress
-    requires { ⌜ (now rows ≡ rowTable) × (now words ≡ wordTable) ⌝ }
+    requires { ⌜ now table ≡ commandTable ⌝ }
     requires { ⌜ FlowFits start × (start .count ≡ 0) ⌝ }
     ensures { λ r. ⌜ FlowServed start (now (line .entry)) (now (out .entry)) (now (input .entry)) (now (output .entry)) r (now (line .exit)) (now (out .exit)) (now (output .exit)) ⌝ }
 {
@@ -47,7 +46,7 @@ fn lines(
     let mut read: usize = 0;
     let mut written: usize = 0;
     while (read < input.len()) & (ANSWER <= output.len() - written) {
-        let fed = flow::feed_line(rows, words, flow, line, out, input, read);
+        let fed = flow::feed_line(table, flow, line, out, input, read);
         flow = fed.flow;
         read = fed.next;
         written = flow::paste(out, flow.waiting, output, written);
@@ -76,8 +75,7 @@ pub fn serve(state: State, input: &[u8], output: &mut [u8]) -> Served
     let mut line = state.line;
     let mut answer = state.answer;
     let done = lines(
-        &tables::rows(),
-        &tables::words(),
+        &table::commands(),
         state::flow_of(state),
         &mut line,
         &mut answer,

@@ -2,7 +2,7 @@
 use crate::flow;
 use crate::flow::Flow;
 use crate::perform::Present;
-use crate::tables;
+use crate::table;
 use registers::error::Error;
 use registers::group::Group;
 use registers::settings::Settings;
@@ -147,8 +147,7 @@ impl State {
         let mut line = self.line;
         let mut answer = self.answer;
         let flow = flow::feed(
-            &tables::rows(),
-            &tables::words(),
+            &table::commands(),
             flow_of(self),
             &mut line,
             &mut answer,

@@ -17,7 +17,7 @@ ghost use lib.ListN.{length, take, drop};
 ghost use Rattle.registers.specs.Text.{every, white, printable};
 ghost use Rattle.interpreter.specs.Box.{mostLine};
 ghost use Rattle.interpreter.specs.Cuts.{trim, trimEnd};
-ghost use Rattle.interpreter.specs.RowsParts.{rowTable, wordTable};
+ghost use Rattle.interpreter.specs.RowsParts.{commandTable};
 ghost use Rattle.interpreter.specs.HeaderParts.{closed};
 ghost use Rattle.interpreter.specs.ParameterParts.{meantDeed};
 ghost use Rattle.interpreter.specs.UnitParts.{decided, UnitRead};
@@ -58,8 +58,8 @@ fn trimmed_end(text: &[u8]) -> usize
 }
 
 // Checks 2 to 8 behind the header, on the parameters' text without white space around it.
-fn decide(words: &[u8], settings: Settings, row: usize, asked: bool, text: &[u8]) -> Decision
-    requires { ⌜ (now words ≡ wordTable) × (row ≤ 33) × (trim (now text) ≡ now text) ⌝ }
+fn decide(table: &[u8], settings: Settings, row: usize, asked: bool, text: &[u8]) -> Decision
+    requires { ⌜ (now table ≡ commandTable) × (row ≤ 33) × (trim (now text) ≡ now text) ⌝ }
     ensures { λ r. ⌜ meantDeed r ≡ decided settings row asked (now (text .entry)) ⌝ }
 {
     let counted = parameter::count(text);
@@ -78,37 +78,36 @@ fn decide(words: &[u8], settings: Settings, row: usize, asked: bool, text: &[u8]
     if !asked & (parts < most) {
         return Decision::Refused(Error::MissingParameter);
     }
-    parameter::decide(words, settings, role, asked, parts, text)
+    parameter::decide(table, settings, role, asked, parts, text)
 }
 
 // The same on all that stands behind the header, which ends at a place of the unit.
 fn decide_behind(
-    words: &[u8],
+    table: &[u8],
     settings: Settings,
     row: usize,
     asked: bool,
     unit: &[u8],
     at: usize,
 ) -> Decision
-    requires { ⌜ (now words ≡ wordTable) × (row ≤ 33) × (at ≤ length (now unit)) ⌝ }
+    requires { ⌜ (now table ≡ commandTable) × (row ≤ 33) × (at ≤ length (now unit)) ⌝ }
     ensures { λ r. ⌜ meantDeed r ≡ decided settings row asked (trim (drop at (now (unit .entry)))) ⌝ }
 {
     let start = text::white_end(unit, at);
     let behind = &unit[start..];
     let end = trimmed_end(behind);
-    decide(words, settings, row, asked, &behind[0..end])
+    decide(table, settings, row, asked, &behind[0..end])
 }
 
 // Reads a unit after the path in the path's buffer.
 pub(crate) fn read(
-    rows: &[u8],
-    words: &[u8],
+    table: &[u8],
     settings: Settings,
     path: &mut [u8; LINE],
     used: usize,
     unit: &[u8],
 ) -> Reading
-    requires { ⌜ (now rows ≡ rowTable) × (now words ≡ wordTable) ⌝ }
+    requires { ⌜ now table ≡ commandTable ⌝ }
     requires { ⌜ (used + length (now unit) ≤ mostLine) × (closed (take used (now path)) ≡ true) ⌝ }
     ensures { λ r. ⌜ UnitRead settings (take used (now (path .entry))) (now (unit .entry)) r (now (path .exit)) ⌝ }
 {
@@ -117,7 +116,7 @@ pub(crate) fn read(
     }
     let start = text::white_end(unit, 0);
     let end = text::dark_end(unit, start);
-    let looked = header::look_up(rows, words, path, used, &unit[start..end]);
+    let looked = header::look_up(table, path, used, &unit[start..end]);
     match looked {
         Looked::Bad => Reading::Refused(Error::Syntax),
         Looked::At {
@@ -125,7 +124,7 @@ pub(crate) fn read(
             used: left,
             asked,
         } => {
-            let decision = decide_behind(words, settings, row, asked, unit, end);
+            let decision = decide_behind(table, settings, row, asked, unit, end);
             match decision {
                 Decision::Refused(e) => Reading::Refused(e),
                 Decision::Obey(deed) => Reading::Obey { deed, used: left },

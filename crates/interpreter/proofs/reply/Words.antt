@@ -1,7 +1,7 @@
 -- The table of words: where a word's short form stands in it, and the word of a setting by its place.
 use mathlib.Core.Path.{_≡_, refl, sym, _∙_}
 use mathlib.Core.Bool.{Bool, true, false, _&&_, _||_, false≢true}
-use mathlib.Core.List.{List, [], _++_}
+use mathlib.Core.List.{List, [], _++_, append-assoc}
 use Prim.Native.Nat.{ℕ, suc, _+_, _*_, _-_, _≤_, _<_}
 use Prim.Native.String.{String}
 use native.Mathlib.Nat.{add-zero}
@@ -17,12 +17,13 @@ use Rattle.registers.specs.Words.{shortForm, longForm}
 use Rattle.registers.specs.Settings.{wordText}
 use Rattle.registers.proofs.Tests.{and-both}
 use Rattle.interpreter.specs.ParameterParts.{takenWords}
-use Rattle.interpreter.specs.RowsParts.{wordList, wordAt, wordRow, wordTableOf, wordTable}
+use Rattle.interpreter.specs.RowsParts.{wordList, wordAt, wordRow, wordTableOf, wordTable, rowTable, commandTable}
 use Rattle.interpreter.specs.DeedsParts.{textOf, RepliesWith}
 use Rattle.interpreter.specs.declared.parameter.Takes.{Takes}
 use Rattle.interpreter.specs.declared.reply.Reply.the-variants.{Word}
 use Rattle.interpreter.proofs.Lists.{every-at, table-at}
 use Rattle.interpreter.proofs.rows.Greedy.{same-eq}
+use Rattle.interpreter.proofs.rows.Table.{words-from}
 
 -- ---- a word has its short form's length in its first cell and the short form from its third on
 
@@ -58,25 +59,30 @@ module _ (i : ℕ) (k : i < 52) where
       let q = and-both _ _ (every-at tidy wordList i "" all-tidy within) in
       (leb-true _ _ (q .0), same-eq _ _ (q .1))
 
-  from : drop (i * 16) wordTable ≡ wordRow (wordAt i) ++ wordTableOf (drop (suc i) wordList)
+  abbrev behind : Text
+  behind = wordTableOf (drop (suc i) wordList) ++ rowTable
+
+  from : drop (i * 16) commandTable ≡ wordRow (wordAt i) ++ behind
   unfolding wordTable wordTableOf wordAt
-  from = table-at wordRow 16 wordTableOf refl (λ x xs. refl) wordList all-wide i "" within
+  from =
+      let row = table-at wordRow 16 wordTableOf refl (λ x xs. refl) wordList all-wide i "" within in
+      words-from (i * 16) (omega arith) ∙ rw row (append-assoc (wordRow (wordAt i)) (wordTableOf (drop (suc i) wordList)) rowTable)
 
-  word-length : getD wordTable (i * 16) 0 ≡ length short
+  word-length : getD commandTable (i * 16) 0 ≡ length short
   unfolding wordRow
-  word-length = let e = getD-drop (i * 16) wordTable 0 0 in rw (add-zero, from) at (sym e)
+  word-length = let e = getD-drop (i * 16) commandTable 0 0 in rw (add-zero, from) at (sym e)
 
-  word-read : take (i * 16 + 2 + getD wordTable (i * 16) 0 - (i * 16 + 2)) (drop (i * 16 + 2) wordTable) ≡ short
+  word-read : take (i * 16 + 2 + getD commandTable (i * 16) 0 - (i * 16 + 2)) (drop (i * 16 + 2) commandTable) ≡ short
   word-read =
       let n : i * 16 + 2 + length short - (i * 16 + 2) ≡ length short = omega arith in
       let row = wordRow (wordAt i) in
       let l = row-long in
       let room : length short ≤ length (drop 2 row) = let t = tidy-is .0 in rw length-drop (omega arith) in
-      rw (word-length, n, ← drop-drop 2 (i * 16) wordTable, from, drop-append-le 2 row (wordTableOf (drop (suc i) wordList)) (omega arith))
-      (take-append-le (length short) (drop 2 row) (wordTableOf (drop (suc i) wordList)) room ∙ tidy-is .1)
+      rw (word-length, n, ← drop-drop 2 (i * 16) commandTable, from, drop-append-le 2 row behind (omega arith))
+      (take-append-le (length short) (drop 2 row) behind room ∙ tidy-is .1)
 
   -- what the code reads
-  pub word-said : (t : Text) → t ≡ wordTable → RepliesWith short (Word (i * 16 + 2) (i * 16 + 2 + getD t (i * 16) 0))
+  pub word-said : (t : Text) → t ≡ commandTable → RepliesWith short (Word (i * 16 + 2) (i * 16 + 2 + getD t (i * 16) 0))
   unfolding textOf
   word-said t e =
       let l = word-length in

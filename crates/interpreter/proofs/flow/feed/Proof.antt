@@ -6,22 +6,22 @@ use Rattle.interpreter.proofs.flow.feed.Statement.{statement}
 use Rattle.interpreter.proofs.flow.feed.Tie as tie
 
 abbrev Inv-loop : tie.InvT-loop
-Inv-loop rows words line₀ out₀ bytes flow₀ at₀ line out flow at = Feeding flow₀ line₀ out₀ bytes line out flow at
+Inv-loop table line₀ out₀ bytes flow₀ at₀ line out flow at = Feeding flow₀ line₀ out₀ bytes line out flow at
 
 abbrev μ-loop : tie.MeasureT-loop
-μ-loop rows words line₀ out₀ bytes flow₀ at₀ line out flow at = length bytes - at
+μ-loop table line₀ out₀ bytes flow₀ at₀ line out flow at = length bytes - at
 
 loop-holds : tie.Need-loop-holds Inv-loop μ-loop
 loop-holds c =
-    let a = c .before .before .before .args in
-    record { within = zero-le; fed = fed-none (a .start) (a .line .now) (a .out .now) (c .before .before .before .pre .1 .0) }
+    let a = c .before .before .args in
+    record { within = zero-le; fed = fed-none (a .start) (a .line .now) (a .out .now) (c .before .before .pre .1 .0) }
 
 feed-line-requires : tie.Need-feed-line-requires Inv-loop μ-loop
 feed-line-requires c κs =
-    let p = c .before .before .before .before .before .before .before .pre in
+    let p = c .before .before .before .before .before .before .pre in
     let g = c .before .before .before .loop .inv in
     let few = feed-few _ _ _ _ _ _ _ _ g (p .1 .1) in
-    let big = c .before .before .before .before .before .before .before .good .1 .1 .1 .1 .1 .0 in
+    let big = c .before .before .before .before .before .before .good .1 .1 .1 .1 .0 in
     (p .0, (g .fed .fits, omega arith, g .within))
 
 loop-less : tie.Need-loop-less Inv-loop μ-loop

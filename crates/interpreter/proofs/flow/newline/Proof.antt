@@ -24,18 +24,18 @@ part-run-line-end c = omega arith
 
 run-line-requires : tie.Need-run-line-requires
 run-line-requires c κs =
-    let p = c .before .before .before .before .before .before .pre in
+    let p = c .before .before .before .before .before .pre in
     let held = p .1 .0 .filled in
     let g = c .run-line-arg2 .given in
     (p .0, (rw (sub-zero, length-take) (omega arith), search needs, c .before .before .discard .ensures .queued (p .1 .0 .queued)))
 
-add-t13 : tie.Need-add-t13
-add-t13 c = omega arith
+add-t12 : tie.Need-add-t12
+add-t12 c = omega arith
 
 returns : tie.Need-returns
 unfolding piece byte newlines if_then_else_
 returns c =
-    let a = c .before .before .before .before .before .before .before .before .before .args in
+    let a = c .before .before .before .before .before .before .before .before .args in
     let f = a .flow in
     let g = c .before .before .before .run-line-arg2 .given in
     let outs : length (a .out .now) ≡ 1024 = search needs in
@@ -57,5 +57,5 @@ newline-spec =
     part-run-line-start
     part-run-line-end
     run-line-requires
-    add-t13
+    add-t12
     returns)

@@ -18,11 +18,11 @@ use Rattle.interpreter.proofs.header.look_up.Tie as tie
 
 -- what is known of the header once its body is read
 read : (c : tie.After-read-body)
-    → let t = c .before .before .before .before .before .before .before .args .header .now in
+    → let t = c .before .before .before .before .before .before .args .header .now in
     let e = c .before .before .body-end .result in
     Read t (take (e - 0) t) (ltb e (length t)) (c .read-body .result)
 read c =
-    let t = c .before .before .before .before .before .before .before .args .header .now in
+    let t = c .before .before .before .before .before .before .args .header .now in
     let e = c .before .before .body-end in
     read-body t (e .result) (c .read-body .result) (e .ensures) (c .read-body .ensures)
 
@@ -54,12 +54,12 @@ part-names-end : tie.Need-part-names-end
 part-names-end c = omega arith
 
 find-requires : tie.Need-find-requires
-find-requires c κs = c .before .before .before .before .before .before .before .before .before .before .before .pre .0
+find-requires c κs = c .before .before .before .before .before .before .before .before .before .before .pre .0
 
 returns-2 : tie.Need-returns-2
 returns-2 c =
     let r = c .before .before .before .before .before in
-    let o = r .before .before .before .before .before .before .before in
+    let o = r .before .before .before .before .before .before in
     let xs = o .args .path .now in
     let used = o .args .used in
     let l = length-take used xs in
@@ -71,7 +71,7 @@ abbrev read-at : tie.Joined3 → tie.After-read-body
 read-at c = c .before .before .before .before .before
 
 abbrev entry : tie.Joined3 → tie.Start
-entry c = read-at c .before .before .before .before .before .before .before
+entry c = read-at c .before .before .before .before .before .before
 
 abbrev behind : tie.Joined3 → Text
 behind c = take (c .if3 .from) (entry c .args .path .now)
@@ -107,7 +107,7 @@ copy-requires : tie.Need-copy-requires
 copy-requires c κs = let j = c .before .before in room-behind (entry j .args .path .now) (names-at j) (j .if3 .from) (fits j)
 
 add-all : tie.Need-add-all
-add-all c = let f = fits (c .before .before .before .before .before) in omega (arith, c .before .before .copy .ensures .0, c .before .before .before .before .before .before .before .before .before .before .before .before .before .before .before .before .before .good)
+add-all c = let f = fits (c .before .before .before .before .before) in omega (arith, c .before .before .copy .ensures .0, c .before .before .before .before .before .before .before .before .before .before .before .before .before .before .before .before .good)
 
 sub-find : tie.Need-sub-find
 sub-find c = omega arith
@@ -119,7 +119,7 @@ part-find-end : tie.Need-part-find-end
 part-find-end c = let f = fits (c .before .before .before .before .before .before) in omega (arith, c .before .before .before .copy .ensures .0)
 
 find-requires-2 : tie.Need-find-requires-2
-find-requires-2 c κs = c .before .before .before .before .before .before .before .before .before .before .before .before .before .before .before .before .before .before .before .pre .0
+find-requires-2 c κs = c .before .before .before .before .before .before .before .before .before .before .before .before .before .before .before .before .before .before .pre .0
 
 sub-path-end : tie.Need-sub-path-end
 sub-path-end c = omega arith

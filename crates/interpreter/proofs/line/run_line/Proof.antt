@@ -12,12 +12,12 @@ raise-requires c κs = tt
 
 returns : tie.Need-returns
 returns c =
-    let a = c .before .before .before .before .before .before .args in
-    let s = c .before .before .before .before .before .before .good .1 .1 .0 .1 .1 .1 .0 .1 .1 in
+    let a = c .before .before .before .before .before .args in
+    let s = c .before .before .before .before .before .good .1 .0 .1 .1 .1 .0 .1 .1 in
     let long : length (a .present .status .errors) ≡ 16 = search needs in
     let raised = c .raise .ensures in
     record {
-      queued = rw raised (raised-short _ (a .present) long (c .before .before .before .before .before .before .pre .1 .2));
+      queued = rw raised (raised-short _ (a .present) long (c .before .before .before .before .before .pre .1 .2));
       room = omega arith;
       box = rw raised (line-overlong (a .present) (a .line .now) (a .overlong) long (c .before .if1 .taken));
     }
@@ -27,22 +27,22 @@ white-end-requires c κs = tt
 
 returns-2 : tie.Need-returns-2
 returns-2 c =
-    let a = c .before .before .before .before .before .before .before .args in
+    let a = c .before .before .before .before .before .before .args in
     record {
-      queued = c .before .before .before .before .before .before .before .pre .1 .2;
+      queued = c .before .before .before .before .before .before .pre .1 .2;
       room = omega arith;
       box = line-blank (a .present) (a .line .now) (a .overlong) (c .before .before .if1 .left) (blank (a .line .now) (c .before .white-end .result) (c .before .white-end .ensures) (c .if2 .taken));
     }
 
 run-units-requires : tie.Need-run-units-requires
-run-units-requires c κs = c .before .before .before .before .before .before .before .before .pre
+run-units-requires c κs = c .before .before .before .before .before .before .before .pre
 
 same-length : tie.Need-same-length
 same-length c = omega arith
 
 returns-3 : tie.Need-returns-3
 returns-3 c =
-    let a = c .before .before .before .before .before .before .before .before .before .before .before .before .args in
+    let a = c .before .before .before .before .before .before .before .before .before .before .before .args in
     let r = c .before .before .before .run-units in
     let w = r .ensures in
     let room = w .room in
@@ -64,12 +64,12 @@ same-length-2 c = search needs
 
 returns-4 : tie.Need-returns-4
 returns-4 c =
-    let a = c .before .before .before .before .before .before .before .before .before .before .before .before .args in
+    let a = c .before .before .before .before .before .before .before .before .before .before .before .args in
     let r = c .before .before .before .run-units in
     let w = r .ensures in
     let room = w .room in
     let k = r .kept in
-    let was = c .before .before .before .before .before .before .before .before .before .before .before .before .pre .1 .1 in
+    let was = c .before .before .before .before .before .before .before .before .before .before .before .pre .1 .1 in
     let dark = not-blank (a .line .now) (c .before .before .before .before .before .before .white-end .result) (c .before .before .before .before .before .before .white-end .ensures) (c .before .before .before .before .before .if2 .left) in
     record {
       queued = w .queued;

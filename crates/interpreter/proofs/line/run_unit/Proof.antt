@@ -6,7 +6,7 @@ use Rattle.interpreter.proofs.line.run_unit.Tie as tie
 
 read-requires : tie.Need-read-requires
 read-requires c κs =
-    let p = c .before .before .before .before .before .pre in
+    let p = c .before .before .before .before .pre in
     (p .0, p .1 .0)
 
 enum-known-reading : tie.Need-enum-known-reading
@@ -17,10 +17,10 @@ refuse-requires c κs = tt
 
 returns : tie.Need-returns
 returns c =
-    let a = c .before .before .before .before .before .before .before .before .before .before .args in
-    let p = c .before .before .before .before .before .before .before .before .before .before .pre in
+    let a = c .before .before .before .before .before .before .before .before .before .args in
+    let p = c .before .before .before .before .before .before .before .before .before .pre in
     let read = c .before .before .before .before .read in
-    unit-refused (a .done) (take (a .done .used) (a .path .now)) (a .unit .now) (read .last .1 .1 .1 .0) (read .result) (read .ensures)
+    unit-refused (a .done) (take (a .done .used) (a .path .now)) (a .unit .now) (read .last .1 .1 .0) (read .result) (read .ensures)
     (a .out .now) _ (c .before .before .reading .given .1) (c .refuse .result) (c .refuse .ensures) (p .1 .1 .2) (p .1 .1 .0)
 
 enum-known-reading-2 : tie.Need-enum-known-reading-2
@@ -28,21 +28,21 @@ enum-known-reading-2 c = omega arith
 
 perform-requires : tie.Need-perform-requires
 perform-requires c κs =
-    let a = c .before .before .before .before .before .before .before .before .before .before .args in
-    let p = c .before .before .before .before .before .before .before .before .before .before .pre in
+    let a = c .before .before .before .before .before .before .before .before .before .args in
+    let p = c .before .before .before .before .before .before .before .before .before .pre in
     let read = c .before .before .before .before .read in
-    let allowed = unit-allowed (a .done) (take (a .done .used) (a .path .now)) (a .unit .now) (read .last .1 .1 .1 .0) (read .result) (read .ensures) _ _ (c .before .before .reading2 .given .1) in
-    ((p .0 .1, allowed), p .1 .1)
+    let allowed = unit-allowed (a .done) (take (a .done .used) (a .path .now)) (a .unit .now) (read .last .1 .1 .0) (read .result) (read .ensures) _ _ (c .before .before .reading2 .given .1) in
+    ((p .0, allowed), p .1 .1)
 
 same-length : tie.Need-same-length
 same-length c = omega arith
 
 returns-2 : tie.Need-returns-2
 returns-2 c =
-    let a = c .before .before .before .before .before .before .before .before .before .before .before .before .before .before .args in
+    let a = c .before .before .before .before .before .before .before .before .before .before .before .before .before .args in
     let read = c .before .before .before .before .before .before .before .before .read in
     let performed = c .before .before .before .perform in
-    unit-obeyed (a .done) (take (a .done .used) (a .path .now)) (a .unit .now) (read .last .1 .1 .1 .0) (read .result) (read .ensures)
+    unit-obeyed (a .done) (take (a .done .used) (a .path .now)) (a .unit .now) (read .last .1 .1 .0) (read .result) (read .ensures)
     (a .out .now) _ _ (c .before .before .before .before .before .before .reading2 .given .1) (performed .result) (performed .last .1 .1 .1 .0) (performed .ensures)
 
 pub run-unit-spec : {M : Type 1} → statement M

@@ -9,15 +9,15 @@ use Rattle.interpreter.proofs.line.run_units.Statement.{statement}
 use Rattle.interpreter.proofs.line.run_units.Tie as tie
 
 abbrev Inv-loop : tie.InvT-loop
-Inv-loop rows words line out₀ done₀ path₀ at₀ out done path at = Going (boxIn (done₀ .present) []) line path out done at
+Inv-loop table line out₀ done₀ path₀ at₀ out done path at = Going (boxIn (done₀ .present) []) line path out done at
 
 abbrev μ-loop : tie.MeasureT-loop
-μ-loop rows words line out₀ done₀ path₀ at₀ out done path at = length line - at
+μ-loop table line out₀ done₀ path₀ at₀ out done path at = length line - at
 
 loop-holds : tie.Need-loop-holds Inv-loop μ-loop
 loop-holds c =
-    let a = c .before .before .before .before .args in
-    let p = c .before .before .before .before .pre in
+    let a = c .before .before .before .args in
+    let p = c .before .before .before .pre in
     going-start (a .present) _ (a .line .now) _ (a .out .now) (p .1 .2) (p .1 .1)
 
 find-requires : tie.Need-find-requires Inv-loop μ-loop
@@ -36,20 +36,20 @@ part-run-unit-end c = c .before .find .ensures .1
 
 run-unit-requires : tie.Need-run-unit-requires Inv-loop μ-loop
 run-unit-requires c κs =
-    let p = c .before .before .before .before .before .before .before .before .before .pre in
+    let p = c .before .before .before .before .before .before .before .before .pre in
     let g = c .before .before .before .before .loop .inv in
     let fits = p .1 .0 in
     let behind = g .behind in
     let ends = c .before .before .before .find .ensures .1 in
-    let l = length-take (c .before .before .before .find .result - c .before .before .before .before .loop .at) (drop (c .before .before .before .before .loop .at) (c .before .before .before .before .before .before .before .before .before .args .line .now)) in
-    let d = length-drop (c .before .before .before .before .loop .at) (c .before .before .before .before .before .before .before .before .before .args .line .now) in
+    let l = length-take (c .before .before .before .find .result - c .before .before .before .before .loop .at) (drop (c .before .before .before .before .loop .at) (c .before .before .before .before .before .before .before .before .args .line .now)) in
+    let d = length-drop (c .before .before .before .before .loop .at) (c .before .before .before .before .before .before .before .before .args .line .now) in
     (p .0, ((omega arith, g .shut), (g .answers, g .long, g .queued)))
 
 same-length : tie.Need-same-length Inv-loop μ-loop
 same-length c =
     let k = c .before .before .before .before .before .run-unit .kept in
     let long = c .before .before .before .before .before .before .before .before .before .before .loop .inv .long in
-    let was = c .before .before .before .before .before .before .before .before .before .before .before .before .before .before .before .pre .1 .1 in
+    let was = c .before .before .before .before .before .before .before .before .before .before .before .before .before .before .pre .1 .1 in
     omega arith
 
 returns : tie.Need-returns Inv-loop μ-loop
@@ -66,7 +66,7 @@ returns c =
 add-at : tie.Need-add-at Inv-loop μ-loop
 add-at c =
     let ends = c .before .before .before .before .before .before .before .before .find .ensures .1 in
-    omega (arith, c .before .before .before .before .before .before .before .before .before .before .before .before .before .before .good)
+    omega (arith, c .before .before .before .before .before .before .before .before .before .before .before .before .before .good)
 
 loop-less : tie.Need-loop-less Inv-loop μ-loop
 loop-less c =

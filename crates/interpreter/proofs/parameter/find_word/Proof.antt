@@ -7,10 +7,10 @@ use Rattle.interpreter.proofs.parameter.find_word.Statement.{statement}
 use Rattle.interpreter.proofs.parameter.find_word.Tie as tie
 
 abbrev Inv-loop : tie.InvT-loop
-Inv-loop words takes text n₀ n = Searching (takes .first) (takes .count) text n
+Inv-loop table takes text n₀ n = Searching (takes .first) (takes .count) text n
 
 abbrev μ-loop : tie.MeasureT-loop
-μ-loop words takes text n₀ n = takes .count - n
+μ-loop table takes text n₀ n = takes .count - n
 
 loop-holds : tie.Need-loop-holds Inv-loop μ-loop
 loop-holds c = record { room = c .before .before .pre .1; left = refl }

@@ -11,7 +11,7 @@ use Rattle.registers.proofs.answer.Signs.{size-plus}
 use Rattle.interpreter.specs.Parameter.{wordsOf}
 use Rattle.interpreter.specs.RowsParts.{wordAt}
 use Rattle.interpreter.specs.DeedsParts.{placeText, textOf}
-use Rattle.interpreter.proofs.rows.Words.{words-long}
+use Rattle.interpreter.proofs.rows.Table.{commands-long}
 use Rattle.interpreter.proofs.reply.Words.{word-said, place-none, place-word, not-minus}
 use Rattle.interpreter.proofs.reply.to_word.Statement.{statement}
 use Rattle.interpreter.proofs.reply.to_word.Tie as tie
@@ -73,7 +73,7 @@ shared-slice-read-t14 : tie.Need-shared-slice-read-t14
 shared-slice-read-t14 c =
     let e = c .before .before in
     let h = at-word e .0 in
-    rw (entry e .pre .0, words-long) (omega arith)
+    rw (entry e .pre .0, commands-long) (omega arith)
 
 cast-t11 : tie.Need-cast-t11
 cast-t11 c = omega (arith, c .shared-slice-known2 .given (word (c .before .before) * 16))
@@ -87,7 +87,7 @@ returns-2 : tie.Need-returns-2
 returns-2 c =
     let e = c .before .before in
     let w = at-word e in
-    rw (w .1) (word-said (word e) (w .0) (entry e .args .words .now) (entry e .pre .0))
+    rw (w .1) (word-said (word e) (w .0) (entry e .args .table .now) (entry e .pre .0))
 
 pub to-word-spec : {M : Type 1} → statement M
 to-word-spec =

@@ -8,7 +8,7 @@ use mir.Facts.{toZ-ofZ}
 use Rattle.registers.specs.Text.{bytes}
 use Rattle.registers.proofs.answer.Laws.{laid-whole, laid-none}
 use Rattle.interpreter.specs.DeedsParts.{textOf}
-use Rattle.interpreter.proofs.rows.Words.{words-long}
+use Rattle.interpreter.proofs.rows.Table.{commands-long}
 use Rattle.interpreter.proofs.reply.write.Statement.{statement}
 use Rattle.interpreter.proofs.reply.write.Tie as tie
 
@@ -40,7 +40,7 @@ part-write-text-start c =
 part-write-text-end : tie.Need-part-write-text-end
 part-write-text-end c =
     let h = rw (c .before .reply .given .1) at (c .before .before .before .before .before .pre .1) in
-    let l = ap length (c .before .before .before .before .before .pre .0) ∙ words-long in
+    let l = ap length (c .before .before .before .before .before .pre .0) ∙ commands-long in
     let k = h .1 in
     omega arith
 

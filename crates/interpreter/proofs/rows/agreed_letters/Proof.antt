@@ -8,10 +8,10 @@ use Rattle.interpreter.proofs.rows.agreed_letters.Statement.{statement}
 use Rattle.interpreter.proofs.rows.agreed_letters.Tie as tie
 
 abbrev Inv-loop : tie.InvT-loop
-Inv-loop words text word long n₀ n = Agreeing text word n
+Inv-loop table text word long n₀ n = Agreeing text word n
 
 abbrev μ-loop : tie.MeasureT-loop
-μ-loop words text word long n₀ n = length text - n
+μ-loop table text word long n₀ n = length text - n
 
 word-cell-requires : tie.Need-word-cell-requires Inv-loop μ-loop
 word-cell-requires c κs = (c .before .before .pre .0, c .before .before .pre .1, omega arith)

@@ -7,16 +7,16 @@ use Rattle.interpreter.proofs.rows.find.Statement.{statement}
 use Rattle.interpreter.proofs.rows.find.Tie as tie
 
 abbrev Inv-loop : tie.InvT-loop
-Inv-loop rows words text star asked bit at₀ passed₀ next row shared n at passed = Trying star asked text n row at passed
+Inv-loop table text star asked bit at₀ passed₀ next row shared n at passed = Trying star asked text n row at passed
 
 abbrev μ-loop : tie.MeasureT-loop
-μ-loop rows words text star asked bit at₀ passed₀ next row shared n at passed = n - passed
+μ-loop table text star asked bit at₀ passed₀ next row shared n at passed = n - passed
 
 abbrev Inv-rows : tie.InvT-rows
-Inv-rows rows words text star asked bit at₀ passed₀ next₀ at passed next = Searching star asked text next at passed
+Inv-rows table text star asked bit at₀ passed₀ next₀ at passed next = Searching star asked text next at passed
 
 abbrev μ-rows : tie.MeasureT-rows
-μ-rows rows words text star asked bit at₀ passed₀ next₀ at passed next = 33 - next
+μ-rows table text star asked bit at₀ passed₀ next₀ at passed next = 33 - next
 
 form-bit-requires : tie.Need-form-bit-requires Inv-loop μ-loop Inv-rows μ-rows
 form-bit-requires c κs = tt
@@ -28,7 +28,7 @@ add-next : tie.Need-add-next Inv-loop μ-loop Inv-rows μ-rows
 add-next c = omega arith
 
 row-cell-requires : tie.Need-row-cell-requires Inv-loop μ-loop Inv-rows μ-rows
-row-cell-requires c κs = (c .before .before .before .before .before .before .pre .0, c .rows-test .taken, omega arith)
+row-cell-requires c κs = (c .before .before .before .before .before .pre, c .rows-test .taken, omega arith)
 
 cast-shared : tie.Need-cast-shared Inv-loop μ-loop Inv-rows μ-rows
 cast-shared c = omega arith
@@ -42,7 +42,7 @@ rows-again c =
     skip-shared (c .before .before .rows-test .taken) (o .rows .inv) (c .before .row-cell .ensures) (c .if1 .taken)
 
 row-cell-requires-2 : tie.Need-row-cell-requires-2 Inv-loop μ-loop Inv-rows μ-rows
-row-cell-requires-2 c κs = (c .before .before .before .before .before .before .before .before .pre .0, c .before .before .rows-test .taken, omega arith)
+row-cell-requires-2 c κs = (c .before .before .before .before .before .before .before .pre, c .before .before .rows-test .taken, omega arith)
 
 rows-less-2 : tie.Need-rows-less-2 Inv-loop μ-loop Inv-rows μ-rows
 rows-less-2 c = omega arith
@@ -54,7 +54,7 @@ rows-again-2 c =
     skip-unformed (c .before .before .before .before .rows-test .taken) (o .rows .inv) f
 
 row-cell-requires-3 : tie.Need-row-cell-requires-3 Inv-loop μ-loop Inv-rows μ-rows
-row-cell-requires-3 c κs = (c .before .before .before .before .before .before .before .before .before .before .before .pre .0, c .before .before .before .before .before .rows-test .taken, omega arith)
+row-cell-requires-3 c κs = (c .before .before .before .before .before .before .before .before .before .before .pre, c .before .before .before .before .before .rows-test .taken, omega arith)
 
 cast-n : tie.Need-cast-n Inv-loop μ-loop Inv-rows μ-rows
 cast-n c = omega arith
@@ -84,14 +84,14 @@ row-cell-requires-4 c κs =
     let w = c .before .before .loop .inv in
     let o = c .before .before .before .before .before .before .before .before .before .before in
     let f = nodes-fit _ (w .known) in
-    (o .before .before .before .before .before .pre .0, w .known, omega arith)
+    (o .before .before .before .before .pre, w .known, omega arith)
 
 take-node-requires : tie.Need-take-node-requires Inv-loop μ-loop Inv-rows μ-rows
 take-node-requires c κs =
     let l = c .before .before .before .loop in
     let o = c .before .before .before .before .before .before .before .before .before .before .before in
     let k = node-known _ (l .inv .known) (l .passed) (omega arith) in
-    (o .before .before .before .before .before .pre .1, l .inv .within, rw (c .row-cell4 .ensures) k)
+    (o .before .before .before .before .pre, l .inv .within, rw (c .row-cell4 .ensures) k)
 
 enum-known-walk : tie.Need-enum-known-walk Inv-loop μ-loop Inv-rows μ-rows
 enum-known-walk c = omega arith

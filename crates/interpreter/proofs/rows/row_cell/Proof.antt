@@ -1,8 +1,7 @@
 use mathlib.Core.Path.{ap}
 use native.Mathlib.Omega.{arith}
 use lib.ListN.{length}
-use Rattle.interpreter.specs.RowsParts.{rowCell}
-use Rattle.interpreter.proofs.rows.Rows.{table-long}
+use Rattle.interpreter.proofs.rows.Table.{commands-long, row-byte}
 use Rattle.interpreter.proofs.rows.row_cell.Statement.{statement}
 use Rattle.interpreter.proofs.rows.row_cell.Tie as tie
 
@@ -12,12 +11,14 @@ mul-result c = omega arith
 add-result : tie.Need-add-result
 add-result c = omega arith
 
+add-result-2 : tie.Need-add-result-2
+add-result-2 c = omega arith
+
 shared-slice-read-result : tie.Need-shared-slice-read-result
-shared-slice-read-result c = let e = ap length (c .before .pre .0) in let l = table-long in omega arith
+shared-slice-read-result c = let e = ap length (c .before .pre .0) in let l = commands-long in omega arith
 
 returns : tie.Need-returns
-unfolding rowCell
-returns c = rw (c .before .pre .0)
+returns c = rw (c .before .pre .0) (row-byte _ _)
 
 pub row-cell-spec : {M : Type 1} → statement M
-row-cell-spec = tie.close (tie.spec mul-result add-result shared-slice-read-result returns)
+row-cell-spec = tie.close (tie.spec mul-result add-result add-result-2 shared-slice-read-result returns)

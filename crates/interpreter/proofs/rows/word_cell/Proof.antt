@@ -1,8 +1,7 @@
 use mathlib.Core.Path.{ap}
 use native.Mathlib.Omega.{arith}
 use lib.ListN.{length}
-use Rattle.interpreter.specs.RowsParts.{wordCell}
-use Rattle.interpreter.proofs.rows.Words.{words-long}
+use Rattle.interpreter.proofs.rows.Table.{commands-long, word-byte}
 use Rattle.interpreter.proofs.rows.word_cell.Statement.{statement}
 use Rattle.interpreter.proofs.rows.word_cell.Tie as tie
 
@@ -13,11 +12,10 @@ add-result : tie.Need-add-result
 add-result c = omega arith
 
 shared-slice-read-result : tie.Need-shared-slice-read-result
-shared-slice-read-result c = let e = ap length (c .before .pre .0) in let l = words-long in omega arith
+shared-slice-read-result c = let e = ap length (c .before .pre .0) in let l = commands-long in omega arith
 
 returns : tie.Need-returns
-unfolding wordCell
-returns c = rw (c .before .pre .0)
+returns c = rw (c .before .pre .0) (word-byte _ _ (c .before .pre .1) (c .before .pre .2))
 
 pub word-cell-spec : {M : Type 1} → statement M
 word-cell-spec = tie.close (tie.spec mul-result add-result shared-slice-read-result returns)

@@ -11,16 +11,16 @@ use Rattle.interpreter.proofs.server.lines.Statement.{statement}
 use Rattle.interpreter.proofs.server.lines.Tie as tie
 
 abbrev Inv-loop : tie.InvT-loop
-Inv-loop rows words line₀ out₀ input output₀ flow₀ read₀ written₀ line out output flow read written =
+Inv-loop table line₀ out₀ input output₀ flow₀ read₀ written₀ line out output flow read written =
     Serving (service (flowBox flow₀ line₀ out₀) 0 [] output₀) (length output₀) input line out output flow read written
 
 abbrev μ-loop : tie.MeasureT-loop
-μ-loop rows words line₀ out₀ input output₀ flow₀ read₀ written₀ line out output flow read written =
+μ-loop table line₀ out₀ input output₀ flow₀ read₀ written₀ line out output flow read written =
     length input - read
 
 loop-holds : tie.Need-loop-holds Inv-loop μ-loop
 loop-holds c =
-    let p = c .before .before .before .before .pre in
+    let p = c .before .before .before .pre in
     record { fits = p .1 .0; few = (let z = p .1 .1 in omega arith); outputs = refl; read-in = zero-le; wrote = zero-le; left = refl }
 
 sub-loop : tie.Need-sub-loop Inv-loop μ-loop
@@ -30,14 +30,14 @@ feed-line-requires : tie.Need-feed-line-requires Inv-loop μ-loop
 feed-line-requires c κs =
     let g = c .before .before .before .loop .inv in
     let few = g .few in
-    let big = c .before .before .before .before .before .before .before .before .good .1 .1 .1 .1 .1 .0 in
+    let big = c .before .before .before .before .before .before .before .good .1 .1 .1 .1 .0 in
     let more = g .read-in in
-    (c .before .before .before .before .before .before .before .before .pre .0, (g .fits, omega arith, g .read-in))
+    (c .before .before .before .before .before .before .before .pre .0, (g .fits, omega arith, g .read-in))
 
 paste-requires : tie.Need-paste-requires Inv-loop μ-loop
 paste-requires c κs =
     let few = c .before .before .before .before .feed-line .ensures .0 .fits .waiting in
-    let outs : length (c .before .before .before .before .feed-line .last .1 .1 .1 .1 .0) ≡ 1024 = search needs in
+    let outs : length (c .before .before .before .before .feed-line .last .1 .1 .1 .0) ≡ 1024 = search needs in
     let free = more-room _ _ _ _ _ _ _ _ _ (c .before .before .before .before .before .before .before .before .loop .inv) (c .before .before .before .before .before .before .before .loop-test .taken) in
     (omega arith, omega arith)
 

@@ -13,23 +13,17 @@ returns c =
     let a = c .before .before .before .before .args in
     refused-chunk (a .state) _ (c .before .possible .ensures) (a .input .now) (a .output .now) (c .if1 .taken)
 
-rows-requires : tie.Need-rows-requires
-rows-requires c κs = tt
+commands-requires : tie.Need-commands-requires
+commands-requires c κs = tt
 
 slice-aggregate-lines : tie.Need-slice-aggregate-lines
 slice-aggregate-lines c = omega arith
-
-words-requires : tie.Need-words-requires
-words-requires c κs = tt
-
-slice-aggregate-lines-2 : tie.Need-slice-aggregate-lines-2
-slice-aggregate-lines-2 c = omega arith
 
 flow-of-requires : tie.Need-flow-of-requires
 flow-of-requires c κs = tt
 
 lines-requires : tie.Need-lines-requires
-lines-requires c κs = ((c .before .before .before .before .before .before .before .rows .ensures, c .before .before .before .before .before .words .ensures), rw (c .before .before .before .flow-of .ensures) (flow-fits _ _ (c .before .before .before .before .before .before .before .before .before .before .before .possible .ensures) (c .before .before .before .before .before .before .before .before .before .before .if1 .left), refl))
+lines-requires c κs = (c .before .before .before .before .before .commands .ensures, rw (c .before .before .before .flow-of .ensures) (flow-fits _ _ (c .before .before .before .before .before .before .before .before .before .possible .ensures) (c .before .before .before .before .before .before .before .before .if1 .left), refl))
 
 state-of-requires : tie.Need-state-of-requires
 state-of-requires c κs = tt
@@ -39,10 +33,10 @@ same-length c = omega arith
 
 returns-2 : tie.Need-returns-2
 returns-2 c =
-    let a = c .before .before .before .before .before .before .before .before .before .before .before .before .before .before .before .before .before .before .args in
+    let a = c .before .before .before .before .before .before .before .before .before .before .before .before .before .before .before .before .args in
     let served = c .before .before .before .lines in
     rw (c .state-of .ensures)
-    (served-chunk (a .state) _ (c .before .before .before .before .before .before .before .before .before .before .before .before .before .before .before .possible .ensures) (a .input .now) (a .output .now) (c .before .before .before .before .before .before .before .before .before .before .before .before .before .before .if1 .left) (served .result) _ _ _ (rw (c .before .before .before .before .before .before .before .flow-of .ensures) at (served .ensures)))
+    (served-chunk (a .state) _ (c .before .before .before .before .before .before .before .before .before .before .before .before .before .possible .ensures) (a .input .now) (a .output .now) (c .before .before .before .before .before .before .before .before .before .before .before .before .if1 .left) (served .result) _ _ _ (rw (c .before .before .before .before .before .before .before .flow-of .ensures) at (served .ensures)))
 
 pub serve-spec : {M : Type 1} → statement M
 serve-spec =
@@ -50,10 +44,8 @@ serve-spec =
     (tie.spec
     possible-requires
     returns
-    rows-requires
+    commands-requires
     slice-aggregate-lines
-    words-requires
-    slice-aggregate-lines-2
     flow-of-requires
     lines-requires
     state-of-requires

@@ -14,7 +14,7 @@ use Rattle.interpreter.proofs.unit.read.Tie as tie
 
 -- once the header's end is known
 abbrev entry : tie.After-dark-end → tie.Start
-entry p = p .before .before .before .before .before .before .before
+entry p = p .before .before .before .before .before .before
 
 abbrev unit-of : tie.After-dark-end → Text
 unit-of p = entry p .args .unit .now
@@ -38,7 +38,7 @@ dark-at p = p .before .before .before .before .before
 row-found : (p : tie.After-looked)
     → let d = dark-at p in
     let v = p .looked .given .0 in
-    let buffer = p .before .before .look-up .last .1 .1 .0 in
+    let buffer = p .before .before .look-up .last .1 .0 in
     Headed (entry d .args .settings) (path-of d) (unit-of d) (v .0) (v .1 .0) (v .1 .1 .0) buffer
 row-found p =
     let d = dark-at p in
@@ -50,7 +50,7 @@ all-allowed-requires c κs = tt
 
 returns : tie.Need-returns
 returns c =
-    let a = c .before .before .before .before .before .args in
+    let a = c .before .before .before .before .args in
     let k = sym (c .before .all-allowed .ensures) ∙ not-true _ (c .if1 .taken) in
     bad-byte (a .settings) (named (take (a .used) (a .path .now))) (a .unit .now) k
 
@@ -88,7 +88,7 @@ decide-behind-requires : tie.Need-decide-behind-requires
 decide-behind-requires c κs =
     let l = c .before in
     let d = dark-at l in
-    (entry d .pre .0 .1, row-found l .within, ran d .within)
+    (entry d .pre .0, row-found l .within, ran d .within)
 
 enum-known-decision : tie.Need-enum-known-decision
 enum-known-decision c = omega arith
@@ -100,7 +100,7 @@ returns-2 : tie.Need-returns-2
 returns-2 c =
     let d = c .before .before .before .before .before in
     let k = c .before .before .look-up in
-    bad-header (entry d .args .settings) (path-of d) (unit-of d) (k .last .1 .1 .0) (clean d) (header-of d) (ran d .is)
+    bad-header (entry d .args .settings) (path-of d) (unit-of d) (k .last .1 .0) (clean d) (header-of d) (ran d .is)
     (k .ensures) (c .enum-told .given .1)
 
 returns-3 : tie.Need-returns-3

@@ -14,35 +14,29 @@ returns c =
     let a = c .before .before .before .args in
     refused-4 (a .self) (received (a .bytes .now)) _ (c .before .possible .ensures) (c .if1 .taken)
 
-rows-requires : tie.Need-rows-requires
-rows-requires c κs = tt
+commands-requires : tie.Need-commands-requires
+commands-requires c κs = tt
 
 slice-aggregate-feed : tie.Need-slice-aggregate-feed
 slice-aggregate-feed c = omega arith
-
-words-requires : tie.Need-words-requires
-words-requires c κs = tt
-
-slice-aggregate-feed-2 : tie.Need-slice-aggregate-feed-2
-slice-aggregate-feed-2 c = omega arith
 
 flow-of-requires : tie.Need-flow-of-requires
 flow-of-requires c κs = tt
 
 feed-requires : tie.Need-feed-requires
-feed-requires c κs = ((c .before .before .before .before .before .before .rows .ensures, c .before .before .before .before .words .ensures), rw (c .before .before .flow-of .ensures) (flow-fits _ _ (c .before .before .before .before .before .before .before .before .before .before .possible .ensures) (c .before .before .before .before .before .before .before .before .before .if1 .left), refl))
+feed-requires c κs = (c .before .before .before .before .commands .ensures, rw (c .before .before .flow-of .ensures) (flow-fits _ _ (c .before .before .before .before .before .before .before .before .possible .ensures) (c .before .before .before .before .before .before .before .if1 .left), refl))
 
 state-of-requires : tie.Need-state-of-requires
 state-of-requires c κs = tt
 
 returns-2 : tie.Need-returns-2
 returns-2 c =
-    let s = c .before .before .before .before .before .before .before .before .before .before .before .before .before .before .args .self in
-    let bytes = c .before .before .before .before .before .before .before .before .before .before .before .before .before .before .args .bytes .now in
+    let s = c .before .before .before .before .before .before .before .before .before .before .before .before .args .self in
+    let bytes = c .before .before .before .before .before .before .before .before .before .before .before .before .args .bytes .now in
     let fed = c .before .feed in
     let is = rw (c .before .before .before .before .flow-of .ensures) at (fed .ensures) in
     rw (c .state-of .ensures)
-    (happens-on s (received bytes) _ (c .before .before .before .before .before .before .before .before .before .before .before .before .possible .ensures) (c .before .before .before .before .before .before .before .before .before .before .before .if1 .left) _ _ (λ _. short-of (fed .result) _ _ (is .fits)) (piece-on s bytes (fed .result) _ _ is))
+    (happens-on s (received bytes) _ (c .before .before .before .before .before .before .before .before .before .before .possible .ensures) (c .before .before .before .before .before .before .before .before .before .if1 .left) _ _ (λ _. short-of (fed .result) _ _ (is .fits)) (piece-on s bytes (fed .result) _ _ is))
 
 pub piece-spec : {M : Type 1} → statement M
 piece-spec =
@@ -50,10 +44,8 @@ piece-spec =
     (tie.spec
     possible-requires
     returns
-    rows-requires
+    commands-requires
     slice-aggregate-feed
-    words-requires
-    slice-aggregate-feed-2
     flow-of-requires
     feed-requires
     state-of-requires

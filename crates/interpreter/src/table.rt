@@ -1,11 +1,13 @@
-// The two tables that the header search reads: made once where a chunk of bytes is served, and lent
-// down. Each is tied to 01's rows and words by its statement.
+// The table that the header search reads: made once where a chunk of bytes is served, and lent down. It
+// is tied to 01's rows and words by its statement.
 ghost use mathlib.Core.Path.{_≡_};
-ghost use Rattle.interpreter.specs.RowsParts.{rowTable, wordTable};
+ghost use Rattle.interpreter.specs.RowsParts.{commandTable};
 
-// 16 bytes to a word: the lengths of its short and its long form, then its letters.
-pub(crate) fn words() -> [u8; 832]
-    ensures { λ r. ⌜ r ≡ wordTable ⌝ }
+// 16 bytes to a word: the lengths of its short and its long form, then its letters. Behind the words 8
+// bytes to a row: its forms as bits, the number of its nodes, how many of them the row before begins
+// with too, and each node's word, with 128 more where the node may be left out.
+pub(crate) fn commands() -> [u8; 1096]
+    ensures { λ r. ⌜ r ≡ commandTable ⌝ }
 {
     *b"\
         \x04\x06OUTPUT\0\0\0\0\0\0\0\0\
@@ -59,15 +61,7 @@ pub(crate) fn words() -> [u8; 832]
         \x03\x03OFF\0\0\0\0\0\0\0\0\0\0\0\
         \x02\x02ON\0\0\0\0\0\0\0\0\0\0\0\0\
         \x03\x07MINIMUM\0\0\0\0\0\0\0\
-        \x03\x07MAXIMUM\0\0\0\0\0\0\0"
-}
-
-// 8 bytes to a row: its forms as bits, the number of its nodes, how many of them the row before begins
-// with too, and each node's word, with 128 more where the node may be left out.
-pub(crate) fn rows() -> [u8; 264]
-    ensures { λ r. ⌜ r ≡ rowTable ⌝ }
-{
-    *b"\
+        \x03\x07MAXIMUM\0\0\0\0\0\0\0\
         \x03\x02\0\0\x81\0\0\0\
         \x03\x02\x01\0\x02\0\0\0\
         \x03\x02\x01\0\x03\0\0\0\
