@@ -1,7 +1,7 @@
 -- What the functions say that take bytes in. Nothing of 01 is defined here: see Line.antt.
 use mathlib.Core.Path.{_≡_}
 use Prim.Native.Nat.{_+_, _≤_}
-use lib.ListN.{take}
+use lib.ListN.{length, take}
 use Rattle.bytes.specs.Bytes.{indexOf}
 use Rattle.registers.specs.Text.{Text}
 use Rattle.registers.specs.Status.{most}
@@ -14,11 +14,12 @@ use Rattle.interpreter.specs.declared.flow.Flow.{Flow}
 abbrev pub flowBox : Flow → Text → Text → Box
 flowBox f line out = boxHolding (f .present) (take (f .filled) line) (f .overlong) (take (f .waiting) out)
 
--- the three lengths
+-- the three lengths, and no more newlines than bytes
 pub record FlowFits (f : Flow) : Type 0 where
   pub filled : f .filled ≤ mostLine
   pub waiting : f .waiting ≤ mostAnswer
   pub queued : f .present .status .queued ≤ most
+  pub few : f .count ≤ f .read
 
 -- the first line of a text with its newline, or all of a text that has none
 unfoldable pub firstLine : Text → Text
@@ -28,4 +29,5 @@ firstLine l = take (indexOf 10 l + 1) l
 pub record FlowFed (f : Flow) (line out bytes : Text) (r : Flow) (lines left : Text) : Type 0 where
   pub fits : FlowFits r
   pub box : flowBox r lines left ≡ piece (flowBox f line out) bytes
+  pub read : r .read ≡ f .read + length bytes
   pub count : r .count ≡ f .count + newlines bytes

@@ -10,10 +10,10 @@ use Rattle.interpreter.specs.declared.server.Progress.{Progress}
 use Rattle.interpreter.specs.Server.{Service, service, serves, linesOf}
 
 -- how far the code got means this
-abbrev pub serviceAt : Flow → ℕ → ℕ → Text → Text → Text → Service
-serviceAt f read written line out output = service (flowBox f line out) read (take written output) (drop written output)
+abbrev pub serviceAt : Flow → ℕ → Text → Text → Text → Service
+serviceAt f written line out output = service (flowBox f line out) (f .read) (take written output) (drop written output)
 
 pub record FlowServed (f : Flow) (line out input output : Text) (r : Progress) (lines left outputs : Text) : Type 0 where
   pub fits : FlowFits (r .flow)
   pub within : r .written ≤ length outputs
-  pub service : serviceAt (r .flow) (r .read) (r .written) lines left outputs ≡ serves (service (flowBox f line out) 0 [] output) (linesOf input)
+  pub service : serviceAt (r .flow) (r .written) lines left outputs ≡ serves (service (flowBox f line out) 0 [] output) (linesOf input)

@@ -25,6 +25,7 @@ flowOf s =
       filled = s .filled;
       overlong = s .overlong;
       waiting = s .waiting;
+      read = 0;
       count = 0;
     }
 

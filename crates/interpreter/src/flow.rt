@@ -13,19 +13,14 @@ ghost use Rattle.interpreter.specs.RowsParts.{commandTable};
 ghost use Rattle.interpreter.specs.Line.{newlines};
 ghost use Rattle.interpreter.specs.FlowParts.{FlowFits, firstLine, FlowFed};
 
-// The small part of a state; the two arrays are lent beside it.
+// The small part of a state, and how many bytes and newlines were taken in; the two arrays are lent beside it.
 pub(crate) struct Flow {
     pub(crate) present: Present,
     pub(crate) filled: usize,
     pub(crate) overlong: bool,
     pub(crate) waiting: usize,
+    pub(crate) read: usize,
     pub(crate) count: usize,
-}
-
-// What a line taken in leaves, and where the next one starts.
-pub(crate) struct Advance {
-    pub(crate) flow: Flow,
-    pub(crate) next: usize,
 }
 
 // The smaller of two numbers.
@@ -49,20 +44,20 @@ pub(crate) fn paste(text: &[u8], n: usize, into: &mut [u8], at: usize) -> usize
 
 // Bytes without a newline go behind what the line holds; "further bytes are dropped".
 fn hold(mut flow: Flow, line: &mut [u8; LINE], part: &[u8]) -> Flow
-    requires { ⌜ FlowFits flow × (newlines (now part) ≡ 0) ⌝ }
+    requires { ⌜ FlowFits flow × (flow .read + length (now part) < 2 ^ 63) × (newlines (now part) ≡ 0) ⌝ }
     ensures { λ r. ⌜ ((out : Text) → FlowFed flow (now (line .entry)) out (now (part .entry)) r (now (line .exit)) out) ⌝ }
 {
     let at = flow.filled;
     let n = smaller(part.len(), LINE - at);
     flow.filled = paste(part, n, line, at);
     flow.overlong = flow.overlong | (n < part.len());
+    flow.read += part.len();
     flow
 }
 
 // A newline: a waiting answer is first discarded, and the line that was held is run.
 fn newline(table: &[u8], flow: Flow, line: &[u8; LINE], out: &mut [u8; ANSWER]) -> Flow
-    requires { ⌜ now table ≡ commandTable ⌝ }
-    requires { ⌜ FlowFits flow × (flow .count < 2 ^ 63) ⌝ }
+    requires { ⌜ (now table ≡ commandTable) × FlowFits flow × (flow .read < 2 ^ 63) ⌝ }
     ensures { λ r. ⌜ FlowFed flow (now (line .entry)) (now (out .entry)) (10 ∷ []) r (now (line .entry)) (now (out .exit)) ⌝ }
 {
     let filled = flow.filled;
@@ -75,53 +70,44 @@ fn newline(table: &[u8], flow: Flow, line: &[u8; LINE], out: &mut [u8; ANSWER]) 
         filled: 0,
         overlong: false,
         waiting: ran.answered,
+        read: flow.read + 1,
         count: flow.count + 1,
     }
 }
 
-// Takes in the line that starts at a place: its bytes up to a newline and with it, or all there are.
+// Takes in the next line: its bytes up to a newline and with it, or all there are.
 pub(crate) fn feed_line(
     table: &[u8],
     flow: Flow,
     line: &mut [u8; LINE],
     out: &mut [u8; ANSWER],
     bytes: &[u8],
-    at: usize,
-) -> Advance
-    requires { ⌜ now table ≡ commandTable ⌝ }
-    requires { ⌜ FlowFits flow × (flow .count < 2 ^ 63) × (at ≤ length (now bytes)) ⌝ }
-    ensures { λ r. ⌜ FlowFed flow (now (line .entry)) (now (out .entry)) (firstLine (drop at (now (bytes .entry)))) (r .flow) (now (line .exit)) (now (out .exit)) ⌝ }
-    ensures { λ r. ⌜ r .next ≡ at + length (firstLine (drop at (now (bytes .entry)))) ⌝ }
+) -> Flow
+    requires { ⌜ (now table ≡ commandTable) × FlowFits flow × (flow .read ≤ length (now bytes)) ⌝ }
+    ensures { λ r. ⌜ FlowFed flow (now (line .entry)) (now (out .entry)) (firstLine (drop (flow .read) (now (bytes .entry)))) r (now (line .exit)) (now (out .exit)) ⌝ }
 {
-    let n = bytes.len();
-    let end = bytes::scan::find(bytes, at, n, 10);
-    let mut flow = hold(flow, line, &bytes[at..end]);
-    let mut next = end;
-    if end < n {
-        flow = newline(table, flow, line, out);
-        next += 1;
+    let at = flow.read;
+    let end = bytes::scan::find(bytes, at, bytes.len(), 10);
+    let held = hold(flow, line, &bytes[at..end]);
+    if end < bytes.len() {
+        return newline(table, held, line, out);
     }
-    Advance { flow, next }
+    held
 }
 
 // Takes bytes in, line by line, with the line and the answer in place.
 pub(crate) fn feed(
     table: &[u8],
-    start: Flow,
+    mut flow: Flow,
     line: &mut [u8; LINE],
     out: &mut [u8; ANSWER],
     bytes: &[u8],
 ) -> Flow
-    requires { ⌜ now table ≡ commandTable ⌝ }
-    requires { ⌜ FlowFits start × (start .count ≡ 0) ⌝ }
-    ensures { λ r. ⌜ FlowFed start (now (line .entry)) (now (out .entry)) (now (bytes .entry)) r (now (line .exit)) (now (out .exit)) ⌝ }
+    requires { ⌜ (now table ≡ commandTable) × FlowFits flow × (flow .read ≡ 0) ⌝ }
+    ensures { λ r. ⌜ FlowFed flow (now (line .entry)) (now (out .entry)) (now (bytes .entry)) r (now (line .exit)) (now (out .exit)) ⌝ }
 {
-    let mut flow = start;
-    let mut at: usize = 0;
-    while at < bytes.len() {
-        let fed = feed_line(table, flow, line, out, bytes, at);
-        flow = fed.flow;
-        at = fed.next;
+    while flow.read < bytes.len() {
+        flow = feed_line(table, flow, line, out, bytes);
     }
     flow
 }

@@ -24,7 +24,6 @@ pub struct Served {
 
 struct Progress {
     flow: Flow,
-    read: usize,
     written: usize,
 }
 
@@ -32,31 +31,22 @@ struct Progress {
 // taken behind those before it.
 fn lines(
     table: &[u8],
-    start: Flow,
+    mut flow: Flow,
     line: &mut [u8; LINE],
     out: &mut [u8; ANSWER],
     input: &[u8],
     output: &mut [u8],
 ) -> Progress
-    requires { ⌜ now table ≡ commandTable ⌝ }
-    requires { ⌜ FlowFits start × (start .count ≡ 0) ⌝ }
-    ensures { λ r. ⌜ FlowServed start (now (line .entry)) (now (out .entry)) (now (input .entry)) (now (output .entry)) r (now (line .exit)) (now (out .exit)) (now (output .exit)) ⌝ }
+    requires { ⌜ (now table ≡ commandTable) × FlowFits flow × (flow .read ≡ 0) ⌝ }
+    ensures { λ r. ⌜ FlowServed flow (now (line .entry)) (now (out .entry)) (now (input .entry)) (now (output .entry)) r (now (line .exit)) (now (out .exit)) (now (output .exit)) ⌝ }
 {
-    let mut flow = start;
-    let mut read: usize = 0;
     let mut written: usize = 0;
-    while (read < input.len()) & (ANSWER <= output.len() - written) {
-        let fed = flow::feed_line(table, flow, line, out, input, read);
-        flow = fed.flow;
-        read = fed.next;
+    while (flow.read < input.len()) & (ANSWER <= output.len() - written) {
+        flow = flow::feed_line(table, flow, line, out, input);
         written = flow::paste(out, flow.waiting, output, written);
         flow.waiting = 0;
     }
-    Progress {
-        flow,
-        read,
-        written,
-    }
+    Progress { flow, written }
 }
 
 // Feeds the input's lines and takes each answer into the output. It stops before a line for whose answer
@@ -84,7 +74,7 @@ pub fn serve(state: State, input: &[u8], output: &mut [u8]) -> Served
     );
     Served {
         outcome: Outcome::Done,
-        read: done.read,
+        read: done.flow.read,
         written: done.written,
         state: state::state_of(done.flow, line, answer),
     }

@@ -77,7 +77,7 @@ impl Outcome {
     }
 }
 
-// The small part of a state, with no newline counted yet.
+// The small part of a state, with nothing taken in yet.
 pub(crate) fn flow_of(state: State) -> Flow
     ensures { λ r. ⌜ r ≡ flowOf state ⌝ }
 {
@@ -88,6 +88,7 @@ pub(crate) fn flow_of(state: State) -> Flow
         filled: state.filled,
         overlong: state.overlong,
         waiting: state.waiting,
+        read: 0,
         count: 0,
     }
 }

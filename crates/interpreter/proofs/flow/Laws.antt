@@ -81,6 +81,9 @@ module _ (bytes : Text) (at end : ℕ) (is : end ≡ at + indexOf 10 (slice at (
   pub part-plain : newlines (take (end - at) (drop at bytes)) ≡ 0
   part-plain = rw here (none-before (drop at bytes))
 
+  pub part-read : at ≤ length bytes → at + length (take (end - at) (drop at bytes)) ≡ end
+  part-read h = rw (length-take, length-drop) (omega arith)
+
   pub line-open : length bytes ≤ end → firstLine (drop at bytes) ≡ take (end - at) (drop at bytes)
   unfolding firstLine
   line-open e =
@@ -150,20 +153,21 @@ min-take part k n is = go (ltb k (length part)) refl
         let h = ltb-false k (length part) e in
         (take-all n part (omega arith) ∙ sym (take-all k part (omega arith)), le-ltb n (length part) (omega arith) ∙ sym e)
 
-abbrev pub heldIn : Flow → ℕ → Bool → Flow
-heldIn f at o = record { present = f .present; filled = at; overlong = o; waiting = f .waiting; count = f .count }
+abbrev pub heldIn : Flow → ℕ → Bool → ℕ → Flow
+heldIn f at o n = record { present = f .present; filled = at; overlong = o; waiting = f .waiting; read = n; count = f .count }
 
 module _ (f : Flow) (line part : Text) (w : FlowFits f) (long : length line ≡ mostLine) (plain : newlines part ≡ 0) where
   pub held-fed : (n at : ℕ) (lines : Text) → n ≡ min (length part) (mostLine - f .filled) → at ≡ f .filled + n → lines ≡ paste line (f .filled) part n
-      → (out : Text) → FlowFed f line out part (heldIn f at (f .overlong || ltb n (length part))) lines out
+      → (out : Text) → FlowFed f line out part (heldIn f at (f .overlong || ltb n (length part)) (f .read + length part)) lines out
   held-fed n at lines is e l out =
       let h = w .filled in
       let m = min-take part (mostLine - f .filled) n is in
       let k : length (take (f .filled) line) ≡ f .filled = length-take-le (f .filled) line (omega arith) in
       let all = piece-held part (flowBox f line out) plain (rw k h) in
       record {
-        fits = record { filled = omega arith; waiting = w .waiting; queued = w .queued };
+        fits = record { filled = omega arith; waiting = w .waiting; queued = w .queued; few = (let few = w .few in omega arith) };
         box = rw (e, l, take-paste line (f .filled) part n (omega arith) (omega arith), m .0, m .1) (sym (rw k at all));
+        read = refl;
         count = omega arith;
       }
 
@@ -171,7 +175,7 @@ module _ (f : Flow) (line part : Text) (w : FlowFits f) (long : length line ≡ 
 
 pub fed-none : (f : Flow) (line out : Text) → FlowFits f → FlowFed f line out [] f line out
 unfolding piece newlines
-fed-none f line out w = record { fits = w; box = refl; count = omega arith }
+fed-none f line out w = record { fits = w; box = refl; read = omega arith; count = omega arith }
 
 pub fed-then : (f g r : Flow) (line out xs line₁ out₁ ys line₂ out₂ : Text) → FlowFed f line out xs g line₁ out₁ → FlowFed g line₁ out₁ ys r line₂ out₂
     → FlowFed f line out (xs ++ ys) r line₂ out₂
@@ -179,46 +183,44 @@ fed-then f g r line out xs line₁ out₁ ys line₂ out₂ p q =
     let n = newlines-append xs ys in
     let c = p .count in
     let d = q .count in
-    record { fits = q .fits; box = q .box ∙ ap (λ (b : Box). piece b ys) (p .box) ∙ sym (piece-append _ xs ys); count = omega arith }
-
-pub newlines-few : (l : Text) → newlines l ≤ length l
-unfolding newlines if_then_else_
-newlines-few [] = omega arith
-newlines-few (x ∷ l) = go (eqb x 10) (newlines-few l)
-  where
-    go : (t : Bool) → newlines l ≤ length l → (if t then suc (newlines l) else newlines l) ≤ suc (length l)
-    go true ih = omega arith
-    go false ih = omega arith
+    let m = p .read in
+    let k = q .read in
+    record {
+      fits = q .fits;
+      box = q .box ∙ ap (λ (b : Box). piece b ys) (p .box) ∙ sym (piece-append _ xs ys);
+      read = rw length-append (omega arith);
+      count = omega arith;
+    }
 
 -- ---- a piece line by line
 
-pub record Feeding (f₀ : Flow) (line₀ out₀ bytes line out : Text) (f : Flow) (at : ℕ) : Type 0 where
-  pub within : at ≤ length bytes
-  pub fed : FlowFed f₀ line₀ out₀ (take at bytes) f line out
+pub record Feeding (f₀ : Flow) (line₀ out₀ bytes line out : Text) (f : Flow) : Type 0 where
+  pub within : f .read ≤ length bytes
+  pub fed : FlowFed f₀ line₀ out₀ (take (f .read) bytes) f line out
 
-module _ (f₀ : Flow) (line₀ out₀ bytes line out : Text) (f : Flow) (at : ℕ) (g : Feeding f₀ line₀ out₀ bytes line out f at) where
-  pub feed-few : f₀ .count ≡ 0 → f .count ≤ length bytes
-  feed-few z =
-      let c = g .fed .count in
-      let n = newlines-few (take at bytes) in
-      let l = length-take at bytes in
-      omega arith
+pub feed-begun : (f : Flow) (line out bytes : Text) → FlowFits f → f .read ≡ 0 → Feeding f line out bytes line out f
+feed-begun f line out bytes w z =
+    let none : take (f .read) bytes ≡ [] = ap (λ (n : ℕ). take n bytes) z in
+    record { within = omega arith; fed = rw none (fed-none f line out w) }
 
-  module _ (h : at < length bytes) (next : ℕ) (is : next ≡ at + length (firstLine (drop at bytes))) where
-    pub feed-further : at < next
-    feed-further = let d = length-drop at bytes in let s = first-some (drop at bytes) (omega arith) in omega arith
+module _ (f₀ : Flow) (line₀ out₀ bytes line out : Text) (f : Flow) (g : Feeding f₀ line₀ out₀ bytes line out f) where
+  module _ (h : f .read < length bytes) (r : Flow) (line′ out′ : Text) (w : FlowFed f line out (firstLine (drop (f .read) bytes)) r line′ out′) where
+    pub feed-further : f .read < r .read
+    feed-further =
+        let d = length-drop (f .read) bytes in
+        let s = first-some (drop (f .read) bytes) (omega arith) in
+        let n = w .read in
+        omega arith
 
-    pub feed-on : (r : Flow) (line′ out′ : Text) → FlowFed f line out (firstLine (drop at bytes)) r line′ out′
-        → Feeding f₀ line₀ out₀ bytes line′ out′ r next
-    feed-on r line′ out′ w =
-        let d = length-drop at bytes in
-        let m = first-within (drop at bytes) in
-        let e : take next bytes ≡ take at bytes ++ firstLine (drop at bytes) =
-        rw (is, take-add at (length (firstLine (drop at bytes))) bytes, first-front (drop at bytes)) in
-        record {
-          within = omega arith;
-          fed = rw e (fed-then f₀ f r line₀ out₀ (take at bytes) line out (firstLine (drop at bytes)) line′ out′ (g .fed) w);
-        }
+    pub feed-on : Feeding f₀ line₀ out₀ bytes line′ out′ r
+    feed-on =
+        let first = firstLine (drop (f .read) bytes) in
+        let d = length-drop (f .read) bytes in
+        let m = first-within (drop (f .read) bytes) in
+        let n = w .read in
+        let e : take (r .read) bytes ≡ take (f .read) bytes ++ first =
+        rw (n, take-add (f .read) (length first) bytes, first-front (drop (f .read) bytes)) in
+        record { within = omega arith; fed = rw e (fed-then f₀ f r line₀ out₀ (take (f .read) bytes) line out first line′ out′ (g .fed) w) }
 
-  pub feed-end : length bytes ≤ at → FlowFed f₀ line₀ out₀ bytes f line out
-  feed-end h = rw (take-all at bytes h) at (g .fed)
+  pub feed-end : length bytes ≤ f .read → FlowFed f₀ line₀ out₀ bytes f line out
+  feed-end h = rw (take-all (f .read) bytes h) at (g .fed)

@@ -38,7 +38,7 @@ module _ (s : State) (t : Bool) (w : Tested s t) (input output : Text) where
 
   pub served-chunk : not t ≡ false → (r : Progress) (lines left outputs : Text)
       → FlowServed (flowOf s) (s .line) (s .answer) input output r lines left outputs
-      → Serves s input output 0 (r .read) (r .written) (stateOf (r .flow) lines left) outputs
+      → Serves s input output 0 (r .flow .read) (r .written) (stateOf (r .flow) lines left) outputs
   served-chunk h r lines left outputs d =
       let p = could s t w h in
       let u = stateOf (r .flow) lines left in

@@ -19,7 +19,7 @@ use Rattle.interpreter.specs.ServerParts.{serviceAt, FlowServed}
 use Rattle.interpreter.specs.declared.flow.Flow.{Flow}
 use Rattle.registers.proofs.Tests.{and-both}
 use Rattle.interpreter.proofs.line.Newline.{waits}
-use Rattle.interpreter.proofs.flow.Laws.{first-some, first-within, newlines-few}
+use Rattle.interpreter.proofs.flow.Laws.{first-some, first-within}
 
 -- ---- the first line
 
@@ -47,7 +47,7 @@ serves-on s l ls h = rw (le-leb mostAnswer (length (s .rest)) h)
 
 -- the answer is gone
 abbrev pub taken-from : Flow → Flow
-taken-from f = record { present = f .present; filled = f .filled; overlong = f .overlong; waiting = 0; count = f .count }
+taken-from f = record { present = f .present; filled = f .filled; overlong = f .overlong; waiting = 0; read = f .read; count = f .count }
 
 module _ (f r : Flow) (line out bytes lines left : Text) (w : FlowFed f line out bytes r lines left) (outs : length left ≡ mostAnswer) where
   pub served-one : (read : ℕ) (answers rest : Text) → mostAnswer ≤ length rest
@@ -73,73 +73,83 @@ module _ (f r : Flow) (line out bytes lines left : Text) (w : FlowFed f line out
 
 -- ---- the loop over a chunk's lines
 
-pub record Serving (begun : Service) (room : ℕ) (input line out output : Text) (f : Flow) (read written : ℕ) : Type 0 where
+pub record Serving (begun : Service) (room : ℕ) (input line out output : Text) (f : Flow) (written : ℕ) : Type 0 where
   pub fits : FlowFits f
-  pub few : f .count ≤ read  -- newlines so far
   pub outputs : length output ≡ room
-  pub read-in : read ≤ length input
+  pub read-in : f .read ≤ length input
   pub wrote : written ≤ length output
-  pub left : serves (serviceAt f read written line out output) (linesOf (drop read input)) ≡ serves begun (linesOf input)
+  pub left : serves (serviceAt f written line out output) (linesOf (drop (f .read) input)) ≡ serves begun (linesOf input)
 
-module _ (begun : Service) (room : ℕ) (input line out output : Text) (f : Flow) (read written : ℕ)
-    (g : Serving begun room input line out output f read written) where
+pub serve-begun : (f : Flow) (line out input output : Text) → FlowFits f → f .read ≡ 0
+    → Serving (service (flowBox f line out) 0 [] output) (length output) input line out output f 0
+serve-begun f line out input output w z = record { fits = w; outputs = refl; read-in = omega arith; wrote = zero-le; left = rw z }
+
+module _ (begun : Service) (room : ℕ) (input line out output : Text) (f : Flow) (written : ℕ)
+    (g : Serving begun room input line out output f written) where
   abbrev Goes : Bool → Type 0
-  Goes t = (ltb read (length input) && leb mostAnswer (length output - written)) ≡ t
+  Goes t = (ltb (f .read) (length input) && leb mostAnswer (length output - written)) ≡ t
+
+  abbrev first : Text
+  first = firstLine (drop (f .read) input)
 
   module _ (t : Goes true) where
-    pub more-input : read < length input
-    more-input = ltb-true read (length input) (and-both (ltb read (length input)) _ t .0)
+    pub more-input : f .read < length input
+    more-input = ltb-true (f .read) (length input) (and-both (ltb (f .read) (length input)) _ t .0)
 
     pub more-room : written + mostAnswer ≤ length output
     more-room =
-        let free = leb-true mostAnswer (length output - written) (and-both (ltb read (length input)) _ t .1) in
+        let free = leb-true mostAnswer (length output - written) (and-both (ltb (f .read) (length input)) _ t .1) in
         let wrote = g .wrote in
         omega arith
 
     -- the next line was taken in, and its answer laid behind those before it
-    module _ (next : ℕ) (is : next ≡ read + length (firstLine (drop read input))) where
-      pub serve-further : read < next
-      serve-further = let h = more-input in let d = length-drop read input in let s = first-some (drop read input) (omega arith) in omega arith
+    module _ (r : Flow) (line′ out′ : Text) (w : FlowFed f line out first r line′ out′) where
+      pub serve-further : f .read < r .read
+      serve-further =
+          let h = more-input in
+          let d = length-drop (f .read) input in
+          let s = first-some (drop (f .read) input) (omega arith) in
+          let n = w .read in
+          omega arith
 
-      pub serve-on : (r : Flow) (line′ out′ : Text) → FlowFed f line out (firstLine (drop read input)) r line′ out′ → length out′ ≡ mostAnswer
-          → (end : ℕ) (output′ : Text) → end ≡ written + r .waiting → output′ ≡ paste output written out′ (r .waiting)
-          → Serving begun room input line′ out′ output′ (taken-from r) next end
-      serve-on r line′ out′ w outs end output′ e u =
+      pub serve-on : length out′ ≡ mostAnswer → (end : ℕ) (output′ : Text) → end ≡ written + r .waiting → output′ ≡ paste output written out′ (r .waiting)
+          → Serving begun room input line′ out′ output′ (taken-from r) end
+      serve-on outs end output′ e u =
           let h = more-input in
           let free = more-room in
           let few = w .fits .waiting in
-          let d = length-drop read input in
+          let is = w .read in
+          let d = length-drop (f .read) input in
           let k = length-drop written output in
-          let m = first-within (drop read input) in
+          let m = first-within (drop (f .read) input) in
           let long = length-paste output written out′ (r .waiting) (omega arith) (omega arith) in
-          let rest = lines-first (drop read input) (omega arith) in
-          let behind : drop (length (firstLine (drop read input))) (drop read input) ≡ drop next input = rw (is, drop-drop) in
-          let one = served-one f r line out (firstLine (drop read input)) line′ out′ w outs read (take written output) (drop written output) (omega arith) in
-          let now : serviceAt (taken-from r) next end line′ out′ output′ ≡ servedLine (serviceAt f read written line out output) (firstLine (drop read input)) =
+          let rest = lines-first (drop (f .read) input) (omega arith) in
+          let behind : drop (length first) (drop (f .read) input) ≡ drop (r .read) input = rw (is, drop-drop) in
+          let one = served-one f r line out first line′ out′ w outs (f .read) (take written output) (drop written output) (omega arith) in
+          let now : serviceAt (taken-from r) end line′ out′ output′ ≡ servedLine (serviceAt f written line out output) first =
           rw (is, e, u, take-paste output written out′ (r .waiting) (omega arith) (omega arith), drop-paste output written out′ (r .waiting) (omega arith) (omega arith), ← drop-drop (r .waiting) written output)
           (sym one) in
           record {
-            fits = record { filled = w .fits .filled; waiting = zero-le; queued = w .fits .queued };
-            few = (let c = w .count in let n = newlines-few (firstLine (drop read input)) in let b = g .few in omega arith);
+            fits = record { filled = w .fits .filled; waiting = zero-le; queued = w .fits .queued; few = w .fits .few };
             outputs = rw u (long ∙ g .outputs);
             read-in = omega arith;
             wrote = rw (u, long) (omega arith);
             left =
                 rw now
-                (sym (serves-on (serviceAt f read written line out output) _ (linesOf (drop next input)) (omega arith)) ∙ (rw (rest, behind) at (g .left)));
+                (sym (serves-on (serviceAt f written line out output) _ (linesOf (drop (r .read) input)) (omega arith)) ∙ (rw (rest, behind) at (g .left)));
           }
 
   pub serve-end : (f₀ : Flow) (line₀ out₀ output₀ : Text) → begun ≡ service (flowBox f₀ line₀ out₀) 0 [] output₀
-      → Goes false → FlowServed f₀ line₀ out₀ input output₀ (record { flow = f; read = read; written = written }) line out output
+      → Goes false → FlowServed f₀ line₀ out₀ input output₀ (record { flow = f; written = written }) line out output
   unfolding linesOf serves
-  serve-end f₀ line₀ out₀ output₀ b stop = record { fits = g .fits; within = g .wrote; service = rw b at (ends (ltb read (length input)) refl) }
+  serve-end f₀ line₀ out₀ output₀ b stop = record { fits = g .fits; within = g .wrote; service = rw b at (ends (ltb (f .read) (length input)) refl) }
     where
       here : Service
-      here = serviceAt f read written line out output
+      here = serviceAt f written line out output
 
-      ends : (t : Bool) → ltb read (length input) ≡ t → here ≡ serves begun (linesOf input)
+      ends : (t : Bool) → ltb (f .read) (length input) ≡ t → here ≡ serves begun (linesOf input)
       ends true e =
           let full = leb-false mostAnswer (length output - written) (rw e at stop) in
           let d = length-drop written output in
-          sym (serves-stop here (linesOf (drop read input)) (omega arith)) ∙ g .left
-      ends false e = let h = ltb-false read (length input) e in rw (drop-of-length-le input h) at (g .left)
+          sym (serves-stop here (linesOf (drop (f .read) input)) (omega arith)) ∙ g .left
+      ends false e = let h = ltb-false (f .read) (length input) e in rw (drop-of-length-le input h) at (g .left)

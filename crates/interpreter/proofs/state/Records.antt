@@ -2,7 +2,7 @@
 use mathlib.Core.Path.{_≡_}
 use mathlib.Core.Bool.{Bool, true, false, not}
 use mathlib.Core.List.{List}
-use Prim.Native.Nat.{ℕ, _≤_}
+use Prim.Native.Nat.{ℕ, _≤_, zero-le}
 use native.Mathlib.Omega.{arith}
 use lib.Dec.{leb}
 use lib.ListN.{length, take, length-take}
@@ -72,7 +72,7 @@ module _ (s : State) (r : Bool) (w : Tested s r) where
   could h = rw (← w .is) (not-false r h)
 
   pub flow-fits : not r ≡ false → FlowFits (flowOf s)
-  flow-fits h = let k = short-from s (could h) in record { filled = k .filled; waiting = k .waiting; queued = k .queued }
+  flow-fits h = let k = short-from s (could h) in record { filled = k .filled; waiting = k .waiting; queued = k .queued; few = zero-le }
 
 pub short-of : (f : Flow) (line answer : Text) → FlowFits f → Short (stateOf f line answer)
 short-of f line answer w = record { queued = w .queued; filled = w .filled; waiting = w .waiting }

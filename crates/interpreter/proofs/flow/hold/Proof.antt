@@ -15,14 +15,16 @@ smaller-requires c κs = tt
 paste-requires : tie.Need-paste-requires
 paste-requires c κs = omega arith
 
+add-flow : tie.Need-add-flow
+add-flow c = omega arith
+
 returns : tie.Need-returns
 returns c =
-    let a = c .before .before .before .before .before .args in
-    let p = c .before .before .before .before .before .pre in
-    let g = c .before .before .before .before .before .good in
-    let laid = c .before .paste in
+    let a = c .before .before .before .before .before .before .args in
+    let p = c .before .before .before .before .before .before .pre in
+    let laid = c .before .before .paste in
     let long : length (a .line .now) ≡ 512 = search needs in
-    held-fed (a .flow) (a .line .now) (a .part .now) (p .0) long (p .1) (c .before .before .before .smaller .result) (laid .result) _ (c .before .before .before .smaller .ensures) (laid .ensures .0) (laid .ensures .1)
+    held-fed (a .flow) (a .line .now) (a .part .now) (p .0) long (p .2) (c .before .before .before .before .smaller .result) (laid .result) _ (c .before .before .before .before .smaller .ensures) (laid .ensures .0) (laid .ensures .1)
 
 pub hold-spec : {M : Type 1} → statement M
-hold-spec = tie.close (tie.spec sub-smaller smaller-requires paste-requires returns)
+hold-spec = tie.close (tie.spec sub-smaller smaller-requires paste-requires add-flow returns)

@@ -24,7 +24,7 @@ flow-of-requires : tie.Need-flow-of-requires
 flow-of-requires c κs = tt
 
 feed-requires : tie.Need-feed-requires
-feed-requires c κs = (c .before .before .before .before .commands .ensures, rw (c .before .before .flow-of .ensures) (flow-fits _ _ (c .before .before .before .before .before .before .before .before .possible .ensures) (c .before .before .before .before .before .before .before .if1 .left), refl))
+feed-requires c κs = (c .before .before .before .before .commands .ensures, rw (c .before .before .flow-of .ensures) (flow-fits _ _ (c .before .before .before .before .before .before .before .before .possible .ensures) (c .before .before .before .before .before .before .before .if1 .left)), rw (c .before .before .flow-of .ensures) refl)
 
 state-of-requires : tie.Need-state-of-requires
 state-of-requires c κs = tt
