@@ -131,11 +131,10 @@ pub(crate) fn look_up(
     let from = if h.root { 0 } else { used };
     let n = bytes::copy(names, &mut path[from..]);
     let all = from + n;
-    let row = rows::find(table, &path[0..all], false, asked);
-    let left = path_end(&path[0..all]);
+    let entered = &path[0..all];
     Looked::At {
-        row,
-        used: left,
+        row: rows::find(table, entered, false, asked),
+        used: path_end(entered),
         asked,
     }
 }

@@ -107,28 +107,24 @@ copy-requires : tie.Need-copy-requires
 copy-requires c κs = let j = c .before .before in room-behind (entry j .args .path .now) (names-at j) (j .if3 .from) (fits j)
 
 add-all : tie.Need-add-all
-add-all c = let f = fits (c .before .before .before .before .before) in omega (arith, c .before .before .copy .ensures .0, c .before .before .before .before .before .before .before .before .before .before .before .before .before .before .before .before .good)
+add-all c =
+    let j = c .before .before .before .before .before in
+    let f = fits j in
+    let n = c .before .before .copy .ensures .0 in
+    let small = entry j .good .1 .0 in
+    omega arith
 
-sub-find : tie.Need-sub-find
-sub-find c = omega arith
+sub-entered : tie.Need-sub-entered
+sub-entered c = omega arith
 
-part-find-start : tie.Need-part-find-start
-part-find-start c = omega arith
+part-entered-start : tie.Need-part-entered-start
+part-entered-start c = omega arith
 
-part-find-end : tie.Need-part-find-end
-part-find-end c = let f = fits (c .before .before .before .before .before .before) in omega (arith, c .before .before .before .copy .ensures .0)
+part-entered-end : tie.Need-part-entered-end
+part-entered-end c = let f = fits (c .before .before .before .before .before .before) in omega (arith, c .before .before .before .copy .ensures .0)
 
 find-requires-2 : tie.Need-find-requires-2
 find-requires-2 c κs = c .before .before .before .before .before .before .before .before .before .before .before .before .before .before .before .before .before .before .pre .0
-
-sub-path-end : tie.Need-sub-path-end
-sub-path-end c = omega arith
-
-part-path-end-start : tie.Need-part-path-end-start
-part-path-end-start c = omega arith
-
-part-path-end-end : tie.Need-part-path-end-end
-part-path-end-end c = let f = fits (c .before .before .before .before .before .before .before .before .before) in omega (arith, c .before .before .before .before .before .before .copy .ensures .0)
 
 path-end-requires : tie.Need-path-end-requires
 path-end-requires c κs = tt
@@ -138,20 +134,20 @@ same-length c = omega arith
 
 returns-3 : tie.Need-returns-3
 returns-3 c =
-    let j = c .before .before .before .before .before .before .before .before .before .before .before in
+    let j = c .before .before .before .before .before .before .before .before .before in
     let r = read (read-at j) in
     let a = entry j .args in
     let xs = a .path .now in
     let from = j .if3 .from in
     let names = names-at j in
     let k = length xs - from in
-    let copy = c .before .before .before .before .before .before .before .before .copy in
+    let copy = c .before .before .before .before .before .before .copy in
     let ys = copy .last .1 .0 in
     let n = from + copy .result in
-    let find = c .before .before .before .find2 in
+    let find = c .before .find2 in
     let end = c .path-end in
-    let good = not-false (read-at j .read-body .result .good) (c .before .before .before .before .before .before .before .before .before .before .before .before .before .before .if1 .left) in
-    let joined = c .before .before .before .before .before .before .before .before .before .before .before .before .if2 .left in
+    let good = not-false (read-at j .read-body .result .good) (c .before .before .before .before .before .before .before .before .before .before .before .before .if1 .left) in
+    let joined = c .before .before .before .before .before .before .before .before .before .before .if2 .left in
     let f = fits j in
     let z : n - 0 ≡ from + length names = (let q = copy .ensures .0 in omega arith) in
     let is : take (n - 0) (putMid from k xs ys) ≡ behind j ++ names =
@@ -161,7 +157,7 @@ returns-3 c =
     ⊎-elim
     (λ w. look-root r good (take (a .used) xs) _ joined _ _ _ (w .0 .taken) (ap (λ (n : ℕ). take n xs) (w .1)) m)
     (λ w. look-here r good (take (a .used) xs) _ joined _ _ _ (w .0 .left) (ap (λ (n : ℕ). take n xs) (w .1)) m)
-    (c .before .before .before .before .before .before .before .before .before .before .before .if3 .came)
+    (c .before .before .before .before .before .before .before .before .before .if3 .came)
 
 pub look-up-spec : {M : Type 1} → statement M
 look-up-spec =
@@ -183,13 +179,10 @@ look-up-spec =
     part-copy-end
     copy-requires
     add-all
-    sub-find
-    part-find-start
-    part-find-end
+    sub-entered
+    part-entered-start
+    part-entered-end
     find-requires-2
-    sub-path-end
-    part-path-end-start
-    part-path-end-end
     path-end-requires
     same-length
     returns-3)
