@@ -12,6 +12,10 @@ use borrow.Author.Tests.{eqb-true}
 use Rattle.registers.specs.Text.{Text, every, rest}
 use Rattle.registers.proofs.Tests.{and-both}
 
+-- a loop that goes on by one place
+pub fewer : {k n : ℕ} → k < n → n - (k + 1) < n - k
+fewer h = omega arith
+
 -- what is lent of a text from a place on
 pub rest-is : (l : Text) (at : ℕ) → at ≤ length l → take (length l - at) (drop at l) ≡ drop at l
 rest-is l at h = take-all (length l - at) (drop at l) (rw length-drop (omega arith))

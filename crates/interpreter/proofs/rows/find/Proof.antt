@@ -1,6 +1,7 @@
 use mathlib.Core.Logic.{⊎-elim}
 use Prim.Native.Nat.{_-_}
 use native.Mathlib.Omega.{arith}
+use Rattle.interpreter.proofs.Lists.{fewer}
 use Rattle.interpreter.proofs.rows.Rows.{nodes-fit, node-known, unformed, is-formed}
 use Rattle.interpreter.proofs.rows.Search.{Searching, search-start, search-end, skip-shared, skip-unformed, Trying, try-start, try-resume, try-on, try-missed, try-left, try-done}
 use Rattle.interpreter.proofs.rows.find.Statement.{statement}
@@ -34,7 +35,7 @@ cast-shared : tie.Need-cast-shared Inv-loop μ-loop Inv-rows μ-rows
 cast-shared c = omega arith
 
 rows-less : tie.Need-rows-less Inv-loop μ-loop Inv-rows μ-rows
-rows-less c = omega arith
+rows-less c = fewer (c .before .before .rows-test .taken)
 
 rows-again : tie.Need-rows-again Inv-loop μ-loop Inv-rows μ-rows
 rows-again c =
@@ -45,7 +46,7 @@ row-cell-requires-2 : tie.Need-row-cell-requires-2 Inv-loop μ-loop Inv-rows μ-
 row-cell-requires-2 c κs = (c .before .before .before .before .before .before .before .pre, c .before .before .rows-test .taken, omega arith)
 
 rows-less-2 : tie.Need-rows-less-2 Inv-loop μ-loop Inv-rows μ-rows
-rows-less-2 c = omega arith
+rows-less-2 c = fewer (c .before .before .before .before .rows-test .taken)
 
 rows-again-2 : tie.Need-rows-again-2 Inv-loop μ-loop Inv-rows μ-rows
 rows-again-2 c =
@@ -100,7 +101,7 @@ enum-told : tie.Need-enum-told Inv-loop μ-loop Inv-rows μ-rows
 enum-told c = omega arith
 
 rows-less-3 : tie.Need-rows-less-3 Inv-loop μ-loop Inv-rows μ-rows
-rows-less-3 c = omega arith
+rows-less-3 c = fewer (c .before .before .before .before .before .before .before .before .before .before .before .before .before .rows-test .taken)
 
 rows-again-3 : tie.Need-rows-again-3 Inv-loop μ-loop Inv-rows μ-rows
 rows-again-3 c =
@@ -113,7 +114,7 @@ add-passed : tie.Need-add-passed Inv-loop μ-loop Inv-rows μ-rows
 add-passed c = omega arith
 
 loop-less : tie.Need-loop-less Inv-loop μ-loop Inv-rows μ-rows
-loop-less c = omega arith
+loop-less c = fewer (c .before .before .before .before .before .before .loop-test .taken)
 
 loop-again : tie.Need-loop-again Inv-loop μ-loop Inv-rows μ-rows
 loop-again c =
@@ -123,7 +124,7 @@ loop-again c =
     try-on (l .before .loop .inv) (l .loop-test .taken) (x .result) (x .ensures) (k .result) (k .ensures) (c .before .walk .given .1)
 
 rows-less-4 : tie.Need-rows-less-4 Inv-loop μ-loop Inv-rows μ-rows
-rows-less-4 c = omega arith
+rows-less-4 c = fewer (c .before .before .before .before .before .before .before .before .before .rows-test .taken)
 
 rows-again-4 : tie.Need-rows-again-4 Inv-loop μ-loop Inv-rows μ-rows
 rows-again-4 c = try-left (c .before .before .loop .inv) (c .before .loop-test .left) (c .if4 .taken)
