@@ -83,13 +83,6 @@ putFit s i false (Within v) = check 221 (not (conflict s i v)) >> passed (Change
 unfoldable pub storeTo : Register → ℤ → Checked Deed
 storeTo x v = check 222 (leZ (pos 0) v && leZ v (pos (widest x))) >> passed (Change (Store x (natAbs v)))
 
--- a setting's row is one of the sixteen
-abbrev pub settled : Role → Bool
-settled (Setting i) = ltb i 16
-settled (register r) = true
-settled (Order d) = true
-settled (Question d) = true
-
 -- the parameters of a text that has none, or one
 abbrev pub partsOf : ℕ → Text → List Text
 partsOf n t = if eqb n 0 then [] else t ∷ []

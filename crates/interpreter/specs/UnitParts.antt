@@ -21,8 +21,6 @@ use Rattle.interpreter.specs.declared.deed.Change.the-variants.{Nothing,
 use Rattle.interpreter.specs.declared.deed.Query.{Query}
 use Rattle.interpreter.specs.declared.deed.Query.the-variants.{Identity, SelfTest, Completed, Limit, Value, Stored, Condition, OperationEvents}
 use Rattle.interpreter.specs.declared.deed.Role.{Role}
-use Rattle.interpreter.specs.declared.parameter.Decision.{Decision}
-use Rattle.interpreter.specs.declared.parameter.Decision.the-variants.{Refused as noDeed, Obey as someDeed}
 use Rattle.interpreter.specs.declared.unit.Reading.{Reading}
 use Rattle.interpreter.specs.declared.unit.Reading.the-variants.{Refused, Obey}
 
@@ -38,11 +36,6 @@ decided s row asked t =
     check 108 (leb (length (parameters t)) (greatest r asked)) >>
     check 109 (leb (least r asked) (length (parameters t))) >>
     deedOf s r asked (parameters t)
-
--- a decision, with what the path takes of the buffer
-abbrev pub readingOf : ℕ → Decision → Reading
-readingOf used (noDeed e) = Refused e
-readingOf used (someDeed d) = Obey d used
 
 -- a unit is refused by an error's number, or leaves its deed and a path in the buffer
 abbrev pub UnitRead : Settings → Text → Text → Reading → Text → Type 0

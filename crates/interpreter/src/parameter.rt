@@ -21,7 +21,7 @@ ghost use Rattle.registers.specs.Rounding.{rounded};
 ghost use Rattle.registers.specs.Settings.{kindOf};
 ghost use Rattle.interpreter.specs.RowsParts.{commandTable};
 ghost use Rattle.interpreter.specs.Parameter.{Word, Figure, parameter, wordsOf, takesNumbers, least, greatest, valueGiven, deedOf};
-ghost use Rattle.interpreter.specs.ParameterParts.{meantGiven, meantDeed, CountedIn, takenWords, TakesOf, aWord, isNumber, fitIn, putFit, storeTo, registerTo, settled, partsOf};
+ghost use Rattle.interpreter.specs.ParameterParts.{meantGiven, meantDeed, CountedIn, takenWords, TakesOf, aWord, isNumber, fitIn, putFit, storeTo, registerTo, partsOf};
 
 // Checks 5 and 6 on a parameter: a word of the row by its place in the row's list, or a number.
 pub(crate) enum Parameter {
@@ -109,7 +109,9 @@ fn find_word(table: &[u8], takes: Takes, text: &[u8]) -> Parameter
 {
     let mut n: usize = 0;
     while n < takes.count {
-        if rows::is_word(table, text, takes.first + n) {
+        let word = takes.first + n;
+        let letters = rows::agreed_letters(table, text, word);
+        if (letters == text.len()) & rows::has_length(table, word, letters) {
             return Parameter::Word(n);
         }
         n += 1;
@@ -229,8 +231,8 @@ fn store(register: Register, d: Decimal) -> Decision
     }
 }
 
-// Checks 5 to 8 on a setting.
-fn decide_setting(
+// Checks 5 to 8 on a setting, where check 4 let the number of parameters pass.
+pub(crate) fn decide_setting(
     table: &[u8],
     settings: Settings,
     row: usize,
@@ -259,7 +261,7 @@ fn decide_setting(
 }
 
 // Checks 5 to 7 on a register, which takes no words.
-fn decide_register(table: &[u8], register: Register, asked: bool, text: &[u8]) -> Decision
+pub(crate) fn decide_register(table: &[u8], register: Register, asked: bool, text: &[u8]) -> Decision
     requires { ⌜ now table ≡ commandTable ⌝ }
     ensures { λ r. ⌜ meantDeed r ≡ registerTo register asked (now (text .entry)) ⌝ }
 {
@@ -276,25 +278,5 @@ fn decide_register(table: &[u8], register: Register, asked: bool, text: &[u8]) -
         Parameter::Refused(e) => return Decision::Refused(e),
         Parameter::Word(_) => return Decision::Refused(Error::InvalidCharacterData),
         Parameter::Figure(d) => return store(register, d),
-    }
-}
-
-// Checks 5 to 8, where check 4 let the number of parameters pass. Orders and questions have none.
-pub(crate) fn decide(
-    table: &[u8],
-    settings: Settings,
-    role: Role,
-    asked: bool,
-    parts: usize,
-    text: &[u8],
-) -> Decision
-    requires { ⌜ (now table ≡ commandTable) × (settled role ≡ true) ⌝ }
-    requires { ⌜ (least role asked ≤ parts) × (parts ≤ greatest role asked) ⌝ }
-    ensures { λ r. ⌜ meantDeed r ≡ deedOf settings role asked (partsOf parts (now (text .entry))) ⌝ }
-{
-    match role {
-        Role::Setting(row) => return decide_setting(table, settings, row, asked, parts, text),
-        Role::Register(register) => return decide_register(table, register, asked, text),
-        Role::Order(deed) | Role::Question(deed) => return Decision::Obey(deed),
     }
 }

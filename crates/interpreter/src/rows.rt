@@ -3,7 +3,7 @@ use registers::text;
 ghost use mathlib.Core.Path.{_≡_};
 ghost use Prim.Native.Nat.{_≤_, _<_};
 ghost use lib.ListN.{length};
-ghost use Rattle.registers.specs.Words.{longForm, matches};
+ghost use Rattle.registers.specs.Words.{longForm};
 ghost use Rattle.interpreter.specs.RowsParts.{commandTable, wordAt, rowOf, named, agreed, formLength, WordTaken, wordCell, rowCell, wordIn, nodeOf, Walked, formBit};
 
 // How many rows there are.
@@ -33,7 +33,7 @@ fn row_cell(table: &[u8], row: usize, i: usize) -> u8
 }
 
 // Whether a word's short or its long form has so many letters.
-fn has_length(table: &[u8], word: usize, n: usize) -> bool
+pub(crate) fn has_length(table: &[u8], word: usize, n: usize) -> bool
     requires { ⌜ (now table ≡ commandTable) × (word < 52) ⌝ }
     ensures { λ r. ⌜ r ≡ formLength word n ⌝ }
 {
@@ -43,7 +43,7 @@ fn has_length(table: &[u8], word: usize, n: usize) -> bool
 }
 
 // How many first bytes of a text are a word's letters, in any letter case.
-fn agreed_letters(table: &[u8], text: &[u8], word: usize) -> usize
+pub(crate) fn agreed_letters(table: &[u8], text: &[u8], word: usize) -> usize
     requires { ⌜ (now table ≡ commandTable) × (word < 52) ⌝ }
     ensures { λ r. ⌜ r ≡ agreed (now (text .entry)) (longForm (wordAt word)) ⌝ }
 {
@@ -59,15 +59,6 @@ fn agreed_letters(table: &[u8], text: &[u8], word: usize) -> usize
         n += 1;
     }
     n
-}
-
-// Whether a name spells a word, in its short or its long form.
-pub(crate) fn is_word(table: &[u8], name: &[u8], word: usize) -> bool
-    requires { ⌜ (now table ≡ commandTable) × (word < 52) ⌝ }
-    ensures { λ r. ⌜ r ≡ matches (wordAt word) (now (name .entry)) ⌝ }
-{
-    let n = agreed_letters(table, name, word);
-    (n == name.len()) & has_length(table, word, n)
 }
 
 // Takes a word as the name at a place, with the colon behind it. No letter is a colon, so one walk over

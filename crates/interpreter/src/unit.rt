@@ -1,6 +1,7 @@
 // Checks 1 to 8 on one unit, a part of the line where it stands.
 use crate::deed;
 use crate::deed::Deed;
+use crate::deed::Role;
 use crate::header;
 use crate::header::Looked;
 use crate::parameter;
@@ -70,15 +71,22 @@ fn decide(table: &[u8], settings: Settings, row: usize, asked: bool, text: &[u8]
         return Decision::Refused(Error::UndefinedHeader);
     }
     let role = deed::role_of(row);
-    let parts = counted.parts;
     let most = parameter::most(role, asked);
-    if most < parts {
+    if most < counted.parts {
         return Decision::Refused(Error::ParameterNotAllowed);
     }
-    if !asked & (parts < most) {
+    if !asked & (counted.parts < most) {
         return Decision::Refused(Error::MissingParameter);
     }
-    parameter::decide(table, settings, role, asked, parts, text)
+    match role {
+        Role::Setting(row) => {
+            return parameter::decide_setting(table, settings, row, asked, counted.parts, text);
+        }
+        Role::Register(register) => {
+            return parameter::decide_register(table, register, asked, text);
+        }
+        Role::Order(deed) | Role::Question(deed) => return Decision::Obey(deed),
+    }
 }
 
 // The same on all that stands behind the header, which ends at a place of the unit.

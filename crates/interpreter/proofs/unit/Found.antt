@@ -12,10 +12,9 @@ use Rattle.registers.specs.Check.{refused, passed}
 use Rattle.registers.specs.Settings.{table}
 use Rattle.interpreter.specs.Rows.{Row, rows, settingRows, otherRows, findRow}
 use Rattle.interpreter.specs.RowsParts.{roleAt, rowOf}
-use Rattle.interpreter.specs.ParameterParts.{settled}
 use Rattle.interpreter.specs.UnitParts.{roleFound}
 use Rattle.interpreter.specs.declared.deed.Role.{Role}
-use Rattle.interpreter.specs.declared.deed.Role.the-variants.{Setting}
+use Rattle.interpreter.specs.declared.deed.Role.the-variants.{Setting, Register, Order, Question}
 use Rattle.interpreter.proofs.Lists.{every-at}
 use Rattle.interpreter.proofs.header.Laws.{found-none, found-role}
 use Rattle.interpreter.proofs.rows.Rows.{rows-many}
@@ -31,6 +30,13 @@ role-found star names asked = go (ltb row 33) refl
     go true e = found-role star names asked row refl (ltb-true row 33 e)
     go false e = found-none star names asked row refl (ltb-false row 33 e)
 
+-- a setting's row is one of the sixteen
+abbrev settled : Role → Bool
+settled (Setting i) = ltb i 16
+settled (Register r) = true
+settled (Order d) = true
+settled (Question d) = true
+
 abbrev roleOf : Row → Role
 roleOf r = r .role
 
@@ -38,6 +44,9 @@ all-settled : every settled (map roleOf rows) ≡ true
 unfolding rows settingRows otherRows table
 all-settled = refl
 
-pub settled-at : (row : ℕ) → row < 33 → settled (roleAt row) ≡ true
+settled-at : (row : ℕ) → row < 33 → settled (roleAt row) ≡ true
 unfolding roleAt
 settled-at row h = every-at settled (map roleOf rows) row (Setting row) all-settled (omega (arith, length-map rows roleOf, rows-many))
+
+pub setting-known : (row i : ℕ) → row < 33 → roleAt row ≡ Setting i → i < 16
+setting-known row i h e = ltb-true i 16 (rw e at (settled-at row h))

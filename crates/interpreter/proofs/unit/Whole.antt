@@ -17,13 +17,15 @@ use Rattle.interpreter.specs.RowsParts.{named}
 use Rattle.interpreter.specs.Parameter.{parameters, least, greatest, deedOf}
 use Rattle.interpreter.specs.Unit.{Read, headerText, parameterText, readUnit}
 use Rattle.interpreter.specs.ParameterParts.{meantDeed}
-use Rattle.interpreter.specs.UnitParts.{roleFound, decided, readingOf, UnitRead}
+use Rattle.interpreter.specs.UnitParts.{roleFound, decided, UnitRead}
 use Rattle.interpreter.specs.declared.deed.Deed.{Deed}
 use Rattle.interpreter.specs.declared.deed.Role.{Role}
 use Rattle.interpreter.specs.declared.header.Looked.{Looked}
 use Rattle.interpreter.specs.declared.header.Looked.the-variants.{Bad, At}
 use Rattle.interpreter.specs.declared.parameter.Decision.{Decision}
 use Rattle.interpreter.specs.declared.parameter.Decision.the-variants.{Refused as noDeed, Obey as someDeed}
+use Rattle.interpreter.specs.declared.unit.Reading.{Reading}
+use Rattle.interpreter.specs.declared.unit.Reading.the-variants.{Refused, Obey}
 use Rattle.interpreter.proofs.header.Laws.{found-most}
 use Rattle.interpreter.proofs.unit.Bytes.{allowed}
 use Rattle.interpreter.proofs.unit.Found.{role-found}
@@ -114,6 +116,11 @@ pub record Headed (s : Settings) (path u : Text) (row used : ℕ) (asked : Bool)
       ≡ (decided s row asked (parameterText u) >>= λ d. passed (record { deed = d; path = named (take used buffer) }))
   pub shut : closed (take used buffer) ≡ true
   pub short : used ≤ length path + length u
+
+-- a decision, with what the path takes of the buffer
+abbrev readingOf : ℕ → Decision → Reading
+readingOf used (noDeed e) = Refused e
+readingOf used (someDeed d) = Obey d used
 
 module _ (s : Settings) (path u : Text) {row used : ℕ} {asked : Bool} {buffer : Text} where
   pub headed : every allowed u ≡ true → (t : Text) → t ≡ headerText u → length t ≤ length u

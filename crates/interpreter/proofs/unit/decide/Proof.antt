@@ -1,13 +1,18 @@
-use mathlib.Core.Path.{_≡_, sym, _∙_}
+use mathlib.Core.Path.{_≡_, refl, sym, _∙_, subst}
 use Prim.Native.Nat.{ℕ, _≤_}
 use native.Mathlib.Omega.{arith}
 use borrow.Author.Tests.{not-true, not-false, le-leb, lt-leb}
 use Rattle.registers.specs.Check.{check, _>>_}
-use Rattle.interpreter.specs.Parameter.{parameters, least, greatest}
+use Rattle.interpreter.specs.Parameter.{parameters, least, greatest, deedOf}
+use Rattle.interpreter.specs.ParameterParts.{meantDeed, partsOf}
 use Rattle.interpreter.specs.UnitParts.{decided}
+use Rattle.interpreter.specs.declared.deed.Role.{Role}
+use Rattle.interpreter.specs.declared.parameter.Decision.{Decision}
+use Rattle.interpreter.specs.declared.parameter.Decision.the-variants.{Obey}
 use Rattle.interpreter.proofs.parameter.Cuts.{parts-are}
+use Rattle.interpreter.proofs.parameter.Deeds.{register-is}
 use Rattle.interpreter.proofs.parameter.Sorts.{too-few, enough, greatest-one}
-use Rattle.interpreter.proofs.unit.Found.{settled-at}
+use Rattle.interpreter.proofs.unit.Found.{setting-known}
 use Rattle.interpreter.proofs.unit.Laws.{checked, has-empty, not-found, found}
 use Rattle.interpreter.proofs.unit.decide.Statement.{statement}
 use Rattle.interpreter.proofs.unit.decide.Tie as tie
@@ -39,13 +44,13 @@ says p =
     found (a .settings) (a .row) (a .asked) (a .text .now) (n .result) (n .ensures) full (omega arith) (r .result) (r .ensures)
 
 -- check 4 let the number pass, from above and from below
-most-let : (c : tie.Else3) → parts-of (c .before .before) ≤ most-of (c .before .before)
-most-let c = let m = c .before .most .ensures in omega arith
+most-let : (c : tie.Else3) → let p = c .before .before .before in parts-of p ≤ most-of p
+most-let c = let m = c .before .before .most .ensures in omega arith
 
-least-let : (c : tie.Else4) → fewest-of (c .before .before .before) ≤ parts-of (c .before .before .before)
+least-let : (c : tie.Else4) → let p = c .before .before .before .before .before in fewest-of p ≤ parts-of p
 least-let c =
-    let p = c .before .before .before in
-    enough (p .role-of .result) (parts-of p) (entry p .args .asked) (rw (c .before .before .most .ensures) at (c .if4 .left))
+    let p = c .before .before .before .before .before in
+    enough (p .role-of .result) (parts-of p) (entry p .args .asked) (rw (c .before .before .before .before .most .ensures) at (c .if4 .left))
 
 count-requires : tie.Need-count-requires
 count-requires c κs = tt
@@ -72,35 +77,80 @@ most-requires c κs = tt
 returns-3 : tie.Need-returns-3
 unfolding check _>>_
 returns-3 c =
-    let p = c .before .before in
-    let m = c .before .most .ensures in
+    let p = c .before .before .before in
+    let m = c .before .before .most .ensures in
     sym (says p ∙ rw (lt-leb (parts-of p) (most-of p) (omega arith)))
 
 returns-4 : tie.Need-returns-4
 unfolding check _>>_
 returns-4 c =
-    let p = c .before .before .before in
+    let p = c .before .before .before .before .before in
     let a = entry p .args in
-    let few = too-few (p .role-of .result) (parts-of p) (a .asked) (rw (c .before .before .most .ensures) at (c .if4 .taken)) in
-    sym (says p ∙ rw (le-leb (parts-of p) (most-of p) (most-let (c .before)), lt-leb (fewest-of p) (parts-of p) few))
+    let few = too-few (p .role-of .result) (parts-of p) (a .asked) (rw (c .before .before .before .before .most .ensures) at (c .if4 .taken)) in
+    sym (says p ∙ rw (le-leb (parts-of p) (most-of p) (most-let (c .before .before)), lt-leb (fewest-of p) (parts-of p) few))
 
-decide-requires : tie.Need-decide-requires
-decide-requires c κs =
-    let p = c .before .before .before in
-    let pre = entry p .pre in
-    ((pre .0, rw (p .role-of .ensures) (settled-at (entry p .args .row) (omega arith))), (least-let c, most-let (c .before)))
-
-returns-5 : tie.Need-returns-5
+-- what is left is what the row's own checks say
+passes : (c : tie.Else4) (r : Role) → let p = c .before .before .before .before .before in
+    let a = entry p .args in
+    p .role-of .result ≡ r → (d : Decision) → meantDeed d ≡ deedOf (a .settings) r (a .asked) (partsOf (parts-of p) (a .text .now))
+    → meantDeed d ≡ decided (a .settings) (a .row) (a .asked) (a .text .now)
 unfolding check _>>_
-returns-5 c =
-    let e = c .before in
-    let p = e .before .before .before in
+passes c r q d is =
+    let p = c .before .before .before .before .before in
     let a = entry p .args in
     let n = p .before .before .before .before .count in
-    let m = most-let (e .before) in
+    let m = most-let (c .before .before) in
     let one = parts-are (a .text .now) (entry p .pre .2) (n .result) (n .ensures) (omega (arith, greatest-one (p .role-of .result) (a .asked))) in
-    (rw one at (c .decide .ensures))
-    ∙ sym (says p ∙ rw (le-leb (parts-of p) (most-of p) m, le-leb (fewest-of p) (parts-of p) (least-let e)))
+    let said = subst (λ (r : Role). meantDeed d ≡ deedOf (a .settings) r (a .asked) (partsOf (parts-of p) (a .text .now))) (sym q) is in
+    (rw one at said) ∙ sym (says p ∙ rw (le-leb (parts-of p) (most-of p) m, le-leb (fewest-of p) (parts-of p) (least-let c)))
+
+enum-known-role : tie.Need-enum-known-role
+enum-known-role c = omega arith
+
+decide-setting-requires : tie.Need-decide-setting-requires
+decide-setting-requires c κs =
+    let e = c .before .before .before in
+    let p = e .before .before .before .before .before in
+    let a = entry p .args in
+    let pre = entry p .pre in
+    let role = c .before .role .given in
+    let known = setting-known (a .row) (role .0 .0) (omega arith) (sym (p .role-of .ensures) ∙ role .1) in
+    let few = subst (λ (r : Role). least r (a .asked) ≤ parts-of p) (role .1) (least-let e) in
+    let most = subst (λ (r : Role). parts-of p ≤ greatest r (a .asked)) (role .1) (most-let (e .before .before)) in
+    ((pre .0, known), (few, most))
+
+returns-5 : tie.Need-returns-5
+returns-5 c = passes (c .before .before .before .before) _ (c .before .before .role .given .1) (c .decide-setting .result) (c .decide-setting .ensures)
+
+enum-known-role-2 : tie.Need-enum-known-role-2
+enum-known-role-2 c = omega arith
+
+decide-register-requires : tie.Need-decide-register-requires
+decide-register-requires c κs = entry (c .before .before .before .before .before .before .before .before) .pre .0
+
+returns-6 : tie.Need-returns-6
+returns-6 c =
+    let e = c .before .before .before .before in
+    let p = e .before .before .before .before .before in
+    let a = entry p .args in
+    let role = c .before .before .role2 .given in
+    let few = subst (λ (r : Role). least r (a .asked) ≤ parts-of p) (role .1) (least-let e) in
+    passes e _ (role .1) (c .decide-register .result)
+    (c .decide-register .ensures ∙ register-is (a .settings) (role .0 .0) (a .asked) (parts-of p) (a .text .now) few)
+
+enum-known-role-3 : tie.Need-enum-known-role-3
+enum-known-role-3 c = omega arith
+
+enum-known-role-4 : tie.Need-enum-known-role-4
+enum-known-role-4 c = omega arith
+
+returns-7 : tie.Need-returns-7
+unfolding deedOf
+returns-7 c = passes (c .before .before .before) _ (c .before .role3 .given .1) (Obey (c .before .role3 .given .0 .0)) refl
+
+returns-8 : tie.Need-returns-8
+unfolding deedOf
+returns-8 c = passes (c .before .before .before) _ (c .before .role4 .given .1) (Obey (c .before .role4 .given .0 .0)) refl
 
 pub decide-spec : {M : Type 1} → statement M
 decide-spec =
@@ -113,5 +163,13 @@ decide-spec =
     most-requires
     returns-3
     returns-4
-    decide-requires
-    returns-5)
+    enum-known-role
+    decide-setting-requires
+    returns-5
+    enum-known-role-2
+    decide-register-requires
+    returns-6
+    enum-known-role-3
+    enum-known-role-4
+    returns-7
+    returns-8)
