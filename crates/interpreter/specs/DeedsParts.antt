@@ -29,7 +29,7 @@ use Rattle.interpreter.specs.declared.deed.Query.the-variants.{Identity 
 use Rattle.interpreter.specs.declared.deed.Inquiry as inquiries
 use Rattle.interpreter.specs.declared.deed.Inquiry.the-variants.{StandardEvents, StatusByte, NextError}
 use Rattle.interpreter.specs.declared.perform.Present.{Present}
-use Rattle.interpreter.specs.declared.perform.Performed.{Performed}
+use Rattle.interpreter.specs.declared.perform.Done.{Done}
 use Rattle.interpreter.specs.declared.reply.Reply.{Reply}
 use Rattle.interpreter.specs.declared.reply.Reply.the-variants.{Nothing, Identity, Word, Tenths, Whole, Number, Error}
 
@@ -163,10 +163,11 @@ unfoldable pub raisedWith : errors.Error → Present → Present
 raisedWith e p = record { settings = p .settings; status = raisedIn (numberOf e) (p .status) }
 
 -- a deed is performed, or refused by check 9
-pub record PerformedIn (d : Deed) (p : Present) (out : Text) (answered : ℕ) (r : Performed) (left : Text) : Type 0 where
+pub record PerformedIn (d : Deed) (p : Done) (out : Text) (r : Done) (left : Text) : Type 0 where
   pub queued : r .present .status .queued ≤ most
   pub room : r .answered < mostAnswer
-  pub done : r .obeyed ≡ true → perform d (boxIn p (take answered out)) ≡ passed (boxIn (r .present) (take (r .answered) left))
+  pub used : r .used ≡ p .used
+  pub done : r .obeyed ≡ true → perform d (boxIn (p .present) (take (p .answered) out)) ≡ passed (boxIn (r .present) (take (r .answered) left))
   pub dropped : r .obeyed ≡ false
-      → (perform d (boxIn p (take answered out)) ≡ refused 430)
-      × (boxIn (r .present) (take (r .answered) left) ≡ refuse 430 (boxIn p (take answered out)))
+      → (perform d (boxIn (p .present) (take (p .answered) out)) ≡ refused 430)
+      × (boxIn (r .present) (take (r .answered) left) ≡ refuse 430 (boxIn (p .present) (take (p .answered) out)))

@@ -16,7 +16,7 @@ use Rattle.interpreter.specs.HeaderParts.{closed}
 use Rattle.interpreter.specs.RowsParts.{named}
 use Rattle.interpreter.specs.DeedsParts.{boxIn}
 use Rattle.interpreter.specs.declared.perform.Present.{Present}
-use Rattle.interpreter.specs.declared.line.Done.{Done}
+use Rattle.interpreter.specs.declared.perform.Done.{Done}
 use Rattle.interpreter.specs.declared.line.Ran.{Ran}
 
 -- what a line's functions hold at any time means this

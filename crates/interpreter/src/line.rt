@@ -1,5 +1,6 @@
 // A line: its units left to right, and its end.
 use crate::perform;
+use crate::perform::Done;
 use crate::perform::Present;
 use crate::state::LINE;
 use crate::unit;
@@ -15,14 +16,6 @@ ghost use Rattle.interpreter.specs.Box.{mostLine, mostAnswer};
 ghost use Rattle.interpreter.specs.RowsParts.{commandTable};
 ghost use Rattle.interpreter.specs.HeaderParts.{closed};
 ghost use Rattle.interpreter.specs.LineParts.{RefusedWith, UnitRan, UnitsRan, LineRan, Discarded};
-
-// What the units so far leave: the answer's length, the path's length, and whether the last one was obeyed.
-struct Done {
-    present: Present,
-    answered: usize,
-    used: usize,
-    obeyed: bool,
-}
 
 // What a line leaves.
 pub(crate) struct Ran {
@@ -46,7 +39,7 @@ fn refuse(mut done: Done, error: Error) -> Done
 // One unit behind those before it: all nine checks, and what it does.
 fn run_unit(
     table: &[u8],
-    done: Done,
+    mut done: Done,
     path: &mut [u8; LINE],
     unit: &[u8],
     out: &mut [u8],
@@ -62,14 +55,8 @@ fn run_unit(
             return refuse(done, error);
         }
         Reading::Obey { deed, used } => {
-            let performed = perform::perform(table, done.present, deed, out, done.answered);
-            let next = performed.present;
-            return Done {
-                present: next,
-                answered: performed.answered,
-                used,
-                obeyed: performed.obeyed,
-            };
+            done.used = used;
+            return perform::perform(table, done, deed, out);
         }
     }
 }

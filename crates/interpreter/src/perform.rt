@@ -22,10 +22,12 @@ pub(crate) struct Present {
     pub(crate) status: Status,
 }
 
-// What a deed leaves: how much of the answer's buffer is written, and whether the unit was obeyed.
-pub(crate) struct Performed {
+// What the units so far leave: how much of the answer's buffer is written, how much of the path's buffer the path takes,
+// and whether the last one was obeyed.
+pub(crate) struct Done {
     pub(crate) present: Present,
     pub(crate) answered: usize,
+    pub(crate) used: usize,
     pub(crate) obeyed: bool,
 }
 
@@ -77,37 +79,26 @@ fn status_after(status: Status, deed: Deed) -> Status
     }
 }
 
-// Performs a deed behind what the line's earlier units answered.
-pub(crate) fn perform(
-    table: &[u8],
-    present: Present,
-    deed: Deed,
-    out: &mut [u8],
-    answered: usize,
-) -> Performed
-    requires { ⌜ (now table ≡ commandTable) × Allowed (present .settings) deed ⌝ }
-    requires { ⌜ (answered < mostAnswer) × (length (now out) ≡ mostAnswer) × (present .status .queued ≤ most) ⌝ }
-    ensures { λ r. ⌜ PerformedIn deed present (now (out .entry)) answered r (now (out .exit)) ⌝ }
+// Performs a deed behind what the line's earlier units answered. The path stays: the unit's header set it.
+pub(crate) fn perform(table: &[u8], mut done: Done, deed: Deed, out: &mut [u8]) -> Done
+    requires { ⌜ (now table ≡ commandTable) × Allowed (done .present .settings) deed ⌝ }
+    requires { ⌜ (done .answered < mostAnswer) × (length (now out) ≡ mostAnswer) × (done .present .status .queued ≤ most) ⌝ }
+    ensures { λ r. ⌜ PerformedIn deed done (now (out .entry)) r (now (out .exit)) ⌝ }
 {
-    let reply = reply::to_deed(table, present, answered != 0, deed);
-    let end = reply::give(table, reply, out, answered);
-    let status = status_after(present.status, deed);
+    let reply = reply::to_deed(table, done.present, done.answered != 0, deed);
+    let end = reply::give(table, reply, out, done.answered);
     if out.len() <= end {
-        let settings = present.settings;
-        let failed = present.status.raise(Error::QueryDeadlocked);
-        return Performed {
-            present: Present {
-                settings,
-                status: failed,
-            },
-            answered: 0,
-            obeyed: false,
-        };
+        done.present = raise(done.present, Error::QueryDeadlocked);
+        done.answered = 0;
+        done.obeyed = false;
+        return done;
     }
-    let settings = settings_after(present.settings, deed);
-    Performed {
+    let settings = settings_after(done.present.settings, deed);
+    let status = status_after(done.present.status, deed);
+    Done {
         present: Present { settings, status },
         answered: end,
+        used: done.used,
         obeyed: true,
     }
 }

@@ -21,10 +21,9 @@ use Rattle.interpreter.specs.UnitParts.{UnitRead, Allowed}
 use Rattle.interpreter.specs.LineParts.{boxAt, RefusedWith, UnitRan}
 use Rattle.interpreter.specs.declared.deed.Deed.{Deed}
 use Rattle.interpreter.specs.declared.perform.Present.{Present}
-use Rattle.interpreter.specs.declared.perform.Performed.{Performed}
 use Rattle.interpreter.specs.declared.unit.Reading.{Reading}
 use Rattle.interpreter.specs.declared.unit.Reading.the-variants.{Refused, Obey}
-use Rattle.interpreter.specs.declared.line.Done.{Done}
+use Rattle.interpreter.specs.declared.perform.Done.{Done}
 use Rattle.interpreter.proofs.unit.Allowed.{read-allowed}
 
 -- ---- errors
@@ -88,13 +87,14 @@ module _ (d : Done) (path unit paths : Text) (res : Reading) (read : UnitRead (d
           stops = λ _. (numberOf e, attempt-read (named path) b unit (numberOf e) f, w .box out);
         }
 
-    pub unit-obeyed : (e : Deed) (used : ℕ) → res ≡ Obey e used → (r : Performed) (left : Text) → PerformedIn e (d .present) out (d .answered) r left
-        → UnitRan d path unit out (record { present = r .present; answered = r .answered; used = used; obeyed = r .obeyed }) paths left
+    pub unit-obeyed : (e : Deed) (used : ℕ) → res ≡ Obey e used → (r : Done) (left : Text)
+        → PerformedIn e (record { present = d .present; answered = d .answered; used = used; obeyed = d .obeyed }) out r left
+        → UnitRan d path unit out r paths left
     unit-obeyed e used q r left w =
         let f = subst (λ (r : Reading). UnitRead (d .present .settings) path unit r paths) q read in
         record {
           queued = w .queued;
           room = w .room;
-          goes = λ t. (attempt-done (named path) b unit _ _ (f .0) (w .done t), f .1, f .2);
+          goes = λ t. rw (w .used) (attempt-done (named path) b unit _ _ (f .0) (w .done t), f .1, f .2);
           stops = λ t. (430, attempt-full (named path) b unit _ 430 (f .0) (w .dropped t .0), w .dropped t .1);
         }

@@ -21,7 +21,7 @@ use Rattle.interpreter.specs.RowsParts.{named}
 use Rattle.interpreter.specs.DeedsParts.{boxIn}
 use Rattle.interpreter.specs.LineParts.{boxAt, UnitRan}
 use Rattle.interpreter.specs.declared.perform.Present.{Present}
-use Rattle.interpreter.specs.declared.line.Done.{Done}
+use Rattle.interpreter.specs.declared.perform.Done.{Done}
 
 -- ---- where a byte stands from a place on
 

@@ -30,6 +30,7 @@ use Rattle.interpreter.specs.declared.deed.Query as queries
 use Rattle.interpreter.specs.declared.deed.Query.the-variants.{Identity, SelfTest, Completed, Limit, Value, Stored, Condition, OperationEvents}
 use Rattle.interpreter.specs.declared.deed.Inquiry as inquiries
 use Rattle.interpreter.specs.declared.deed.Inquiry.the-variants.{StandardEvents, StatusByte, NextError}
+use Rattle.interpreter.specs.declared.perform.Done.{Done}
 use Rattle.interpreter.specs.declared.perform.Present.{Present}
 use Rattle.interpreter.specs.declared.reply.Reply.{Reply}
 use Rattle.interpreter.specs.declared.reply.Reply.the-variants.{Nothing}
@@ -181,36 +182,41 @@ module _ (p : Present) (a : Text) (r : Reply) where
   dropped (Inquire q) e k h = rw (inquiry-same q p a, ← e .is, reply-refused r (after (Inquire q)) (e .some) h)
 
 -- the deed as the code performs it: what its reply leaves of the answers, and where they end
-module _ (d : Deed) (p : Present) {r : Reply} {out end-of : Text} {answered end : ℕ} (room : answered < mostAnswer) (size : length out ≡ mostAnswer)
-    (says : ReplyTo d p (not (eqb answered 0)) r) (answers : GivenTo r answered out end end-of) where
+module _ (d : Deed) (q : Done) {r : Reply} {out end-of : Text} {end : ℕ} (room : q .answered < mostAnswer) (size : length out ≡ mostAnswer)
+    (says : ReplyTo d (q .present) (not (eqb (q .answered) 0)) r) (answers : GivenTo r (q .answered) out end end-of) where
+  abbrev p : Present
+  p = q .present
+
   abbrev so-far : Text
-  so-far = take answered out
+  so-far = take (q .answered) out
 
   replies : ReplyTo d p (not (empty so-far)) r
-  replies = rw (some-answer out answered (omega arith)) says
+  replies = rw (some-answer out (q .answered) (omega arith)) says
 
   pub obeyed : {t : Status} → Allowed (p .settings) d → StatusLeft d (p .status) t → end < mostAnswer
-      → PerformedIn d p out answered
-      (record { present = record { settings = settingsLeft d (p .settings); status = t }; answered = end; obeyed = true }) end-of
+      → PerformedIn d q out
+      (record { present = record { settings = settingsLeft d (p .settings); status = t }; answered = end; used = q .used; obeyed = true }) end-of
   obeyed {t} k s h =
       let e = answers .stands h in
       record {
         queued = s .queued;
         room = h;
+        used = refl;
         done = λ _. rw (s .registers (p .settings) k, s .trouble, e .1) (given p so-far r d replies (e .0));
         dropped = λ z. absurd (false≢true (sym z));
       }
 
   -- the error of check 9 is all that it leaves
   pub deadlocked : length (p .status .errors) ≡ 16 → p .status .queued ≤ most → mostAnswer ≤ end
-      → PerformedIn d p out answered
-      (record { present = record { settings = p .settings; status = raisedIn 430 (p .status) }; answered = 0; obeyed = false }) end-of
+      → PerformedIn d q out
+      (record { present = record { settings = p .settings; status = raisedIn 430 (p .status) }; answered = 0; used = q .used; obeyed = false }) end-of
   unfolding refuse if_then_else_
   deadlocked full k h =
       let short : length so-far < mostAnswer = rw length-take (omega arith) in
       record {
         queued = raised-queued 430 (p .status) full k;
         room = omega arith;
+        used = refl;
         done = λ z. absurd (false≢true z);
         dropped = λ _. (
           dropped p so-far r d replies short (answers .falls h),

@@ -39,11 +39,11 @@ same-length c = omega arith
 
 returns-2 : tie.Need-returns-2
 returns-2 c =
-    let a = c .before .before .before .before .before .before .before .before .before .before .before .before .before .args in
-    let read = c .before .before .before .before .before .before .before .before .read in
-    let performed = c .before .before .before .perform in
+    let a = c .before .before .before .before .before .before .before .before .before .before .before .before .args in
+    let read = c .before .before .before .before .before .before .before .read in
+    let performed = c .before .before .perform in
     unit-obeyed (a .done) (take (a .done .used) (a .path .now)) (a .unit .now) (read .last .1 .1 .0) (read .result) (read .ensures)
-    (a .out .now) _ _ (c .before .before .before .before .before .before .reading2 .given .1) (performed .result) (performed .last .1 .1 .1 .0) (performed .ensures)
+    (a .out .now) _ _ (c .before .before .before .before .before .reading2 .given .1) (performed .result) (performed .last .1 .1 .1 .0) (performed .ensures)
 
 pub run-unit-spec : {M : Type 1} → statement M
 run-unit-spec =
