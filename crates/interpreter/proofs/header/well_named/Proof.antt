@@ -3,6 +3,7 @@ use native.Mathlib.Omega.{arith}
 use Prim.Native.Nat.{_-_, _≤_}
 use lib.ListN.{length, drop}
 use Rattle.interpreter.specs.HeaderParts.{well}
+use Rattle.interpreter.proofs.Lists.{fewer}
 use Rattle.interpreter.proofs.header.Grammar.{well-more, well-stop, well-end}
 use Rattle.interpreter.proofs.header.well_named.Statement.{statement}
 use Rattle.interpreter.proofs.header.well_named.Tie as tie
@@ -33,7 +34,7 @@ add-i : tie.Need-add-i Inv-loop μ-loop
 add-i c = omega arith
 
 loop-less : tie.Need-loop-less Inv-loop μ-loop
-loop-less c = omega arith
+loop-less c = fewer (c .before .before .before .loop-test .taken)
 
 loop-again : tie.Need-loop-again Inv-loop μ-loop
 loop-again c =

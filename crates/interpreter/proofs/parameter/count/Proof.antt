@@ -1,6 +1,7 @@
 use Prim.Native.Nat.{_-_}
 use native.Mathlib.Omega.{arith}
 use lib.ListN.{length}
+use Rattle.interpreter.proofs.Lists.{fewer}
 use Rattle.interpreter.proofs.parameter.Counting.{Counting, counting-start, counting-comma, counting-byte, counting-end, counting-none}
 use Rattle.interpreter.proofs.parameter.count.Statement.{statement}
 use Rattle.interpreter.proofs.parameter.count.Tie as tie
@@ -27,7 +28,7 @@ add-parts : tie.Need-add-parts Inv-loop μ-loop
 add-parts c = omega arith
 
 loop-less : tie.Need-loop-less Inv-loop μ-loop
-loop-less c = omega arith
+loop-less c = fewer (c .before .before .loop-test .taken)
 
 loop-again : tie.Need-loop-again Inv-loop μ-loop
 loop-again c = counting-comma (c .before .before .before .loop .inv) (omega arith) (c .if2 .taken)
@@ -36,7 +37,7 @@ is-white-requires : tie.Need-is-white-requires Inv-loop μ-loop
 is-white-requires c κs = tt
 
 loop-less-2 : tie.Need-loop-less-2 Inv-loop μ-loop
-loop-less-2 c = omega arith
+loop-less-2 c = fewer (c .before .before .before .loop-test .taken)
 
 loop-again-2 : tie.Need-loop-again-2 Inv-loop μ-loop
 loop-again-2 c =

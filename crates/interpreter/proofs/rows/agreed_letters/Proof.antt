@@ -3,6 +3,7 @@ use Prim.Native.Nat.{_-_}
 use native.Mathlib.Omega.{arith}
 use lib.ListN.{length}
 use borrow.Author.Needs.{needs}
+use Rattle.interpreter.proofs.Lists.{fewer}
 use Rattle.interpreter.proofs.rows.Letters.{Agreeing, agreeing-none, agreeing-on, agreeing-miss, agreeing-end, agreeing-full}
 use Rattle.interpreter.proofs.rows.agreed_letters.Statement.{statement}
 use Rattle.interpreter.proofs.rows.agreed_letters.Tie as tie
@@ -46,7 +47,7 @@ add-n : tie.Need-add-n Inv-loop μ-loop
 add-n c = omega arith
 
 loop-less : tie.Need-loop-less Inv-loop μ-loop
-loop-less c = omega arith
+loop-less c = fewer (c .before .before .before .before .before .loop-test .taken)
 
 loop-again : tie.Need-loop-again Inv-loop μ-loop
 loop-again c =

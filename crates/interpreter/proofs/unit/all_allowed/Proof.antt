@@ -4,6 +4,7 @@ use Prim.Native.Nat.{_-_}
 use native.Mathlib.Omega.{arith}
 use lib.ListN.{length, drop}
 use Rattle.registers.specs.Text.{every}
+use Rattle.interpreter.proofs.Lists.{fewer}
 use Rattle.interpreter.proofs.unit.Bytes.{allowed, all-allowed, more-allowed}
 use Rattle.interpreter.proofs.unit.all_allowed.Statement.{statement}
 use Rattle.interpreter.proofs.unit.all_allowed.Tie as tie
@@ -24,7 +25,7 @@ add-i : tie.Need-add-i Inv-loop μ-loop
 add-i c = omega arith
 
 loop-less : tie.Need-loop-less Inv-loop μ-loop
-loop-less c = omega arith
+loop-less c = fewer (c .before .loop-test .taken)
 
 loop-again : tie.Need-loop-again Inv-loop μ-loop
 loop-again c =
