@@ -1,12 +1,12 @@
 use mathlib.Core.Path.{_≡_, refl}
 use Prim.Native.Nat.{_<_, zero-le}
-use native.Mathlib.Omega.{arith}
 use native.Mathlib.Nat.{sub-zero}
+use native.Mathlib.Omega.{arith}
 use lib.ListN.{length, take, length-take}
+use borrow.Author.Needs.{needs}
 use Rattle.registers.specs.Text.{if_then_else_}
 use Rattle.interpreter.specs.Line.{byte, piece, newlines}
 use Rattle.interpreter.proofs.line.Newline.{ended}
-use borrow.Author.Needs.{needs}
 use Rattle.interpreter.proofs.flow.newline.Statement.{statement}
 use Rattle.interpreter.proofs.flow.newline.Tie as tie
 
@@ -14,10 +14,10 @@ discard-requires : tie.Need-discard-requires
 discard-requires c κs = tt
 
 sub-run-line : tie.Need-sub-run-line
-sub-run-line c = omega arith
+sub-run-line c = zero-le
 
 part-run-line-start : tie.Need-part-run-line-start
-part-run-line-start c = omega arith
+part-run-line-start c = zero-le
 
 part-run-line-end : tie.Need-part-run-line-end
 part-run-line-end c = omega arith

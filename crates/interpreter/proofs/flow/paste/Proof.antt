@@ -1,13 +1,15 @@
+use Prim.Native.Nat.{zero-le}
+use native.Mathlib.Nat.{le-refl}
 use native.Mathlib.Omega.{arith}
 use Rattle.interpreter.proofs.flow.Laws.{pasted}
 use Rattle.interpreter.proofs.flow.paste.Statement.{statement}
 use Rattle.interpreter.proofs.flow.paste.Tie as tie
 
 sub-copy : tie.Need-sub-copy
-sub-copy c = omega arith
+sub-copy c = zero-le
 
 part-copy-start : tie.Need-part-copy-start
-part-copy-start c = omega arith
+part-copy-start c = zero-le
 
 part-copy-end : tie.Need-part-copy-end
 part-copy-end c = omega arith
@@ -19,7 +21,7 @@ part-copy-start-2 : tie.Need-part-copy-start-2
 part-copy-start-2 c = omega arith
 
 part-copy-end-2 : tie.Need-part-copy-end-2
-part-copy-end-2 c = omega arith
+part-copy-end-2 c = le-refl _
 
 copy-requires : tie.Need-copy-requires
 copy-requires c κs = omega arith

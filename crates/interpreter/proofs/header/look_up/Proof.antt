@@ -2,7 +2,8 @@ use mathlib.Core.Path.{_≡_, refl, sym, ap, subst}
 use mathlib.Core.Bool.{true}
 use mathlib.Core.List.{_++_}
 use mathlib.Core.Logic.{⊎-elim}
-use Prim.Native.Nat.{ℕ, _+_, _-_, _≤_}
+use Prim.Native.Nat.{ℕ, _+_, _-_, _≤_, zero-le}
+use native.Mathlib.Nat.{le-refl}
 use native.Mathlib.Omega.{arith}
 use lib.Dec.{ltb}
 use lib.ListN.{length, take, drop, length-take}
@@ -30,10 +31,10 @@ body-end-requires : tie.Need-body-end-requires
 body-end-requires c κs = tt
 
 sub-body : tie.Need-sub-body
-sub-body c = omega arith
+sub-body c = zero-le
 
 part-body-start : tie.Need-part-body-start
-part-body-start c = omega arith
+part-body-start c = zero-le
 
 part-body-end : tie.Need-part-body-end
 part-body-end c = omega arith
@@ -51,7 +52,7 @@ part-names-start : tie.Need-part-names-start
 part-names-start c = sub-names c
 
 part-names-end : tie.Need-part-names-end
-part-names-end c = omega arith
+part-names-end c = le-refl _
 
 find-requires : tie.Need-find-requires
 find-requires c κs = c .before .before .before .before .before .before .before .before .before .before .pre .0
@@ -101,7 +102,7 @@ part-copy-start : tie.Need-part-copy-start
 part-copy-start c = sub-copy c
 
 part-copy-end : tie.Need-part-copy-end
-part-copy-end c = omega arith
+part-copy-end c = le-refl _
 
 copy-requires : tie.Need-copy-requires
 copy-requires c κs = let j = c .before .before in room-behind (entry j .args .path .now) (names-at j) (j .if3 .from) (fits j)
@@ -115,10 +116,10 @@ add-all c =
     omega arith
 
 sub-entered : tie.Need-sub-entered
-sub-entered c = omega arith
+sub-entered c = zero-le
 
 part-entered-start : tie.Need-part-entered-start
-part-entered-start c = omega arith
+part-entered-start c = zero-le
 
 part-entered-end : tie.Need-part-entered-end
 part-entered-end c = let f = fits (c .before .before .before .before .before .before) in omega (arith, c .before .before .before .copy .ensures .0)

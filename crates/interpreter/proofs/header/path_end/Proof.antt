@@ -1,9 +1,9 @@
 use mathlib.Core.Path.{_≡_, sym, _∙_, ap}
-use native.Mathlib.Omega.{arith}
 use Prim.Native.Nat.{_≤_}
+use native.Mathlib.Omega.{arith}
 use lib.ListN.{length, take}
-use Rattle.interpreter.specs.HeaderParts.{pathOf}
 use lib.Seq.{take-length}
+use Rattle.interpreter.specs.HeaderParts.{pathOf}
 use Rattle.interpreter.proofs.header.Paths.{path-back, path-found, path-none}
 use Rattle.interpreter.proofs.header.path_end.Statement.{statement}
 use Rattle.interpreter.proofs.header.path_end.Tie as tie
@@ -18,7 +18,7 @@ loop-holds : tie.Need-loop-holds Inv-loop μ-loop
 loop-holds c = (omega arith, ap pathOf (take-length (c .args .text .now)))
 
 sub-if1 : tie.Need-sub-if1 Inv-loop μ-loop
-sub-if1 c = omega arith
+sub-if1 c = c .loop-test .taken
 
 shared-slice-read-if1 : tie.Need-shared-slice-read-if1 Inv-loop μ-loop
 shared-slice-read-if1 c = omega arith
@@ -30,7 +30,7 @@ returns c =
     (sym (path-found t (w .e) (omega arith) (omega arith) (c .if1 .taken)) ∙ w .inv .1, w .inv .0)
 
 sub-e : tie.Need-sub-e Inv-loop μ-loop
-sub-e c = omega arith
+sub-e c = c .before .before .loop-test .taken
 
 loop-less : tie.Need-loop-less Inv-loop μ-loop
 loop-less c = omega arith

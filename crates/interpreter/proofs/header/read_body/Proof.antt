@@ -1,4 +1,4 @@
-use native.Mathlib.Omega.{arith}
+use native.Mathlib.Nat.{le-refl}
 use Rattle.interpreter.proofs.header.Grammar.{lead-within, read-heading}
 use Rattle.interpreter.proofs.header.read_body.Statement.{statement}
 use Rattle.interpreter.proofs.header.read_body.Tie as tie
@@ -16,7 +16,7 @@ part-well-named-start : tie.Need-part-well-named-start
 part-well-named-start c = sub-well-named c
 
 part-well-named-end : tie.Need-part-well-named-end
-part-well-named-end c = omega arith
+part-well-named-end c = le-refl _
 
 well-named-requires : tie.Need-well-named-requires
 well-named-requires c κs = tt

@@ -1,9 +1,10 @@
 use mathlib.Core.Path.{_∙_}
 use Prim.Native.Nat.{_≤_}
+use native.Mathlib.Nat.{le-refl}
 use native.Mathlib.Omega.{arith}
 use lib.ListN.{length, set, length-set}
-use Rattle.interpreter.proofs.reply.Answers.{start, start-room, says, given-none, given-whole, given-over, end-room}
 use borrow.Author.Needs.{needs}
+use Rattle.interpreter.proofs.reply.Answers.{start, start-room, says, given-none, given-whole, given-over, end-room}
 use Rattle.interpreter.proofs.reply.give.Statement.{statement}
 use Rattle.interpreter.proofs.reply.give.Tie as tie
 
@@ -37,7 +38,7 @@ part-write-start : tie.Need-part-write-start
 part-write-start c = room-at (c .before .before .before)
 
 part-write-end : tie.Need-part-write-end
-part-write-end c = omega arith
+part-write-end c = le-refl _
 
 write-requires : tie.Need-write-requires
 write-requires c κs = search needs

@@ -27,7 +27,7 @@ returns : tie.Need-returns Inv-loop μ-loop
 returns c = agreeing-full (c .before .before .loop .inv) (omega arith)
 
 shared-slice-read-in-capitals : tie.Need-shared-slice-read-in-capitals Inv-loop μ-loop
-shared-slice-read-in-capitals c = omega arith
+shared-slice-read-in-capitals c = c .before .before .loop-test .taken
 
 in-capitals-requires : tie.Need-in-capitals-requires Inv-loop μ-loop
 in-capitals-requires c κs = tt

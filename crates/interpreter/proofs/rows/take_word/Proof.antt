@@ -1,4 +1,5 @@
 use mathlib.Core.Path.{sym, _∙_}
+use native.Mathlib.Nat.{le-refl}
 use native.Mathlib.Omega.{arith}
 use borrow.Author.Tests.{not-true, not-false}
 use Rattle.interpreter.proofs.rows.Names.{Compared, end-here, first-out, compared, end-within, length-out, end-out, taken-last, taken-colon}
@@ -19,7 +20,7 @@ returns c =
     end-here (s .args .text .now) (s .args .at) (s .args .word) (s .pre .1) (c .if1 .taken)
 
 shared-slice-read-in-capitals : tie.Need-shared-slice-read-in-capitals
-shared-slice-read-in-capitals c = omega arith
+shared-slice-read-in-capitals c = c .before .if1 .left
 
 in-capitals-requires : tie.Need-in-capitals-requires
 in-capitals-requires c κs = tt
@@ -40,7 +41,7 @@ part-agreed-letters-start : tie.Need-part-agreed-letters-start
 part-agreed-letters-start c = omega arith
 
 part-agreed-letters-end : tie.Need-part-agreed-letters-end
-part-agreed-letters-end c = omega arith
+part-agreed-letters-end c = le-refl _
 
 agreed-letters-requires : tie.Need-agreed-letters-requires
 agreed-letters-requires c κs = c .before .before .before .before .before .before .before .before .pre
@@ -59,7 +60,7 @@ returns-4 c =
     taken-last (walked (c .before .before .before)) (sym (c .before .before .has-length .ensures) ∙ not-false _ (c .before .if3 .left)) (c .if4 .taken)
 
 shared-slice-read-if5 : tie.Need-shared-slice-read-if5
-shared-slice-read-if5 c = omega arith
+shared-slice-read-if5 c = c .before .if4 .left
 
 add-t18 : tie.Need-add-t18
 add-t18 c = omega arith

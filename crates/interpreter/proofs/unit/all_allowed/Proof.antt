@@ -19,7 +19,7 @@ loop-holds : tie.Need-loop-holds Inv-loop μ-loop
 loop-holds c = refl
 
 shared-slice-read-b : tie.Need-shared-slice-read-b Inv-loop μ-loop
-shared-slice-read-b c = omega arith
+shared-slice-read-b c = c .before .loop-test .taken
 
 add-i : tie.Need-add-i Inv-loop μ-loop
 add-i c = omega arith

@@ -1,5 +1,6 @@
 use mathlib.Core.Path.{_≡_, ap, _∙_}
-use Prim.Native.Nat.{_-_}
+use Prim.Native.Nat.{_-_, zero-le}
+use native.Mathlib.Nat.{le-refl}
 use native.Mathlib.Omega.{arith}
 use lib.ListN.{length, take, drop}
 use borrow.Rule.Slice.PartAt.{part-to-end}
@@ -42,16 +43,16 @@ part-behind-start : tie.Need-part-behind-start
 part-behind-start c = sub-behind c
 
 part-behind-end : tie.Need-part-behind-end
-part-behind-end c = omega arith
+part-behind-end c = le-refl _
 
 trimmed-end-requires : tie.Need-trimmed-end-requires
 trimmed-end-requires c κs = tt
 
 sub-decide : tie.Need-sub-decide
-sub-decide c = omega arith
+sub-decide c = zero-le
 
 part-decide-start : tie.Need-part-decide-start
-part-decide-start c = omega arith
+part-decide-start c = zero-le
 
 part-decide-end : tie.Need-part-decide-end
 part-decide-end c = omega arith

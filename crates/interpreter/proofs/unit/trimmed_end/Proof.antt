@@ -20,7 +20,7 @@ loop-holds : tie.Need-loop-holds Inv-loop μ-loop
 loop-holds c = (search needs, rw (take-length (c .before .args .text .now)))
 
 sub-is-white : tie.Need-sub-is-white Inv-loop μ-loop
-sub-is-white c = omega arith
+sub-is-white c = c .loop-test .taken
 
 shared-slice-read-is-white : tie.Need-shared-slice-read-is-white Inv-loop μ-loop
 shared-slice-read-is-white c = omega arith
@@ -36,7 +36,7 @@ returns c =
     (sym (end-dark l (w .e) (omega arith) (omega arith) d) ∙ w .inv .1, search needs)
 
 sub-e : tie.Need-sub-e Inv-loop μ-loop
-sub-e c = omega arith
+sub-e c = c .before .before .before .loop-test .taken
 
 loop-less : tie.Need-loop-less Inv-loop μ-loop
 loop-less c = omega arith

@@ -1,5 +1,5 @@
 use mathlib.Core.Path.{_≡_}
-use Prim.Native.Nat.{zero-le, _+_}
+use Prim.Native.Nat.{_+_, zero-le}
 use native.Mathlib.Omega.{arith}
 use Rattle.registers.proofs.status.Means.{raised-queued}
 use Rattle.interpreter.specs.Events.{take as takes}
