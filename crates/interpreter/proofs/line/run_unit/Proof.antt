@@ -10,7 +10,7 @@ read-requires c κs =
     (p .0, p .1 .0)
 
 enum-known-reading : tie.Need-enum-known-reading
-enum-known-reading c = omega arith
+enum-known-reading c = c .match .keys1
 
 refuse-requires : tie.Need-refuse-requires
 refuse-requires c κs = tt
@@ -24,7 +24,7 @@ returns c =
     (a .out .now) _ (c .before .before .reading .given .1) (c .refuse .result) (c .refuse .ensures) (p .1 .1 .2) (p .1 .1 .0)
 
 enum-known-reading-2 : tie.Need-enum-known-reading-2
-enum-known-reading-2 c = omega arith
+enum-known-reading-2 c = c .match .keys2
 
 perform-requires : tie.Need-perform-requires
 perform-requires c κs =

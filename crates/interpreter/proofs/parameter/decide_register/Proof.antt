@@ -27,7 +27,7 @@ read-parameter-requires : tie.Need-read-parameter-requires
 read-parameter-requires c κs = search needs
 
 enum-known-parameter : tie.Need-enum-known-parameter
-enum-known-parameter c = omega arith
+enum-known-parameter c = c .match .keys1
 
 returns-2 : tie.Need-returns-2
 returns-2 c =
@@ -36,7 +36,7 @@ returns-2 c =
     rw (p .before .if1 .left) (register-refused (a .register) (a .text .now) (refused-by (read-is p) (c .before .parameter .given .1)))
 
 enum-told : tie.Need-enum-told
-enum-told c = omega arith
+enum-told c = c .match .keys2
 
 returns-3 : tie.Need-returns-3
 returns-3 c =
@@ -45,7 +45,7 @@ returns-3 c =
     absurd (omega (arith, word-placed [] true (entry p .args .text .now) (told .0 .0) (word-by (read-is p) (told .1))))
 
 enum-known-parameter-2 : tie.Need-enum-known-parameter-2
-enum-known-parameter-2 c = omega arith
+enum-known-parameter-2 c = c .match .keys3
 
 store-requires : tie.Need-store-requires
 store-requires c κs = tt

@@ -70,7 +70,7 @@ read-parameter-requires : tie.Need-read-parameter-requires
 read-parameter-requires c κs = search needs
 
 enum-known-parameter : tie.Need-enum-known-parameter
-enum-known-parameter c = omega arith
+enum-known-parameter c = c .match .keys1
 
 returns-2 : tie.Need-returns-2
 unfolding _>>=_
@@ -79,7 +79,7 @@ returns-2 c =
     sym (deed-is p ∙ rw (refused-by (read-is p) (c .before .parameter .given .1)))
 
 enum-known-parameter-2 : tie.Need-enum-known-parameter-2
-enum-known-parameter-2 c = omega arith
+enum-known-parameter-2 c = c .match .keys2
 
 word-value-requires : tie.Need-word-value-requires
 word-value-requires c κs =
@@ -104,7 +104,7 @@ returns-3 c =
     ∙ carried p (word-by (read-is p) (told .1))
 
 enum-known-parameter-3 : tie.Need-enum-known-parameter-3
-enum-known-parameter-3 c = omega arith
+enum-known-parameter-3 c = c .match .keys3
 
 figure-value-requires : tie.Need-figure-value-requires
 figure-value-requires c κs = tt

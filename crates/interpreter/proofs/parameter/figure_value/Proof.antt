@@ -1,7 +1,6 @@
 use mathlib.Core.Path.{_≡_, refl, sym, ap, _∙_}
 use mathlib.Core.Bool.{false}
 use Prim.Native.Nat.{ℕ}
-use native.Mathlib.Omega.{arith}
 use mir.Syntax.{w32}
 use mir.Val.{ofZ, toZ}
 use Rattle.registers.specs.Rounding.{rounded, fitted}
@@ -56,19 +55,19 @@ values-of-requires : tie.Need-values-of-requires
 values-of-requires c κs = tt
 
 enum-told : tie.Need-enum-told
-enum-told c = omega arith
+enum-told c = c .match .keys1
 
 round-in-requires : tie.Need-round-in-requires
 round-in-requires c κs = tt
 
 enum-told-2 : tie.Need-enum-told-2
-enum-told-2 c = omega arith
+enum-told-2 c = c .match .keys2
 
 round-in-requires-2 : tie.Need-round-in-requires-2
 round-in-requires-2 c κs = tt
 
 enum-told-3 : tie.Need-enum-told-3
-enum-told-3 c = omega arith
+enum-told-3 c = c .match .keys3
 
 switches-on-requires : tie.Need-switches-on-requires
 switches-on-requires c κs = tt
@@ -77,7 +76,7 @@ cast-t9 : tie.Need-cast-t9
 cast-t9 c = tt
 
 enum-told-4 : tie.Need-enum-told-4
-enum-told-4 c = omega arith
+enum-told-4 c = c .match .keys4
 
 returns : tie.Need-returns
 returns c = c .round-in .ensures ∙ number-is (c .before .before .before) (c .before .enum-told .given .1) 10 refl

@@ -1,4 +1,3 @@
-use native.Mathlib.Omega.{arith}
 use Rattle.registers.specs.Settings.{kindOf}
 use Rattle.interpreter.specs.Parameter.{greatest}
 use Rattle.interpreter.proofs.parameter.Sorts.{setting-most, register-most, most-none}
@@ -6,7 +5,7 @@ use Rattle.interpreter.proofs.parameter.most.Statement.{statement}
 use Rattle.interpreter.proofs.parameter.most.Tie as tie
 
 enum-known-role : tie.Need-enum-known-role
-enum-known-role c = omega arith
+enum-known-role c = c .match .keys1
 
 is-number-requires : tie.Need-is-number-requires
 is-number-requires c κs = tt
@@ -15,7 +14,7 @@ cast-result : tie.Need-cast-result
 cast-result c = tt
 
 enum-told : tie.Need-enum-told
-enum-told c = omega arith
+enum-told c = c .match .keys2
 
 cast-result-2 : tie.Need-cast-result-2
 cast-result-2 c = tt

@@ -1,4 +1,3 @@
-use native.Mathlib.Omega.{arith}
 use mathlib.Core.Path.{sym, _∙_}
 use Rattle.registers.specs.Check.{_>>_, check}
 use Rattle.interpreter.specs.ParameterParts.{putFit}
@@ -7,14 +6,14 @@ use Rattle.interpreter.proofs.parameter.put.Statement.{statement}
 use Rattle.interpreter.proofs.parameter.put.Tie as tie
 
 enum-told : tie.Need-enum-told
-enum-told c = omega arith
+enum-told c = c .match .keys1
 
 returns : tie.Need-returns
 unfolding putFit
 returns c = rw (c .enum-told .given .1)
 
 enum-known-fit : tie.Need-enum-known-fit
-enum-known-fit c = omega arith
+enum-known-fit c = c .match .keys2
 
 obey-query-requires : tie.Need-obey-query-requires
 obey-query-requires c κs = tt

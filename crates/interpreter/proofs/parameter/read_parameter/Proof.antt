@@ -1,4 +1,3 @@
-use native.Mathlib.Omega.{arith}
 use mathlib.Core.Path.{_≡_, sym, _∙_}
 use mathlib.Core.Bool.{false, not, _&&_}
 use borrow.Author.Tests.{not-true, not-false}
@@ -58,7 +57,7 @@ read-requires : tie.Need-read-requires
 read-requires c κs = tt
 
 enum-known-reading : tie.Need-enum-known-reading
-enum-known-reading c = omega arith
+enum-known-reading c = c .match .keys1
 
 returns-3 : tie.Need-returns-3
 unfolding aFigure _>>=_
@@ -67,7 +66,7 @@ returns-3 c =
     rw (← figure-is (read .before), ← read .read .ensures, c .before .reading .given .1)
 
 enum-known-reading-2 : tie.Need-enum-known-reading-2
-enum-known-reading-2 c = omega arith
+enum-known-reading-2 c = c .match .keys2
 
 returns-4 : tie.Need-returns-4
 unfolding aFigure _>>=_

@@ -21,7 +21,7 @@ round-in-requires : tie.Need-round-in-requires
 round-in-requires c κs = tt
 
 enum-told : tie.Need-enum-told
-enum-told c = omega arith
+enum-told c = c .match .keys1
 
 returns : tie.Need-returns
 returns c =
@@ -29,7 +29,7 @@ returns c =
     store-outside (a .register) (a .d) (fitted-is (c .before .before)) (c .enum-told .given .1)
 
 enum-known-fit : tie.Need-enum-known-fit
-enum-known-fit c = omega arith
+enum-known-fit c = c .match .keys2
 
 cast-t8 : tie.Need-cast-t8
 cast-t8 c =

@@ -8,7 +8,7 @@ use Rattle.interpreter.proofs.perform.settings_after.Statement.{stateme
 use Rattle.interpreter.proofs.perform.settings_after.Tie as tie
 
 enum-known-deed : tie.Need-enum-known-deed
-enum-known-deed c = omega arith
+enum-known-deed c = c .match .keys1
 
 enum-known-change : tie.Need-enum-known-change
 enum-known-change c = omega arith

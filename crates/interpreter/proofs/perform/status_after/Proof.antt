@@ -9,7 +9,7 @@ use Rattle.interpreter.proofs.perform.status_after.Statement.{statement
 use Rattle.interpreter.proofs.perform.status_after.Tie as tie
 
 enum-known-deed : tie.Need-enum-known-deed
-enum-known-deed c = omega arith
+enum-known-deed c = c .match .keys1
 
 enum-known-change : tie.Need-enum-known-change
 enum-known-change c = omega arith
@@ -26,7 +26,7 @@ returns-2 : tie.Need-returns-2
 returns-2 c = rw (c .before .before .deed .given .1) (same-status (c .before .before .before .before .args .status) (c .before .before .before .before .pre) _ (c .match2 .keys2))
 
 enum-told : tie.Need-enum-told
-enum-told c = omega arith
+enum-told c = c .match .keys2
 
 complete-requires : tie.Need-complete-requires
 complete-requires c κs = tt
@@ -37,7 +37,7 @@ returns-3 c = rw (c .before .enum-told .given .1, c .complete .ensures)
     (record { registers = λ _ _. refl; trouble = refl; queued = c .before .before .before .pre })
 
 enum-told-2 : tie.Need-enum-told-2
-enum-told-2 c = omega arith
+enum-told-2 c = c .match .keys3
 
 clear-requires : tie.Need-clear-requires
 clear-requires c κs = tt
@@ -48,7 +48,7 @@ returns-4 c = rw (c .before .enum-told2 .given .1, c .clear .ensures)
     (record { registers = λ _ _. refl; trouble = refl; queued = omega arith })
 
 enum-known-deed-2 : tie.Need-enum-known-deed-2
-enum-known-deed-2 c = omega arith
+enum-known-deed-2 c = c .match .keys4
 
 enum-told-3 : tie.Need-enum-told-3
 enum-told-3 c = omega arith
@@ -64,7 +64,7 @@ returns-6 : tie.Need-returns-6
 returns-6 c = rw (c .before .before .deed2 .given .1) (only-asked (c .before .before .before .before .args .status) (c .before .before .before .before .pre) _ (c .match3 .keys2))
 
 enum-known-deed-3 : tie.Need-enum-known-deed-3
-enum-known-deed-3 c = omega arith
+enum-known-deed-3 c = c .match .keys5
 
 enum-told-4 : tie.Need-enum-told-4
 enum-told-4 c = omega arith

@@ -15,7 +15,7 @@ abbrev entry : tie.After-out → tie.Start
 entry o = o .before .before .before .before .before .before
 
 enum-told : tie.Need-enum-told
-enum-told c = omega arith
+enum-told c = c .match .keys1
 
 returns : tie.Need-returns
 returns c =

@@ -1,17 +1,16 @@
-use native.Mathlib.Omega.{arith}
 use borrow.Author.Needs.{needs}
 use Rattle.interpreter.proofs.reply.Values.{nothing-said}
 use Rattle.interpreter.proofs.reply.to_deed.Statement.{statement}
 use Rattle.interpreter.proofs.reply.to_deed.Tie as tie
 
 enum-known-deed : tie.Need-enum-known-deed
-enum-known-deed c = omega arith
+enum-known-deed c = c .match .keys1
 
 to-query-requires : tie.Need-to-query-requires
 to-query-requires c κs = search needs
 
 enum-known-deed-2 : tie.Need-enum-known-deed-2
-enum-known-deed-2 c = omega arith
+enum-known-deed-2 c = c .match .keys2
 
 to-inquiry-requires : tie.Need-to-inquiry-requires
 to-inquiry-requires c κs = tt

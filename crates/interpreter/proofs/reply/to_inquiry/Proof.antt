@@ -5,10 +5,10 @@ use Rattle.interpreter.proofs.reply.to_inquiry.Statement.{statement}
 use Rattle.interpreter.proofs.reply.to_inquiry.Tie as tie
 
 enum-told : tie.Need-enum-told
-enum-told c = omega arith
+enum-told c = c .match .keys1
 
 enum-told-2 : tie.Need-enum-told-2
-enum-told-2 c = omega arith
+enum-told-2 c = c .match .keys2
 
 status-byte-requires : tie.Need-status-byte-requires
 status-byte-requires c κs = tt
@@ -17,7 +17,7 @@ cast-t6 : tie.Need-cast-t6
 cast-t6 c = omega arith
 
 enum-told-3 : tie.Need-enum-told-3
-enum-told-3 c = omega arith
+enum-told-3 c = c .match .keys3
 
 oldest-requires : tie.Need-oldest-requires
 oldest-requires c κs = tt

@@ -1,4 +1,3 @@
-use native.Mathlib.Omega.{arith}
 use mathlib.Core.Path.{refl}
 use mir.Syntax.{w32}
 use mir.Val.{SFits}
@@ -12,22 +11,22 @@ use Rattle.interpreter.proofs.reply.to_query.Statement.{statement}
 use Rattle.interpreter.proofs.reply.to_query.Tie as tie
 
 enum-told : tie.Need-enum-told
-enum-told c = omega arith
+enum-told c = c .match .keys1
 
 enum-told-2 : tie.Need-enum-told-2
-enum-told-2 c = omega arith
+enum-told-2 c = c .match .keys2
 
 enum-told-3 : tie.Need-enum-told-3
-enum-told-3 c = omega arith
+enum-told-3 c = c .match .keys3
 
 enum-known-query : tie.Need-enum-known-query
-enum-known-query c = omega arith
+enum-known-query c = c .match .keys4
 
 to-value-requires : tie.Need-to-value-requires
 to-value-requires c κs = search needs
 
 enum-known-query-2 : tie.Need-enum-known-query-2
-enum-known-query-2 c = omega arith
+enum-known-query-2 c = c .match .keys5
 
 value-requires : tie.Need-value-requires
 value-requires c κs = tt
@@ -36,16 +35,16 @@ to-value-requires-2 : tie.Need-to-value-requires-2
 to-value-requires-2 c κs = search needs
 
 enum-known-query-3 : tie.Need-enum-known-query-3
-enum-known-query-3 c = omega arith
+enum-known-query-3 c = c .match .keys6
 
 register-requires : tie.Need-register-requires
 register-requires c κs = tt
 
 enum-told-4 : tie.Need-enum-told-4
-enum-told-4 c = omega arith
+enum-told-4 c = c .match .keys7
 
 enum-told-5 : tie.Need-enum-told-5
-enum-told-5 c = omega arith
+enum-told-5 c = c .match .keys8
 
 returns : tie.Need-returns
 unfolding textOf replyTo

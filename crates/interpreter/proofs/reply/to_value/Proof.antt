@@ -1,4 +1,3 @@
-use native.Mathlib.Omega.{arith}
 use mathlib.Core.Path.{refl}
 use Rattle.registers.specs.Settings.{kindOf}
 use Rattle.interpreter.specs.DeedsParts.{textOf}
@@ -10,13 +9,13 @@ values-of-requires : tie.Need-values-of-requires
 values-of-requires c κs = tt
 
 enum-told : tie.Need-enum-told
-enum-told c = omega arith
+enum-told c = c .match .keys1
 
 to-word-requires : tie.Need-to-word-requires
 to-word-requires c κs = (c .before .before .before .before .pre, word-row (c .before .before .before .before .args .row) (c .before .before .values-of .ensures) (c .enum-told .given .1))
 
 enum-told-2 : tie.Need-enum-told-2
-enum-told-2 c = omega arith
+enum-told-2 c = c .match .keys2
 
 returns : tie.Need-returns
 returns c = told-value (kindOf (c .before .before .before .before .before .args .row)) (c .before .before .before .before .before .fits .value) (c .before .before .before .values-of .ensures) (c .before .enum-told .given .1) (c .to-word .ensures)

@@ -12,10 +12,10 @@ use Rattle.interpreter.proofs.reply.write.Statement.{statement}
 use Rattle.interpreter.proofs.reply.write.Tie as tie
 
 enum-told : tie.Need-enum-told
-enum-told c = omega arith
+enum-told c = c .match .keys1
 
 enum-told-2 : tie.Need-enum-told-2
-enum-told-2 c = omega arith
+enum-told-2 c = c .match .keys2
 
 slice-aggregate-write-text : tie.Need-slice-aggregate-write-text
 slice-aggregate-write-text c = refl
@@ -24,7 +24,7 @@ write-text-requires : tie.Need-write-text-requires
 write-text-requires c κs = tt
 
 enum-known-reply : tie.Need-enum-known-reply
-enum-known-reply c = omega arith
+enum-known-reply c = c .match .keys3
 
 sub-write-text : tie.Need-sub-write-text
 sub-write-text c =
@@ -47,19 +47,19 @@ write-text-requires-2 : tie.Need-write-text-requires-2
 write-text-requires-2 c κs = tt
 
 enum-known-reply-2 : tie.Need-enum-known-reply-2
-enum-known-reply-2 c = omega arith
+enum-known-reply-2 c = c .match .keys4
 
 write-tenths-requires : tie.Need-write-tenths-requires
 write-tenths-requires c κs = tt
 
 enum-known-reply-3 : tie.Need-enum-known-reply-3
-enum-known-reply-3 c = omega arith
+enum-known-reply-3 c = c .match .keys5
 
 write-whole-requires : tie.Need-write-whole-requires
 write-whole-requires c κs = tt
 
 enum-known-reply-4 : tie.Need-enum-known-reply-4
-enum-known-reply-4 c = omega arith
+enum-known-reply-4 c = c .match .keys6
 
 cast-write-decimal : tie.Need-cast-write-decimal
 cast-write-decimal c = omega arith
@@ -68,7 +68,7 @@ write-decimal-requires : tie.Need-write-decimal-requires
 write-decimal-requires c κs = tt
 
 enum-known-reply-5 : tie.Need-enum-known-reply-5
-enum-known-reply-5 c = omega arith
+enum-known-reply-5 c = c .match .keys7
 
 write-error-requires : tie.Need-write-error-requires
 write-error-requires c κs = tt

@@ -95,10 +95,10 @@ take-node-requires c κs =
     (o .before .before .before .before .pre, l .inv .within, rw (c .row-cell4 .ensures) k)
 
 enum-known-walk : tie.Need-enum-known-walk Inv-loop μ-loop Inv-rows μ-rows
-enum-known-walk c = omega arith
+enum-known-walk c = c .match .keys1
 
 enum-told : tie.Need-enum-told Inv-loop μ-loop Inv-rows μ-rows
-enum-told c = omega arith
+enum-told c = c .match .keys2
 
 rows-less-3 : tie.Need-rows-less-3 Inv-loop μ-loop Inv-rows μ-rows
 rows-less-3 c = fewer (c .before .before .before .before .before .before .before .before .before .before .before .before .before .rows-test .taken)

@@ -16,10 +16,10 @@ take-word-requires-2 : tie.Need-take-word-requires-2
 take-word-requires-2 c κs = (c .before .before .before .pre .0, may-known (c .before .before .before .args .node) (c .before .before .before .pre .2) (c .if1 .left))
 
 enum-known-walk : tie.Need-enum-known-walk
-enum-known-walk c = omega arith
+enum-known-walk c = c .match .keys1
 
 enum-told : tie.Need-enum-told
-enum-told c = omega arith
+enum-told c = c .match .keys2
 
 returns-2 : tie.Need-returns-2
 returns-2 c =

@@ -105,7 +105,7 @@ passes c r q d is =
     (rw one at said) ∙ sym (says p ∙ rw (le-leb (parts-of p) (most-of p) m, le-leb (fewest-of p) (parts-of p) (least-let c)))
 
 enum-known-role : tie.Need-enum-known-role
-enum-known-role c = omega arith
+enum-known-role c = c .match .keys1
 
 decide-setting-requires : tie.Need-decide-setting-requires
 decide-setting-requires c κs =
@@ -123,7 +123,7 @@ returns-5 : tie.Need-returns-5
 returns-5 c = passes (c .before .before .before .before) _ (c .before .before .role .given .1) (c .decide-setting .result) (c .decide-setting .ensures)
 
 enum-known-role-2 : tie.Need-enum-known-role-2
-enum-known-role-2 c = omega arith
+enum-known-role-2 c = c .match .keys2
 
 decide-register-requires : tie.Need-decide-register-requires
 decide-register-requires c κs = entry (c .before .before .before .before .before .before .before .before) .pre .0
@@ -139,10 +139,10 @@ returns-6 c =
     (c .decide-register .ensures ∙ register-is (a .settings) (role .0 .0) (a .asked) (parts-of p) (a .text .now) few)
 
 enum-known-role-3 : tie.Need-enum-known-role-3
-enum-known-role-3 c = omega arith
+enum-known-role-3 c = c .match .keys3
 
 enum-known-role-4 : tie.Need-enum-known-role-4
-enum-known-role-4 c = omega arith
+enum-known-role-4 c = c .match .keys4
 
 returns-7 : tie.Need-returns-7
 unfolding deedOf

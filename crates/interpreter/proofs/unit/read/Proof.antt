@@ -79,10 +79,10 @@ look-up-requires c κs =
     (pre .0, (omega arith, pre .1 .1))
 
 enum-told : tie.Need-enum-told
-enum-told c = omega arith
+enum-told c = c .match .keys1
 
 enum-known-looked : tie.Need-enum-known-looked
-enum-known-looked c = omega arith
+enum-known-looked c = c .match .keys2
 
 decide-behind-requires : tie.Need-decide-behind-requires
 decide-behind-requires c κs =
