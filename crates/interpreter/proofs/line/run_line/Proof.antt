@@ -38,7 +38,7 @@ run-units-requires : tie.Need-run-units-requires
 run-units-requires c κs = c .before .before .before .before .before .before .before .pre
 
 same-length : tie.Need-same-length
-same-length c = omega arith
+same-length c = c .before .before .before .run-units .kept .1 .1 .1 .0
 
 returns-3 : tie.Need-returns-3
 returns-3 c =

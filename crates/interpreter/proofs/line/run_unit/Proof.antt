@@ -1,4 +1,3 @@
-use native.Mathlib.Omega.{arith}
 use lib.ListN.{take}
 use Rattle.interpreter.proofs.line.Laws.{unit-allowed, unit-refused, unit-obeyed}
 use Rattle.interpreter.proofs.line.run_unit.Statement.{statement}
@@ -35,7 +34,7 @@ perform-requires c κs =
     ((p .0, allowed), p .1 .1)
 
 same-length : tie.Need-same-length
-same-length c = omega arith
+same-length c = c .before .before .perform .kept .1 .1 .1 .0
 
 returns-2 : tie.Need-returns-2
 returns-2 c =

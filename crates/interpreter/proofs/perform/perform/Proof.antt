@@ -23,7 +23,7 @@ raise-requires : tie.Need-raise-requires
 raise-requires c κs = tt
 
 same-length : tie.Need-same-length
-same-length c = omega arith
+same-length c = c .before .before .before .before .give .kept .1 .1 .0
 
 returns : tie.Need-returns
 unfolding raisedWith
@@ -40,7 +40,7 @@ status-after-requires : tie.Need-status-after-requires
 status-after-requires c κs = search needs
 
 same-length-2 : tie.Need-same-length-2
-same-length-2 c = omega arith
+same-length-2 c = c .before .before .before .before .before .give .kept .1 .1 .0
 
 returns-2 : tie.Need-returns-2
 returns-2 c =

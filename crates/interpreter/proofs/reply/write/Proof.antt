@@ -78,21 +78,21 @@ unfolding textOf
 returns c = rw (c .enum-told .given .1) (laid-whole (laid-none 0 (c .before .before .before .before .args .tail .now)))
 
 same-length : tie.Need-same-length
-same-length c = omega arith
+same-length c = c .before .before .write-text .kept .1 .0
 
 returns-2 : tie.Need-returns-2
 unfolding textOf bytes
 returns-2 c = rw (c .before .before .before .before .before .enum-told2 .given .1) (c .before .before .write-text .ensures)
 
 same-length-2 : tie.Need-same-length-2
-same-length-2 c = omega arith
+same-length-2 c = c .before .before .write-text2 .kept .1 .0
 
 returns-3 : tie.Need-returns-3
 unfolding textOf
 returns-3 c = rw (c .before .before .before .before .before .before .reply .given .1) (rw (c .before .before .before .before .before .before .before .before .before .before .pre .0) at (c .before .before .write-text2 .ensures))
 
 same-length-3 : tie.Need-same-length-3
-same-length-3 c = omega arith
+same-length-3 c = c .before .before .write-tenths .kept .1 .0
 
 returns-4 : tie.Need-returns-4
 unfolding textOf
@@ -101,7 +101,7 @@ returns-4 c =
     rw (c .before .before .before .before .before .reply2 .given .1) (rw (toZ-ofZ {w = w32} h) at (c .before .before .write-tenths .ensures))
 
 same-length-4 : tie.Need-same-length-4
-same-length-4 c = omega arith
+same-length-4 c = c .before .before .write-whole .kept .1 .0
 
 returns-5 : tie.Need-returns-5
 unfolding textOf
@@ -110,14 +110,14 @@ returns-5 c =
     rw (c .before .before .before .before .before .reply3 .given .1) (rw (toZ-ofZ {w = w32} h) at (c .before .before .write-whole .ensures))
 
 same-length-5 : tie.Need-same-length-5
-same-length-5 c = omega arith
+same-length-5 c = c .before .before .write-decimal .kept .1 .0
 
 returns-6 : tie.Need-returns-6
 unfolding textOf
 returns-6 c = rw (c .before .before .before .before .before .reply4 .given .1) (c .before .before .write-decimal .ensures)
 
 same-length-6 : tie.Need-same-length-6
-same-length-6 c = omega arith
+same-length-6 c = c .before .before .write-error .kept .1 .0
 
 returns-7 : tie.Need-returns-7
 unfolding textOf

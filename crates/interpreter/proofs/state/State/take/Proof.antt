@@ -53,7 +53,7 @@ paste-requires c κs =
     (omega arith, omega arith)
 
 same-length : tie.Need-same-length
-same-length c = omega arith
+same-length c = c .before .before .paste .kept .1 .1 .0
 
 returns-4 : tie.Need-returns-4
 returns-4 c =
