@@ -1,7 +1,7 @@
 -- The status record by cases: an error raised, the oldest removed, a condition reported, a register set, the status byte, and
 -- refusal 4.
 use mathlib.Core.Path.{_≡_, refl, sym}
-use mathlib.Core.Bool.{Bool, true, false, not}
+use mathlib.Core.Bool.{Bool, true, false, not, _&&_}
 use mathlib.Core.List.{List, [], _∷_, _++_}
 use Prim.Native.Nat.{ℕ, zero, suc, _+_, _-_, _^_, _≤_, _<_}
 use native.Mathlib.Omega.{arith}
@@ -17,7 +17,6 @@ use Rattle.registers.specs.Group.{conditionIs, widestGroup}
 use Rattle.registers.specs.Status.{registersOf, troubleOf, raisedIn, oldestReadIn, reportedIn, registerSet, storedIn, withTrouble, withRegisters, withOperation, most, widest, bitIf, meet, summary, statusByte, possibleRegisters, possibleTrouble, possibleStatus}
 use Rattle.registers.specs.declared.status.Register.{Register}
 use Rattle.registers.specs.declared.status.Status.{Status}
-use Rattle.registers.proofs.Tests.{and-fails}
 
 -- ---- an error raised, by the room in the queue
 
@@ -122,18 +121,7 @@ module _ (s : Status) where
   unfolding possibleStatus
   queue-above h = rw (lt-leb (s .queued) most h)
 
-  module _ (h : s .queued ≤ most) where
-    pub register-above : possibleRegisters (registersOf s) ≡ false → false ≡ possibleStatus s
-    unfolding possibleStatus
-    register-above e = rw (le-leb (s .queued) most h, e)
-
-    pub events-above : 255 < s .events → false ≡ possibleStatus s
-    unfolding possibleStatus possibleTrouble
-    events-above e =
-        rw (le-leb (s .queued) most h, front-short (s .errors) (s .queued) h, lt-leb (s .events) 255 e)
-        (sym (and-fails (possibleRegisters (registersOf s)) false refl))
-
-    pub queue-decides : possibleRegisters (registersOf s) ≡ true → s .events ≤ 255
-        → every known (take (s .queued) (s .errors)) ≡ possibleStatus s
-    unfolding possibleStatus possibleTrouble
-    queue-decides e k = rw (le-leb (s .queued) most h, e, front-short (s .errors) (s .queued) h, le-leb (s .events) 255 k)
+  pub queue-within : s .queued ≤ most
+      → possibleRegisters (registersOf s) && (leb (s .events) 255 && every known (take (s .queued) (s .errors))) ≡ possibleStatus s
+  unfolding possibleStatus possibleTrouble
+  queue-within h = rw (le-leb (s .queued) most h, front-short (s .errors) (s .queued) h)
