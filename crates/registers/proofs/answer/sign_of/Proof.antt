@@ -9,6 +9,16 @@ use Rattle.registers.proofs.answer.sign_of.Tie as tie
 put-requires : tie.Need-put-requires
 put-requires c κs = tt
 
+returns : tie.Need-returns
+returns c =
+    let o = c .before .before .before .before in
+    let h = o .before .before .fits .value in
+    let e = rw (toZ-ofZ {w = w32} h) at (o .if1 .taken) in
+    record {
+      laid = rw (sign-minus (o .before .before .args .value) e) (laid-one (c .before .before .put .ensures));
+      size = rw (other-side h, size-neg);
+    }
+
 cast-t7 : tie.Need-cast-t7
 cast-t7 c =
     let h = c .before .before .before .before .before .before .fits .value in
@@ -26,16 +36,6 @@ cast-t9 c =
 
 same-length : tie.Need-same-length
 same-length c = omega arith
-
-returns : tie.Need-returns
-returns c =
-    let o = c .before .before .before .before in
-    let h = o .before .before .fits .value in
-    let e = rw (toZ-ofZ {w = w32} h) at (o .if1 .taken) in
-    record {
-      laid = rw (sign-minus (o .before .before .args .value) e) (laid-one (c .before .before .put .ensures));
-      size = rw (other-side h, size-neg);
-    }
 
 cast-t10 : tie.Need-cast-t10
 cast-t10 c =
