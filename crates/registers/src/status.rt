@@ -7,7 +7,7 @@ ghost use mathlib.Core.Path.{_≡_};
 ghost use mathlib.Core.List.{_++_, _∷_, []};
 ghost use Prim.Native.Nat.{_≤_};
 ghost use lib.Bits.{bitOr};
-ghost use lib.ListN.{drop};
+ghost use lib.ListN.{take, drop};
 ghost use Rattle.registers.specs.Text.{if_then_else_, every, first};
 ghost use Rattle.registers.specs.Errors.{numberOf, known};
 ghost use Rattle.registers.specs.Status.{registersOf, troubleOf, withRegisters, raisedIn, clearedIn, eventsIn, oldestReadIn, operationRead, reportedIn, registerSet, registerIn, widest, statusByte, possibleStatus, atStart};
@@ -43,12 +43,13 @@ fn shifted(errors: [u16; 16]) -> [u16; 16]
     next
 }
 
-// Whether every number may stand in the queue.
-fn all_known(errors: &[u16]) -> bool
-    ensures { λ r. ⌜ r ≡ every known (now (errors .entry)) ⌝ }
+// Whether every number that waits may stand in the queue.
+fn all_known(errors: [u16; 16], count: usize) -> bool
+    requires { ⌜ count ≤ 16 ⌝ }
+    ensures { λ r. ⌜ r ≡ every known (take count errors) ⌝ }
 {
-    let mut i = 0;
-    while i < errors.len() {
+    let mut i: usize = 0;
+    while i < count {
         if !error::is_known(errors[i]) {
             return false;
         }
@@ -258,6 +259,6 @@ impl Status {
         let group = operation.possible();
         let registers = (self.ese <= 255) & (self.sre <= 255) & (self.sre & 64 == 0) & group;
         let errors = self.errors;
-        registers & ((self.events <= 255) & all_known(&errors[0..count]))
+        registers & ((self.events <= 255) & all_known(errors, count))
     }
 }

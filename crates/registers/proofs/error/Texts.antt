@@ -11,6 +11,8 @@ use lib.Dec.{leb, eqb}
 use lib.IntN.{pos, negℤ}
 use lib.ListN.{length, length-append, length-replicate, length-drop, take, drop, drop-of-length-le, getD, List·getD-append, replicate}
 use lib.Seq.{drop-nil, drop-cons, drop-drop, drop-append-add, getD-drop, take-append-seam}
+use mir.Syntax.{w8, w16}
+use mir.Val.{Fits}
 use borrow.Author.Tests.{leb-true, eq-eqb, ne-eqb}
 use Rattle.registers.specs.Text.{Text, if_then_else_, bytes, every}
 use Rattle.registers.specs.Answer.{decimal, signedText}
@@ -105,6 +107,23 @@ module _ (row : ℕ) (h : row < 20) where
       let t = quoted (messageAt row .1) in
       let zeros : Text = replicate (30 - length t) 0 in
       rw (← drop-drop 3 (row * 33) messageTable, row-at) (front t zeros (tableOf (drop (suc row) messageRows)))
+
+-- a row's number is read from two bytes of the table
+module _ (row : ℕ) (h : row < 19) {table : Text} (e : table ≡ messageTable) where
+  pub high-within : row * 33 < length table
+  high-within = let l = table-length in rw e (omega arith)
+
+  pub low-within : row * 33 + 1 < length table
+  low-within = let l = table-length in rw e (omega arith)
+
+pub byte-fits : {a : ℕ} → Fits w8 a → Fits w16 a
+byte-fits h = omega arith
+
+pub high-fits : {a : ℕ} → Fits w8 a → Fits w16 (a * 256)
+high-fits h = omega arith
+
+pub both-fit : {a b : ℕ} → Fits w8 a → Fits w8 b → Fits w16 (a * 256 + b)
+both-fit h k = omega arith
 
 -- ---- the search for a number
 

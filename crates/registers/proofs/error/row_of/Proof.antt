@@ -4,7 +4,7 @@ use native.Mathlib.Nat.{zero-add}
 use lib.ListN.{length}
 use Rattle.registers.specs.Errors.{messages}
 use Rattle.registers.specs.ErrorParts.{rowIn}
-use Rattle.registers.proofs.error.Texts.{table-length, number-cells, sought, search-hit, search-more, search-end}
+use Rattle.registers.proofs.error.Texts.{number-cells, high-within, low-within, byte-fits, high-fits, both-fit, sought, search-hit, search-more, search-end}
 use native.Mathlib.Omega.{arith}
 use Rattle.registers.proofs.error.row_of.Statement.{statement}
 use Rattle.registers.proofs.error.row_of.Tie as tie
@@ -22,31 +22,27 @@ mul-at : tie.Need-mul-at Inv-loop μ-loop
 mul-at c = omega arith
 
 shared-slice-read-if1 : tie.Need-shared-slice-read-if1 Inv-loop μ-loop
-shared-slice-read-if1 c =
-    let l = ap length (c .before .before .before .pre) ∙ table-length in
-    omega arith
+shared-slice-read-if1 c = let o = c .before .before in high-within (o .loop .row) (c .before .loop-test .taken) (o .before .pre)
 
 cast-if1 : tie.Need-cast-if1 Inv-loop μ-loop
-cast-if1 c = omega (arith, c .shared-slice-known .given (c .before .before .loop .row * 33))
+cast-if1 c = byte-fits (c .shared-slice-known .given (c .before .before .loop .row * 33))
 
 mul-if1 : tie.Need-mul-if1 Inv-loop μ-loop
-mul-if1 c = omega (arith, c .shared-slice-known .given (c .before .before .loop .row * 33))
+mul-if1 c = high-fits (c .shared-slice-known .given (c .before .before .loop .row * 33))
 
 add-if1 : tie.Need-add-if1 Inv-loop μ-loop
 add-if1 c = omega arith
 
 shared-slice-read-if1-2 : tie.Need-shared-slice-read-if1-2 Inv-loop μ-loop
-shared-slice-read-if1-2 c =
-    let l = ap length (c .before .before .before .before .pre) ∙ table-length in
-    omega arith
+shared-slice-read-if1-2 c = let o = c .before .before .before in low-within (o .loop .row) (c .before .before .loop-test .taken) (o .before .pre)
 
 cast-if1-2 : tie.Need-cast-if1-2 Inv-loop μ-loop
-cast-if1-2 c = omega (arith, c .shared-slice-known2 .given (c .before .before .before .loop .row * 33 + 1))
+cast-if1-2 c = byte-fits (c .shared-slice-known2 .given (c .before .before .before .loop .row * 33 + 1))
 
 add-if1-2 : tie.Need-add-if1-2 Inv-loop μ-loop
 add-if1-2 c =
     let at = c .before .before .before .loop .row * 33 in
-    omega (arith, c .shared-slice-known2 .given at, c .shared-slice-known2 .given (at + 1))
+    both-fit (c .shared-slice-known2 .given at) (c .shared-slice-known2 .given (at + 1))
 
 returns : tie.Need-returns Inv-loop μ-loop
 returns c =

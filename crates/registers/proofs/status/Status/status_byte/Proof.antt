@@ -1,7 +1,7 @@
-use Prim.Native.Nat.{ℕ}
+use Prim.Native.Nat.{ℕ, _≤_}
 use native.Mathlib.Omega.{arith}
 use borrow.Author.Needs.{length-unmapped}
-use Rattle.registers.proofs.status.Laws.{summary-is, byte-is}
+use Rattle.registers.proofs.status.Laws.{two-fit, three-fit, four-fit, four-wide, summary-is, byte-is}
 use Rattle.registers.proofs.status.Status.status_byte.Statement.{statement}
 use Rattle.registers.proofs.status.Status.status_byte.Tie as tie
 
@@ -17,17 +17,27 @@ bit-if-requires-3 c κs = tt
 bit-if-requires-4 : tie.Need-bit-if-requires-4
 bit-if-requires-4 c κs = tt
 
+-- what each bit weighs at most
+abbrev weight₁ : (c : tie.After-bit-if4) → c .before .before .before .before .before .bit-if .result ≤ 128
+weight₁ c = c .before .before .before .before .before .bit-if .ensures .1
+
+abbrev weight₂ : (c : tie.After-bit-if4) → c .before .before .before .bit-if2 .result ≤ 32
+weight₂ c = c .before .before .before .bit-if2 .ensures .1
+
+abbrev weight₃ : (c : tie.After-bit-if4) → c .before .before .bit-if3 .result ≤ 16
+weight₃ c = c .before .before .bit-if3 .ensures .1
+
 add-summary : tie.Need-add-summary
-add-summary c = omega arith
+add-summary c = two-fit (weight₁ c) (weight₂ c)
 
 add-summary-2 : tie.Need-add-summary-2
-add-summary-2 c = omega arith
+add-summary-2 c = three-fit (weight₁ c) (weight₂ c) (weight₃ c)
 
 add-summary-3 : tie.Need-add-summary-3
-add-summary-3 c = omega arith
+add-summary-3 c = four-fit (weight₁ c) (weight₂ c) (weight₃ c) (c .bit-if4 .ensures .1)
 
 cast-bit-if : tie.Need-cast-bit-if
-cast-bit-if c = omega arith
+cast-bit-if c = four-wide (weight₁ c) (weight₂ c) (weight₃ c) (c .bit-if4 .ensures .1)
 
 bit-if-requires-5 : tie.Need-bit-if-requires-5
 bit-if-requires-5 c κs = tt
