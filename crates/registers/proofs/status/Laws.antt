@@ -3,14 +3,14 @@
 use mathlib.Core.Path.{_≡_, refl, sym}
 use mathlib.Core.Bool.{Bool, true, false, not, _&&_}
 use mathlib.Core.List.{List, [], _∷_, _++_}
-use Prim.Native.Nat.{ℕ, zero, suc, _+_, _-_, _^_, _≤_, _<_}
+use Prim.Native.Nat.{ℕ, zero, suc, _+_, _-_, _*_, _^_, _≤_, _<_}
 use native.Mathlib.Omega.{arith}
 use lib.Bits.{bitOr}
 use lib.Dec.{leb, eqb}
 use native.Mathlib.Numerals.{add-one}
 use lib.ListN.{length, take, drop, getD, set, replicate, length-take, length-drop, drop-of-length-le}
 use lib.Seq.{set-at, take-suc, take-all, append-snoc, getD-take}
-use mir.Syntax.{w8, w16}
+use mir.Syntax.{w8, w16, w64}
 use mir.Val.{Fits}
 use borrow.Author.Tests.{lt-ltb, le-ltb, le-leb, lt-leb, eq-eqb, ne-eqb}
 use Rattle.registers.specs.Text.{if_then_else_, first, empty, every}
@@ -22,6 +22,13 @@ use Rattle.registers.specs.declared.status.Status.{Status}
 use Rattle.registers.proofs.Tests.{every-skip, every-miss}
 
 -- ---- an error raised, by the room in the queue
+
+module _ {n : ℕ} (h : n < most) where
+  pub place-fits : Fits w64 (n * 2)
+  place-fits = omega arith
+
+  pub behind-fits : Fits w64 (n + 1)
+  behind-fits = omega arith
 
 module _ (n : ℕ) (s : Status) where
   pub raised-more : s .queued < most
