@@ -11,7 +11,7 @@ use lib.Dec.{leb, eqb}
 use lib.IntN.{pos, negℤ}
 use lib.ListN.{length, length-append, length-replicate, length-drop, take, drop, drop-of-length-le, getD, List·getD-append, replicate}
 use lib.Seq.{drop-nil, drop-cons, drop-drop, drop-append-add, getD-drop, take-append-seam}
-use mir.Syntax.{w8, w16}
+use mir.Syntax.{w8, w16, w64}
 use mir.Val.{Fits}
 use borrow.Author.Tests.{leb-true, eq-eqb, ne-eqb}
 use Rattle.registers.specs.Text.{Text, if_then_else_, bytes, every}
@@ -101,6 +101,9 @@ module _ (row : ℕ) (h : row < 20) where
       let l = table-length in
       omega arith
 
+  pub text-long : row * 33 + 3 + getD messageTable (row * 33 + 2) 0 - (row * 33 + 3) ≡ length (quoted (messageAt row .1))
+  text-long = let n = length-cell in omega arith
+
   pub text-part : take (length (quoted (messageAt row .1))) (drop (row * 33 + 3) messageTable) ≡ quoted (messageAt row .1)
   unfolding messageRow
   text-part =
@@ -118,6 +121,9 @@ module _ (row : ℕ) (h : row < 19) {table : Text} (e : table ≡ messageTable) 
 
 pub byte-fits : {a : ℕ} → Fits w8 a → Fits w16 a
 byte-fits h = omega arith
+
+pub byte-wide : {a : ℕ} → Fits w8 a → Fits w64 a
+byte-wide h = omega arith
 
 pub high-fits : {a : ℕ} → Fits w8 a → Fits w16 (a * 256)
 high-fits h = omega arith
@@ -150,6 +156,21 @@ row-within (m ∷ ms) n = go (eqb (m .0) n) (row-within ms n)
 module _ (n : ℕ) {row : ℕ} (e : row ≡ rowIn messages n) where
   pub found-row : row < 20
   found-row = let l = rows in let w = row-within messages n in omega arith
+
+  pub found-fits : Fits w64 (row * 33)
+  found-fits = let h = found-row in omega arith
+
+  pub text-fits : Fits w64 (row * 33 + 3)
+  text-fits = let h = found-row in omega arith
+
+  pub cell-fits : Fits w64 (row * 33 + 2)
+  cell-fits = let h = found-row in omega arith
+
+  pub cell-within : {table : Text} → table ≡ messageTable → row * 33 + 2 < length table
+  cell-within t = let h = found-row in let l = table-length in rw t (omega arith)
+
+  pub end-fits : {b : ℕ} → Fits w8 b → Fits w64 (row * 33 + 3 + b)
+  end-fits k = let h = found-row in omega arith
 
   pub found-text : messageAt row .1 ≡ messageIn messages n
   unfolding messageAt

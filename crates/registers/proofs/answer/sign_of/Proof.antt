@@ -1,4 +1,3 @@
-use native.Mathlib.Omega.{arith}
 use mir.Syntax.{w32}
 use mir.Facts.{toZ-ofZ, sfits-widen, fits-natAbs}
 use Rattle.registers.proofs.answer.Laws.{laid-none, laid-one}
@@ -35,7 +34,7 @@ cast-t9 c =
     rw (other-side h, size-neg) (size-minus (o .before .before .args .value) e, fits-natAbs tt h)
 
 same-length : tie.Need-same-length
-same-length c = omega arith
+same-length c = c .before .before .put .kept .0
 
 cast-t10 : tie.Need-cast-t10
 cast-t10 c =

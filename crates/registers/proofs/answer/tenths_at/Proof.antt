@@ -1,3 +1,4 @@
+use mathlib.Core.Path.{_∙_}
 use Rattle.registers.proofs.answer.Laws.{laid-one, laid-then}
 use Rattle.registers.proofs.answer.Decimals.{decimal-length}
 use Rattle.registers.specs.Answer.{tenths}
@@ -25,7 +26,9 @@ decimal-at-requires-2 c κs =
     omega (arith, decimal-length (k .before .before .before .args .n / 10))
 
 same-length : tie.Need-same-length
-same-length c = omega arith
+same-length c =
+    let k = c .before .before .before .before .before .before in
+    c .before .before .decimal-at2 .kept .1 .0 ∙ k .put .kept .0 ∙ k .before .before .before .before .decimal-at .kept .1 .0
 
 returns : tie.Need-returns
 unfolding tenths

@@ -1,4 +1,4 @@
-use native.Mathlib.Omega.{arith}
+use mathlib.Core.Path.{_∙_}
 use Rattle.registers.specs.Answer.{tenths}
 use Rattle.registers.proofs.answer.Signs.{sign-short, laid-signed}
 use Rattle.registers.proofs.answer.write_tenths.Statement.{statement}
@@ -11,7 +11,8 @@ tenths-at-requires : tie.Need-tenths-at-requires
 tenths-at-requires c κs = sign-short (c .before .before .before .sign-of .ensures)
 
 same-length : tie.Need-same-length
-same-length c = omega arith
+same-length c =
+    c .before .before .tenths-at .kept .1 .0 ∙ c .before .before .before .before .before .before .sign-of .kept .1 .0
 
 returns : tie.Need-returns
 returns c =

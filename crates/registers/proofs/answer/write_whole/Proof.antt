@@ -1,3 +1,4 @@
+use mathlib.Core.Path.{_∙_}
 use native.Mathlib.Omega.{arith}
 use Rattle.registers.specs.Answer.{decimal}
 use Rattle.registers.proofs.answer.Signs.{sign-short, laid-signed}
@@ -11,7 +12,8 @@ decimal-at-requires : tie.Need-decimal-at-requires
 decimal-at-requires c κs = let h = sign-short (c .before .before .before .sign-of .ensures) in omega arith
 
 same-length : tie.Need-same-length
-same-length c = omega arith
+same-length c =
+    c .before .before .decimal-at .kept .1 .0 ∙ c .before .before .before .before .before .before .sign-of .kept .1 .0
 
 returns : tie.Need-returns
 returns c =

@@ -1,8 +1,5 @@
-use mathlib.Core.Path.{_≡_, ap, _∙_}
-use Prim.Native.Nat.{_+_, _*_, _-_}
-use lib.ListN.{length, getD}
-use Rattle.registers.specs.ErrorParts.{messageTable, messageAt, quoted}
-use Rattle.registers.proofs.error.Texts.{table-length, found-row, found-text, length-cell, text-room, text-part}
+use Prim.Native.Nat.{_+_, _*_}
+use Rattle.registers.proofs.error.Texts.{byte-wide, found-row, found-fits, text-fits, cell-fits, cell-within, end-fits, found-text, length-cell, text-room, text-long, text-part}
 use native.Mathlib.Omega.{arith}
 use Rattle.registers.proofs.error.quoted_at.Statement.{statement}
 use Rattle.registers.proofs.error.quoted_at.Tie as tie
@@ -11,26 +8,22 @@ row-of-requires : tie.Need-row-of-requires
 row-of-requires c κs = c .before .before .pre .0
 
 mul-row : tie.Need-mul-row
-mul-row c = omega (arith, found-row _ (c .row-of .ensures))
+mul-row c = found-fits _ (c .row-of .ensures)
 
 add-start : tie.Need-add-start
-add-start c = omega (arith, found-row _ (c .row-of .ensures))
+add-start c = text-fits _ (c .row-of .ensures)
 
 add-end : tie.Need-add-end
-add-end c = omega (arith, found-row _ (c .row-of .ensures))
+add-end c = cell-fits _ (c .row-of .ensures)
 
 shared-slice-read-end : tie.Need-shared-slice-read-end
-shared-slice-read-end c =
-    let l = ap length (c .before .before .before .before .pre .0) ∙ table-length in
-    omega (arith, found-row _ (c .before .row-of .ensures))
+shared-slice-read-end c = cell-within _ (c .before .row-of .ensures) (c .before .before .before .before .pre .0)
 
 cast-end : tie.Need-cast-end
-cast-end c = omega (arith, c .shared-slice-known2 .given (c .before .row-of .result * 33 + 2))
+cast-end c = byte-wide (c .shared-slice-known2 .given (c .before .row-of .result * 33 + 2))
 
 add-end-2 : tie.Need-add-end-2
-add-end-2 c =
-    let b = c .shared-slice-known2 .given (c .before .row-of .result * 33 + 2) in
-    omega (arith, b, found-row _ (c .before .row-of .ensures))
+add-end-2 c = end-fits _ (c .before .row-of .ensures) (c .shared-slice-known2 .given (c .before .row-of .result * 33 + 2))
 
 sub-text-at : tie.Need-sub-text-at
 sub-text-at c = omega arith
@@ -48,18 +41,15 @@ text-at-requires : tie.Need-text-at-requires
 text-at-requires c κs = c .before .before .before .before .before .before .pre .1
 
 same-length : tie.Need-same-length
-same-length c = omega arith
+same-length c = c .before .before .text-at .kept .1 .0
 
 returns : tie.Need-returns
 returns c =
     let o = c .before .before .before .before .before .before in
     let row = o .row-of .result in
     let h = found-row _ (o .row-of .ensures) in
-    let n = length-cell row h in
-    let start = row * 33 + 3 in
-    let long : start + getD messageTable (row * 33 + 2) 0 - start ≡ length (quoted (messageAt row .1)) = omega arith in
     let e = o .before .before .before .pre .0 in
-    rw (e, long, text-part row h, found-text _ (o .row-of .ensures)) at (c .before .before .text-at .ensures)
+    rw (e, text-long row h, text-part row h, found-text _ (o .row-of .ensures)) at (c .before .before .text-at .ensures)
 
 pub quoted-at-spec : {M : Type 1} → statement M
 quoted-at-spec =
