@@ -1,4 +1,3 @@
-use native.Mathlib.Omega.{arith}
 use lib.Bits.{and-le-l}
 use Prim.Native.Nat.{_≤_, _<_}
 use Rattle.registers.proofs.status.Laws.{set-yes, set-no}
@@ -17,22 +16,22 @@ returns c =
     sym (set-no (a .self) (a .value) (a .register) h)
 
 enum-told : tie.Need-enum-told
-enum-told c = omega arith
+enum-told c = c .match .keys1
 
 enum-told-2 : tie.Need-enum-told-2
-enum-told-2 c = omega arith
+enum-told-2 c = c .match .keys2
 
 sub-self : tie.Need-sub-self
 sub-self c = and-le-l (c .before .before .before .before .args .value) _
 
 enum-told-3 : tie.Need-enum-told-3
-enum-told-3 c = omega arith
+enum-told-3 c = c .match .keys3
 
 enum-told-4 : tie.Need-enum-told-4
-enum-told-4 c = omega arith
+enum-told-4 c = c .match .keys4
 
 enum-told-5 : tie.Need-enum-told-5
-enum-told-5 c = omega arith
+enum-told-5 c = c .match .keys5
 
 returns-2 : tie.Need-returns-2
 unfolding storedIn
