@@ -3,9 +3,10 @@ use mathlib.Core.Path.{_≡_}
 use mathlib.Core.List.{[], _∷_}
 use Prim.Native.Nat.{ℕ, zero, suc, _+_}
 use lib.ListN.{length}
-use lib.IntN.{ℤ, pos, negsuc}
+use lib.IntN.{ℤ, pos, negsuc, natAbs}
 use Rattle.registers.specs.Text.{Text}
 use Rattle.registers.specs.Answer.{over}
+use Rattle.registers.specs.declared.answer.Sign.{Sign}
 
 -- the text over a tail from a place on, as far as the tail reaches
 unfoldable pub overAt : ℕ → Text → Text → Text
@@ -22,3 +23,8 @@ pub record LaidAt (at : ℕ) (text before : Text) (r : ℕ) (tail : Text) : Type
 abbrev pub signText : ℤ → Text
 signText (pos n) = []
 signText (negsuc n) = 45 ∷ []
+
+-- a number's sign was written from the start, and r is where it ends and the number without it
+pub record SignLaid (z : ℤ) (before : Text) (r : Sign) (tail : Text) : Type 0 where
+  pub laid : LaidAt 0 (signText z) before (r .end) tail
+  pub size : r .size ≡ natAbs z

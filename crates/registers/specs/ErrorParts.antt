@@ -6,24 +6,32 @@ use Prim.Native.String.{String}
 use lib.Dec.{eqb}
 use lib.ListN.{length, getD, replicate}
 use Rattle.registers.specs.Text.{Text, if_then_else_, bytes}
-use Rattle.registers.specs.Errors.{messages, messageIn}
+use Rattle.registers.specs.Errors.{messages}
 
--- a row of 32 bytes: a number's high and low byte, the length of its text, the text, and zeros
+-- what stands behind a number in an answer: its text in quotes
+abbrev pub quoted : String → Text
+quoted t = code "," ∷ code "\"" ∷ bytes t ++ code "\"" ∷ []
+
+-- a row of 33 bytes: a number's high and low byte, the length of what stands behind the number, that itself, and zeros
 unfoldable pub messageRow : ℕ × String → Text
 messageRow m =
-    let t = bytes (m .1) in
-    m .0 / 256 ∷ m .0 % 256 ∷ length t ∷ t ++ replicate (29 - length t) 0
+    let t = quoted (m .1) in
+    m .0 / 256 ∷ m .0 % 256 ∷ length t ∷ t ++ replicate (30 - length t) 0
 
 unfoldable pub tableOf : List (ℕ × String) → Text
 tableOf [] = []
 tableOf (m ∷ ms) = messageRow m ++ tableOf ms
 
-unfoldable pub messageTable : Text
-messageTable = tableOf messages
+-- behind the messages a row for each number that has none
+abbrev pub messageRows : List (ℕ × String)
+messageRows = messages ++ (0, "") ∷ []
 
--- what stands in a row; behind the last no text
+unfoldable pub messageTable : Text
+messageTable = tableOf messageRows
+
+-- what stands in a row
 unfoldable pub messageAt : ℕ → ℕ × String
-messageAt row = getD messages row (0, "")
+messageAt row = getD messageRows row (0, "")
 
 -- the first row with a number; behind the last where none has it
 unfoldable pub rowIn : List (ℕ × String) → ℕ → ℕ
@@ -31,7 +39,3 @@ rowIn [] n = 0
 rowIn (m ∷ ms) n =
     let more = suc (rowIn ms n) in
     if eqb (m .0) n then 0 else more
-
--- what stands behind a number in an answer
-abbrev pub quoted : ℕ → Text
-quoted n = code "," ∷ code "\"" ∷ bytes (messageIn messages n) ++ code "\"" ∷ []

@@ -1,11 +1,16 @@
 -- What the number reader's own functions say. Nothing of 01 is defined here: see Number.antt.
 use mathlib.Core.Path.{_≡_}
+use mathlib.Core.Bool.{Bool}
+use mathlib.Core.List.{_++_}
 use Prim.Native.Nat.{ℕ, _+_, _≤_, min}
+use lib.Dec.{leb, ltb}
 use lib.ListN.{length, drop}
 use Rattle.registers.specs.Text.{Text, digit, start, after}
-use Rattle.registers.specs.Number.{numeralFrom, numeral, fractionOf, afterFraction, exponentOf, afterExponent, lowering}
+use Rattle.registers.specs.Number.{decimalOf, numeralFrom, numeral, fractionOf, afterFraction, exponentOf, afterExponent, lowering}
+use Rattle.registers.specs.Check.{Checked, passed, _>>_, check}
+use Rattle.registers.specs.declared.number.Decimal.{Decimal}
 use Rattle.registers.specs.declared.number.Digits.{Digits}
-use Rattle.registers.specs.declared.number.Fraction.{Fraction}
+use Rattle.registers.specs.declared.number.Mantissa.{Mantissa}
 use Rattle.registers.specs.declared.number.Exponent.{Exponent}
 
 -- digits are counted up to this, which has thirteen of them
@@ -19,11 +24,16 @@ pub record DigitsRead (t : Text) (at from : ℕ) (r : Digits) : Type 0 where
   pub rest : drop (r .end) t ≡ after digit (drop at t)
   pub within : r .end ≤ length t
 
--- the point and the digits behind it
-pub record FractionRead (t : Text) (at from : ℕ) (r : Fraction) : Type 0 where
-  pub value : r .value ≡ min held (numeralFrom from (fractionOf (drop at t)))
-  pub places : r .places ≡ length (fractionOf (drop at t))
-  pub rest : drop (r .end) t ≡ afterFraction (drop at t)
+-- the digits of the mantissa that a text starts with
+abbrev pub mantissaOf : Text → Text
+mantissaOf t = start digit t ++ fractionOf (after digit t)
+
+-- the digits of t from a place on, and the point and the digits behind it
+pub record MantissaRead (t : Text) (at : ℕ) (r : Mantissa) : Type 0 where
+  pub value : r .value ≡ min held (numeral (mantissaOf (drop at t)))
+  pub count : r .count ≡ length (mantissaOf (drop at t))
+  pub places : r .places ≡ length (fractionOf (after digit (drop at t)))
+  pub rest : drop (r .end) t ≡ afterFraction (after digit (drop at t))
   pub within : r .end ≤ length t
   pub short : r .places ≤ length t
 
@@ -32,3 +42,10 @@ pub record ExponentRead (t : Text) (at : ℕ) (r : Exponent) : Type 0 where
   pub size : r .size ≡ min held (numeral (exponentOf (drop at t)))
   pub rest : drop (r .end) t ≡ afterExponent (drop at t)
   pub within : r .end ≤ length t
+
+-- the last of check 6, of what was read
+unfoldable pub valueRead : Bool → Mantissa → Exponent → Checked Decimal
+valueRead minus m x =
+    check 124 (ltb (m .value) held)
+    >> check 123 (leb (x .size) 9)
+    >> passed (decimalOf minus (m .value) (m .places) (x .lowers) (x .size))

@@ -3,9 +3,14 @@
 ghost use mathlib.Core.Path.{_≡_};
 ghost use Prim.Native.Nat.{_≤_};
 ghost use lib.ListN.{set};
-ghost use lib.IntN.{natAbs};
 ghost use Rattle.registers.specs.Answer.{decimal, tenths, signedText, Laid};
-ghost use Rattle.registers.specs.AnswerParts.{LaidAt, signText};
+ghost use Rattle.registers.specs.AnswerParts.{LaidAt, SignLaid};
+
+// Where a number's sign ends, and the number without it.
+struct Sign {
+    end: usize,
+    size: u32,
+}
 
 // One byte, where the tail reaches.
 pub(crate) fn put(tail: &mut [u8], at: usize, b: u8)
@@ -53,25 +58,21 @@ fn tenths_at(n: u32, tail: &mut [u8], at: usize) -> usize
     decimal_at(n % 10, tail, end + 1)
 }
 
-// A minus, where the value is below zero.
-fn sign_of(value: i32, tail: &mut [u8]) -> usize
-    ensures { λ r. ⌜ LaidAt 0 (signText value) (now (tail .entry)) r (now (tail .exit)) ⌝ }
+// A minus, where the value is below zero, and the value without its sign.
+fn sign_of(value: i32, tail: &mut [u8]) -> Sign
+    ensures { λ r. ⌜ SignLaid value (now (tail .entry)) r (now (tail .exit)) ⌝ }
 {
     if value < 0 {
         put(tail, 0, 45);
-        return 1;
+        return Sign {
+            end: 1,
+            size: (0 - (value as i64)) as u32,
+        };
     }
-    0
-}
-
-// A number without its sign.
-fn size_of(number: i32) -> u32
-    ensures { λ r. ⌜ r ≡ natAbs number ⌝ }
-{
-    if number < 0 {
-        return (0 - (number as i64)) as u32;
+    Sign {
+        end: 0,
+        size: value as u32,
     }
-    number as u32
 }
 
 // A text as it stands.
@@ -92,14 +93,14 @@ pub fn write_decimal(n: u32, tail: &mut [u8]) -> usize
 pub fn write_whole(value: i32, tail: &mut [u8]) -> usize
     ensures { λ r. ⌜ Laid (signedText decimal value) (now (tail .entry)) r (now (tail .exit)) ⌝ }
 {
-    let at = sign_of(value, tail);
-    decimal_at(size_of(value), tail, at)
+    let sign = sign_of(value, tail);
+    decimal_at(sign.size, tail, sign.end)
 }
 
 // One decimal for step 0.1, of a value in tenths.
 pub fn write_tenths(value: i32, tail: &mut [u8]) -> usize
     ensures { λ r. ⌜ Laid (signedText tenths value) (now (tail .entry)) r (now (tail .exit)) ⌝ }
 {
-    let at = sign_of(value, tail);
-    tenths_at(size_of(value), tail, at)
+    let sign = sign_of(value, tail);
+    tenths_at(sign.size, tail, sign.end)
 }

@@ -1,12 +1,11 @@
 // The errors that 01 raises, and their texts.
 use crate::answer;
 ghost use mathlib.Core.Path.{_≡_};
-ghost use Prim.Native.Nat.{_≤_, _<_};
-ghost use Rattle.registers.specs.Text.{bytes};
+ghost use Prim.Native.Nat.{_≤_};
 ghost use Rattle.registers.specs.Answer.{Laid};
 ghost use Rattle.registers.specs.AnswerParts.{LaidAt};
-ghost use Rattle.registers.specs.Errors.{numberOf, eventBit, known, messages, errorText};
-ghost use Rattle.registers.specs.ErrorParts.{messageTable, messageAt, rowIn, quoted};
+ghost use Rattle.registers.specs.Errors.{numberOf, eventBit, known, messages, messageIn, errorText};
+ghost use Rattle.registers.specs.ErrorParts.{messageTable, rowIn, quoted};
 
 // An error by the text that SCPI-99 gives it. -350 is not among them: it is put into a full queue
 // and never raised.
@@ -108,26 +107,20 @@ pub fn is_known(number: u16) -> bool
     false
 }
 
-// ---- the texts, in a table of 32 bytes a row: the number's two bytes, the text's length, the text
+// ---- the texts, in a table of 33 bytes a row: the number's two bytes, a length, and what stands
+// behind the number in an answer. The last row is for each number that has no text.
 
 const ROWS: usize = 19;
 
-fn number_at(table: &[u8], row: usize) -> u16
-    requires { ⌜ (now table ≡ messageTable) × (row < 19) ⌝ }
-    ensures { λ r. ⌜ r ≡ messageAt row .0 ⌝ }
-{
-    let at = row * 32;
-    table[at] as u16 * 256 + table[at + 1] as u16
-}
-
-// The first row with a number, or the number of rows where none has it.
+// The first row with a number, or the last where none has it.
 fn row_of(table: &[u8], number: u16) -> usize
     requires { ⌜ now table ≡ messageTable ⌝ }
     ensures { λ r. ⌜ r ≡ rowIn messages number ⌝ }
 {
     let mut row: usize = 0;
     while row < ROWS {
-        if number_at(table, row) == number {
+        let at = row * 33;
+        if table[at] as u16 * 256 + table[at + 1] as u16 == number {
             return row;
         }
         row += 1;
@@ -135,30 +128,15 @@ fn row_of(table: &[u8], number: u16) -> usize
     ROWS
 }
 
-// The text of a row from a place on; behind the last row there is none.
-fn message_at(table: &[u8], row: usize, tail: &mut [u8], at: usize) -> usize
-    requires { ⌜ (now table ≡ messageTable) × (at ≤ 100) ⌝ }
-    ensures { λ r. ⌜ LaidAt at (bytes (messageAt row .1)) (now (tail .entry)) r (now (tail .exit)) ⌝ }
-{
-    if ROWS <= row {
-        return at;
-    }
-    let start = row * 32 + 3;
-    let end = start + table[row * 32 + 2] as usize;
-    answer::text_at(&table[start..end], tail, at)
-}
-
 // A comma and the text of a number in quotes, from a place on.
 fn quoted_at(table: &[u8], number: u16, tail: &mut [u8], at: usize) -> usize
-    requires { ⌜ (now table ≡ messageTable) × (at ≤ 98) ⌝ }
-    ensures { λ r. ⌜ LaidAt at (quoted number) (now (tail .entry)) r (now (tail .exit)) ⌝ }
+    requires { ⌜ (now table ≡ messageTable) × (at ≤ 100) ⌝ }
+    ensures { λ r. ⌜ LaidAt at (quoted (messageIn messages number)) (now (tail .entry)) r (now (tail .exit)) ⌝ }
 {
-    answer::put(tail, at, 44);
-    let quote = at + 1;
-    answer::put(tail, quote, 34);
-    let end = message_at(table, row_of(table, number), tail, quote + 1);
-    answer::put(tail, end, 34);
-    end + 1
+    let row = row_of(table, number) * 33;
+    let start = row + 3;
+    let end = start + table[row + 2] as usize;
+    answer::text_at(&table[start..end], tail, at)
 }
 
 // What SYSTem:ERRor? answers, "with its SCPI-99 text": the queue holds 222, the answer has -222.
@@ -166,25 +144,26 @@ pub fn write_error(number: u16, tail: &mut [u8]) -> usize
     ensures { λ r. ⌜ Laid (errorText number) (now (tail .entry)) r (now (tail .exit)) ⌝ }
 {
     let table = b"\
-        \x00\x00\x08No error\0\0\0\0\0\0\0\0\0\0\0\0\0\0\0\0\0\0\0\0\0\
-        \x00\x65\x11Invalid character\0\0\0\0\0\0\0\0\0\0\0\0\
-        \x00\x66\x0cSyntax error\0\0\0\0\0\0\0\0\0\0\0\0\0\0\0\0\0\
-        \x00\x68\x0fData type error\0\0\0\0\0\0\0\0\0\0\0\0\0\0\
-        \x00\x6c\x15Parameter not allowed\0\0\0\0\0\0\0\0\
-        \x00\x6d\x11Missing parameter\0\0\0\0\0\0\0\0\0\0\0\0\
-        \x00\x71\x10Undefined header\0\0\0\0\0\0\0\0\0\0\0\0\0\
-        \x00\x79\x1bInvalid character in number\0\0\
-        \x00\x7b\x12Exponent too large\0\0\0\0\0\0\0\0\0\0\0\
-        \x00\x7c\x0fToo many digits\0\0\0\0\0\0\0\0\0\0\0\0\0\0\
-        \x00\x8a\x12Suffix not allowed\0\0\0\0\0\0\0\0\0\0\0\
-        \x00\x8d\x16Invalid character data\0\0\0\0\0\0\0\
-        \x00\xdd\x11Settings conflict\0\0\0\0\0\0\0\0\0\0\0\0\
-        \x00\xde\x11Data out of range\0\0\0\0\0\0\0\0\0\0\0\0\
-        \x01\x5e\x0eQueue overflow\0\0\0\0\0\0\0\0\0\0\0\0\0\0\0\
-        \x01\x6b\x14Input buffer overrun\0\0\0\0\0\0\0\0\0\
-        \x01\x9a\x11Query INTERRUPTED\0\0\0\0\0\0\0\0\0\0\0\0\
-        \x01\xa4\x12Query UNTERMINATED\0\0\0\0\0\0\0\0\0\0\0\
-        \x01\xae\x10Query DEADLOCKED\0\0\0\0\0\0\0\0\0\0\0\0\0";
+        \x00\x00\x0b,\"No error\"\0\0\0\0\0\0\0\0\0\0\0\0\0\0\0\0\0\0\0\
+        \x00\x65\x14,\"Invalid character\"\0\0\0\0\0\0\0\0\0\0\
+        \x00\x66\x0f,\"Syntax error\"\0\0\0\0\0\0\0\0\0\0\0\0\0\0\0\
+        \x00\x68\x12,\"Data type error\"\0\0\0\0\0\0\0\0\0\0\0\0\
+        \x00\x6c\x18,\"Parameter not allowed\"\0\0\0\0\0\0\
+        \x00\x6d\x14,\"Missing parameter\"\0\0\0\0\0\0\0\0\0\0\
+        \x00\x71\x13,\"Undefined header\"\0\0\0\0\0\0\0\0\0\0\0\
+        \x00\x79\x1e,\"Invalid character in number\"\
+        \x00\x7b\x15,\"Exponent too large\"\0\0\0\0\0\0\0\0\0\
+        \x00\x7c\x12,\"Too many digits\"\0\0\0\0\0\0\0\0\0\0\0\0\
+        \x00\x8a\x15,\"Suffix not allowed\"\0\0\0\0\0\0\0\0\0\
+        \x00\x8d\x19,\"Invalid character data\"\0\0\0\0\0\
+        \x00\xdd\x14,\"Settings conflict\"\0\0\0\0\0\0\0\0\0\0\
+        \x00\xde\x14,\"Data out of range\"\0\0\0\0\0\0\0\0\0\0\
+        \x01\x5e\x11,\"Queue overflow\"\0\0\0\0\0\0\0\0\0\0\0\0\0\
+        \x01\x6b\x17,\"Input buffer overrun\"\0\0\0\0\0\0\0\
+        \x01\x9a\x14,\"Query INTERRUPTED\"\0\0\0\0\0\0\0\0\0\0\
+        \x01\xa4\x15,\"Query UNTERMINATED\"\0\0\0\0\0\0\0\0\0\
+        \x01\xae\x13,\"Query DEADLOCKED\"\0\0\0\0\0\0\0\0\0\0\0\
+        \x00\x00\x03,\"\"\0\0\0\0\0\0\0\0\0\0\0\0\0\0\0\0\0\0\0\0\0\0\0\0\0\0\0";
     let at = answer::write_whole(0 - number as i32, tail);
     quoted_at(table, number, tail, at)
 }

@@ -2,10 +2,10 @@
 use crate::error::Error;
 use crate::text;
 ghost use mathlib.Core.Path.{_≡_};
-ghost use Prim.Native.Nat.{_+_, _-_, _*_, _^_, _≤_, _<_, min};
-ghost use lib.ListN.{length, drop};
-ghost use Rattle.registers.specs.Number.{number, meant, afterSign, decimalOf, switchedOn};
-ghost use Rattle.registers.specs.NumberParts.{held, DigitsRead, FractionRead, ExponentRead};
+ghost use Prim.Native.Nat.{_^_, _≤_, _<_};
+ghost use lib.ListN.{length};
+ghost use Rattle.registers.specs.Number.{number, meant, switchedOn};
+ghost use Rattle.registers.specs.NumberParts.{held, DigitsRead, MantissaRead, ExponentRead, valueRead};
 
 // A number's exact value: its digits, times 10 to the power up, over 10 to the power down.
 pub struct Decimal {
@@ -26,8 +26,9 @@ struct Digits {
     end: usize,
 }
 
-struct Fraction {
+struct Mantissa {
     value: u64,
+    count: usize,
     places: usize,
     end: usize,
 }
@@ -51,15 +52,6 @@ impl Decimal {
     }
 }
 
-// One digit more.
-fn with_digit(value: u64, b: u8) -> u64
-    requires { ⌜ (value ≤ held) × (48 ≤ b) ⌝ }
-    ensures { λ r. ⌜ r ≡ min held (value * 10 + (b - 48)) ⌝ }
-{
-    let next = value * 10 + (b - 48) as u64;
-    if next < HELD { next } else { HELD }
-}
-
 // The digits from a place on, behind those of `from`.
 fn read_digits(text: &[u8], at: usize, from: u64) -> Digits
     requires { ⌜ (at ≤ length (now text)) × (from ≤ held) ⌝ }
@@ -72,42 +64,34 @@ fn read_digits(text: &[u8], at: usize, from: u64) -> Digits
         if !text::is_digit(b) {
             return Digits { value, end: i };
         }
-        value = with_digit(value, b);
+        let next = value * 10 + (b - 48) as u64;
+        value = if next < HELD { next } else { HELD };
         i += 1;
     }
     Digits { value, end: i }
 }
 
-// Where what stands after an optional sign begins.
-fn sign_end(text: &[u8], at: usize) -> usize
+// Digits with an optional point.
+fn read_mantissa(text: &[u8], at: usize) -> Mantissa
     requires { ⌜ at ≤ length (now text) ⌝ }
-    ensures { λ r. ⌜ (drop r (now (text .entry)) ≡ afterSign (drop at (now (text .entry)))) × (r ≤ length (now (text .entry))) ⌝ }
+    ensures { λ r. ⌜ MantissaRead (now (text .entry)) at r ⌝ }
 {
-    let b = text::byte_at(text, at);
-    if (b == 43) | (b == 45) {
-        return at + 1;
-    }
-    at
-}
-
-// The digits behind a point, behind those of `from`.
-fn read_fraction(text: &[u8], at: usize, from: u64) -> Fraction
-    requires { ⌜ (at ≤ length (now text)) × (from ≤ held) ⌝ }
-    ensures { λ r. ⌜ FractionRead (now (text .entry)) at from r ⌝ }
-{
-    let b = text::byte_at(text, at);
-    if b == 46 {
-        let d = read_digits(text, at + 1, from);
-        return Fraction {
-            value: d.value,
-            places: d.end - (at + 1),
-            end: d.end,
+    let whole = read_digits(text, at, 0);
+    let point = whole.end;
+    if text::byte_at(text, point) != 46 {
+        return Mantissa {
+            value: whole.value,
+            count: point - at,
+            places: 0,
+            end: point,
         };
     }
-    Fraction {
-        value: from,
-        places: 0,
-        end: at,
+    let all = read_digits(text, point + 1, whole.value);
+    Mantissa {
+        value: all.value,
+        count: all.end - at - 1,
+        places: all.end - point - 1,
+        end: all.end,
     }
 }
 
@@ -126,7 +110,7 @@ fn read_exponent(text: &[u8], at: usize) -> Exponent
         return none;
     }
     let sign = text::byte_at(text, at + 1);
-    let s = sign_end(text, at + 1);
+    let s = at + 1 + ((sign == 43) | (sign == 45)) as usize;
     let d = read_digits(text, s, 0);
     if d.end == s {
         return none;
@@ -138,34 +122,42 @@ fn read_exponent(text: &[u8], at: usize) -> Exponent
     }
 }
 
-// The exact value of digits of which so many stand behind the point.
-fn decimal_of(minus: bool, digits: u64, places: usize, lowers: bool, exponent: u64) -> Decimal
-    requires { ⌜ (places < 2 ^ 63) × (exponent ≤ 9) ⌝ }
-    ensures { λ r. ⌜ r ≡ decimalOf minus digits places lowers exponent ⌝ }
+// The last of check 6: not too many digits, no exponent too large, and the exact value.
+fn valued(minus: bool, mantissa: Mantissa, exponent: Exponent) -> Reading
+    requires { ⌜ mantissa .places < 2 ^ 63 ⌝ }
+    ensures { λ r. ⌜ meant r ≡ valueRead minus mantissa exponent ⌝ }
 {
-    let behind = places as u64;
-    if lowers {
-        return Decimal {
+    let digits = mantissa.value;
+    if HELD <= digits {
+        return Reading::Refused(Error::TooManyDigits);
+    }
+    let size = exponent.size;
+    if 9 < size {
+        return Reading::Refused(Error::ExponentTooLarge);
+    }
+    let places = mantissa.places as u64;
+    if exponent.lowers {
+        return Reading::Number(Decimal {
             minus,
             digits,
             up: 0,
-            down: behind + exponent,
-        };
+            down: places + size,
+        });
     }
-    if behind <= exponent {
-        return Decimal {
+    if places <= size {
+        return Reading::Number(Decimal {
             minus,
             digits,
-            up: (exponent - behind) as u32,
+            up: (size - places) as u32,
             down: 0,
-        };
+        });
     }
-    Decimal {
+    Reading::Number(Decimal {
         minus,
         digits,
         up: 0,
-        down: behind - exponent,
-    }
+        down: places - size,
+    })
 }
 
 // Reads a parameter that starts with a digit, a sign or a point.
@@ -173,33 +165,17 @@ pub fn read(text: &[u8]) -> Reading
     ensures { λ r. ⌜ meant r ≡ number (now (text .entry)) ⌝ }
 {
     let sign = text::byte_at(text, 0);
-    let s = sign_end(text, 0);
-    let whole = read_digits(text, s, 0);
-    let m = whole.end;
-    let fraction = read_fraction(text, m, whole.value);
-    let p = fraction.end;
-    let places = fraction.places;
-    let exponent = read_exponent(text, p);
-    let q = exponent.end;
-    if (m == s) & (places == 0) {
+    let mantissa = read_mantissa(text, ((sign == 43) | (sign == 45)) as usize);
+    if mantissa.count == 0 {
         return Reading::Refused(Error::InvalidCharacterInNumber);
     }
-    let w = text::white_end(text, q);
+    let exponent = read_exponent(text, mantissa.end);
+    let w = text::white_end(text, exponent.end);
     if text::is_letter(text::byte_at(text, w)) {
         return Reading::Refused(Error::SuffixNotAllowed);
     }
     if w < text.len() {
         return Reading::Refused(Error::InvalidCharacterInNumber);
     }
-    let value = fraction.value;
-    if HELD <= value {
-        return Reading::Refused(Error::TooManyDigits);
-    }
-    let size = exponent.size;
-    if 9 < size {
-        return Reading::Refused(Error::ExponentTooLarge);
-    }
-    let lowers = exponent.lowers;
-    let d = decimal_of(sign == 45, value, places, lowers, size);
-    Reading::Number(d)
+    valued(sign == 45, mantissa, exponent)
 }

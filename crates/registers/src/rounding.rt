@@ -15,23 +15,17 @@ pub enum Fit {
 // holding changes no comparison and nothing wraps.
 const BEYOND: u64 = 2_147_483_649;
 
-fn hold(x: u64) -> u64
-    ensures { λ r. ⌜ r ≡ min beyond x ⌝ }
-{
-    if x < BEYOND { x } else { BEYOND }
-}
-
 // x times 10 to the power n, held.
 fn raised(x: u64, n: u64) -> u64
     ensures { λ r. ⌜ r ≡ min beyond (x * 10 ^ n) ⌝ }
 {
-    let mut y = hold(x);
+    let mut y = x;
     let mut i = n;
-    while 0 < i {
-        y = hold(y * 10);
+    while (0 < i) & (y < BEYOND) {
+        y = y * 10;
         i -= 1;
     }
-    y
+    if y < BEYOND { y } else { BEYOND }
 }
 
 // x over 10 to the power n + 1, rounded: only the last digit that is cut off decides.
@@ -54,7 +48,8 @@ fn size_of(x: u64, up: u64, down: u64) -> u64
     if down <= up {
         return raised(x, up - down);
     }
-    hold(lowered(x, down - up - 1))
+    // Raised by nothing: only held.
+    raised(lowered(x, down - up - 1), 0)
 }
 
 // The value in steps of which 10 to the power tens make one, held.

@@ -1,7 +1,6 @@
 // The sixteen settings, by their row in 01's table: bools 0 and 1, words by their place, numbers in
 // steps, the negative peak limit as signed tenths.
 ghost use mathlib.Core.Path.{_≡_};
-ghost use Rattle.registers.specs.SettingsParts.{valuesFrom};
 ghost use Rattle.registers.specs.Settings.{valueAt, atReset, lowest, highest, within, conflict, possibleSettings, stored, kindOf, valuesIn};
 
 pub struct Settings {
@@ -18,21 +17,6 @@ pub enum Values {
 
 // Each row's kind of values: 0 for a bool, 1 for words, 2 for step 0.1, 3 for step 1.
 const KINDS: [u8; 16] = [0, 0, 0, 1, 2, 1, 2, 2, 1, 1, 3, 3, 2, 2, 3, 0];
-
-fn values_from(kind: u8) -> Values
-    ensures { λ r. ⌜ r ≡ valuesFrom kind ⌝ }
-{
-    if kind == 0 {
-        return Values::Bool;
-    }
-    if kind == 1 {
-        return Values::Word;
-    }
-    if kind == 2 {
-        return Values::Tenths;
-    }
-    Values::Whole
-}
 
 impl Settings {
     pub const COUNT: usize = 16;
@@ -60,11 +44,17 @@ impl Settings {
     pub fn values_of(row: usize) -> Values
         ensures { λ r. ⌜ r ≡ valuesIn (kindOf row) ⌝ }
     {
-        if row < Settings::COUNT {
-            let kinds = KINDS;
-            return values_from(kinds[row]);
+        if Settings::COUNT <= row {
+            return Values::Bool;
         }
-        Values::Bool
+        let kinds = KINDS;
+        let kind = kinds[row];
+        match kind {
+            0 => Values::Bool,
+            1 => Values::Word,
+            2 => Values::Tenths,
+            _ => Values::Whole,
+        }
     }
 
     // The lowest value of a row.

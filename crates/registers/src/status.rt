@@ -7,10 +7,10 @@ ghost use mathlib.Core.Path.{_≡_};
 ghost use mathlib.Core.List.{_++_, _∷_, []};
 ghost use Prim.Native.Nat.{_≤_};
 ghost use lib.Bits.{bitOr};
-ghost use lib.ListN.{drop};
+ghost use lib.ListN.{take, drop};
 ghost use Rattle.registers.specs.Text.{if_then_else_, every, first};
 ghost use Rattle.registers.specs.Errors.{numberOf, known};
-ghost use Rattle.registers.specs.Status.{registersOf, troubleOf, withRegisters, raisedIn, clearedIn, eventsIn, oldestReadIn, operationRead, reportedIn, registerSet, registerIn, widest, withoutBit6, statusByte, possibleRegisters, possibleStatus, atStart};
+ghost use Rattle.registers.specs.Status.{registersOf, troubleOf, withRegisters, raisedIn, clearedIn, eventsIn, oldestReadIn, operationRead, reportedIn, registerSet, registerIn, widest, statusByte, possibleStatus, atStart};
 
 pub struct Status {
     pub events: u16,
@@ -43,12 +43,13 @@ fn shifted(errors: [u16; 16]) -> [u16; 16]
     next
 }
 
-// Whether every number may stand in the queue.
-fn all_known(errors: &[u16]) -> bool
-    ensures { λ r. ⌜ r ≡ every known (now (errors .entry)) ⌝ }
+// Whether every number that waits may stand in the queue.
+fn all_known(errors: [u16; 16], count: usize) -> bool
+    requires { ⌜ count ≤ 16 ⌝ }
+    ensures { λ r. ⌜ r ≡ every known (take count errors) ⌝ }
 {
-    let mut i = 0;
-    while i < errors.len() {
+    let mut i: usize = 0;
+    while i < count {
         if !error::is_known(errors[i]) {
             return false;
         }
@@ -63,12 +64,6 @@ fn bit_if(on: bool, weight: u8) -> u8
     ensures { λ r. ⌜ r ≤ weight ⌝ }
 {
     if on { weight } else { 0 }
-}
-
-fn without_bit6(value: u16) -> u16
-    ensures { λ r. ⌜ r ≡ withoutBit6 value ⌝ }
-{
-    value - (value & 64)
 }
 
 impl Register {
@@ -225,7 +220,7 @@ impl Status {
                 self.ese = value;
             }
             Register::Sre => {
-                self.sre = without_bit6(value);
+                self.sre = value - (value & 64);
             }
             Register::Enable => {
                 self.operation.enable = value;
@@ -252,30 +247,18 @@ impl Status {
         summary + bit_if(summary as u16 & self.sre != 0, 64)
     }
 
-    // Refusal 4 on the registers that a refused unit leaves alone.
-    fn possible_registers(self) -> bool
-        ensures { λ r. ⌜ r ≡ possibleRegisters (registersOf self) ⌝ }
-    {
-        let operation = self.operation;
-        let group = operation.possible();
-        (self.ese <= 255) & (self.sre <= 255) & (self.sre & 64 == 0) & group
-    }
-
     // Refusal 4 on the status.
     pub fn possible(self) -> bool
         ensures { λ r. ⌜ r ≡ possibleStatus self ⌝ }
     {
         let count = self.queued;
-        let errors = self.errors;
         if Status::MOST < count {
             return false;
         }
-        if !self.possible_registers() {
-            return false;
-        }
-        if 255 < self.events {
-            return false;
-        }
-        all_known(&errors[0..count])
+        let operation = self.operation;
+        let group = operation.possible();
+        let registers = (self.ese <= 255) & (self.sre <= 255) & (self.sre & 64 == 0) & group;
+        let errors = self.errors;
+        registers & ((self.events <= 255) & all_known(errors, count))
     }
 }

@@ -8,6 +8,8 @@ use native.Mathlib.Nat.{pow-suc}
 use lib.ListN.{length, length-append}
 use lib.Dec.{ltb}
 use lib.IntN.{ℤ, pos, negsuc}
+use mir.Syntax.{w64}
+use mir.Val.{Fits}
 use borrow.Author.Tests.{lt-ltb, le-ltb}
 use Rattle.registers.specs.Text.{Text, if_then_else_}
 use Rattle.registers.specs.Answer.{inPlaces, decimal, tenths, signedText}
@@ -46,6 +48,14 @@ inPlaces-length (suc p) n = go (ltb n 10) (inPlaces-length p (n / 10))
 pub decimal-length : (n : ℕ) → length (decimal n) ≤ 20
 unfolding decimal
 decimal-length n = inPlaces-length 20 n
+
+-- a place behind a number that starts at a low place is low
+module _ (n : ℕ) {at r : ℕ} (e : r ≡ at + length (decimal n)) where
+  pub behind-fits : at ≤ 100 → Fits w64 (r + 1)
+  behind-fits h = let l = decimal-length n in omega arith
+
+  pub behind-low : at ≤ 1 → r + 1 ≤ 100
+  behind-low h = let l = decimal-length n in omega arith
 
 pub tenths-length : (n : ℕ) → length (tenths n) ≤ 22
 unfolding tenths

@@ -14,7 +14,8 @@ use mir.Facts.{toZ-ofZ, toZ-pos, sfits-widen, fits-natAbs}
 use borrow.Author.Tests.{ltb-true}
 use Rattle.registers.specs.Text.{Text}
 use Rattle.registers.specs.Answer.{signedText, Laid}
-use Rattle.registers.specs.AnswerParts.{LaidAt, signText}
+use Rattle.registers.specs.AnswerParts.{LaidAt, signText, SignLaid}
+use Rattle.registers.specs.declared.answer.Sign.{Sign}
 use Rattle.registers.proofs.answer.Laws.{laid-whole, laid-then}
 
 -- ---- what the test `value < 0` tells
@@ -80,13 +81,16 @@ pub signed-text : (f : ℕ → Text) (z : ℤ) → signedText f z ≡ signText z
 signed-text f (pos n) = refl
 signed-text f (negsuc n) = refl
 
-pub sign-length : (z : ℤ) → length (signText z) ≤ 1
+sign-length : (z : ℤ) → length (signText z) ≤ 1
 sign-length (pos n) = omega arith
 sign-length (negsuc n) = omega arith
 
+pub sign-short : {z : ℤ} {r : Sign} {a b : Text} → SignLaid z a r b → r .end ≤ 1
+sign-short {z} p = let e = p .laid .end in let l = sign-length z in omega arith
+
 -- a sign's writer and then a size's writer, each at a value that came as its bits, write the signed number
-pub laid-signed : (f : ℕ → Text) {z : ℤ} → SFits w32 z → {n r s : ℕ} {a b c : Text} → n ≡ natAbs (toZ w32 (ofZ w32 z))
-    → LaidAt 0 (signText (toZ w32 (ofZ w32 z))) a r b → LaidAt r (f n) b s c → Laid (signedText f z) a s c
-laid-signed f h e p q =
+pub laid-signed : (f : ℕ → Text) {z : ℤ} → SFits w32 z → {r : Sign} {s : ℕ} {a b c : Text} → SignLaid (toZ w32 (ofZ w32 z)) a r b
+    → LaidAt (r .end) (f (r .size)) b s c → Laid (signedText f z) a s c
+laid-signed f h p q =
     let k = toZ-ofZ {w = w32} h in
-    rw signed-text (laid-whole (laid-then (rw k at p) (rw (e, k) at q)))
+    rw signed-text (laid-whole (laid-then (rw k at (p .laid)) (rw (p .size, k) at q)))

@@ -1,20 +1,23 @@
--- The number reader: its result is determined, and the laws of its parts, the sign, the fraction and the exponent.
+-- The number reader: its result is determined, and the laws of its parts, the sign, the mantissa and the exponent.
 use mathlib.Core.Path.{_≡_, refl, ap, sym, _∙_}
-use mathlib.Core.Bool.{true, false}
-use mathlib.Core.List.{[], _∷_}
+use mathlib.Core.Bool.{Bool, true, false}
+use mathlib.Core.List.{[], _∷_, _++_, append-nil}
 use Prim.Native.Nat.{ℕ, _+_, _-_, min, _≤_}
+use native.Mathlib.Nat.{add-zero}
 use native.Mathlib.Omega.{arith}
 use lib.Dec.{eqb}
-use lib.ListN.{length, drop}
+use lib.ListN.{length, length-append, drop}
+use mir.Val.{boolByte}
 use borrow.Author.Tests.{ne-eqb}
 use Rattle.registers.specs.Text.{Text, if_then_else_, digit, capital, small, first, rest, empty, start, after}
-use Rattle.registers.specs.Number.{numeralFrom, numeral, sign, afterSign, fractionOf, afterFraction, exponentOf, afterExponent, lowering, meant}
-use Rattle.registers.specs.NumberParts.{held, DigitsRead, FractionRead, ExponentRead}
+use Rattle.registers.specs.Number.{numeralFrom, numeral, sign, point, afterSign, fractionOf, afterFraction, exponentOf, afterExponent, lowering, meant}
+use Rattle.registers.specs.NumberParts.{held, mantissaOf, DigitsRead, MantissaRead, ExponentRead}
 use Rattle.registers.specs.declared.number.Digits.{Digits}
 use Rattle.registers.specs.declared.number.Reading.{Reading}
 use Rattle.registers.specs.declared.number.Reading.the-variants.{Refused, Number}
 use Rattle.registers.proofs.ErrorLaws.{numberOf-injective}
-use Rattle.registers.proofs.text.Laws.{rest-at}
+use Rattle.registers.proofs.text.Laws.{first-within, rest-at}
+use Rattle.registers.proofs.number.Numerals.{held-before, numeral-append}
 
 -- two readings that mean the same are equal: `read`'s contract determines its result
 pub reading-unique : (a b : Reading) → meant a ≡ meant b → a ≡ b
@@ -25,43 +28,74 @@ reading-unique (Number x) (Number y) e = cc
 
 -- ---- the parts, from a place on
 
-module _ (t : Text) (at : ℕ) where
-  pub sign-yes : sign (first (drop at t)) ≡ true → drop (at + 1) t ≡ afterSign (drop at t)
-  unfolding afterSign if_then_else_
-  sign-yes e = rw e (sym (rest-at t at))
+-- a sign is one byte
+pub sign-end : (t : Text) (at b : ℕ) → b ≡ first (drop at t) → at ≤ length t
+    → (drop (at + boolByte (sign b)) t ≡ afterSign (drop at t)) × (at + boolByte (sign b) ≤ length t)
+unfolding afterSign if_then_else_
+sign-end t at b e l = rw e (go (sign (first (drop at t))) refl)
+  where
+    go : (y : Bool) → sign (first (drop at t)) ≡ y
+        → (drop (at + boolByte y) t ≡ (if y then rest (drop at t) else drop at t)) × (at + boolByte y ≤ length t)
+    go true q = let h = first-within sign t at refl q in (sym (rest-at t at), omega arith)
+    go false q = (rw (add-zero at), omega arith)
 
-  pub sign-no : sign (first (drop at t)) ≡ false → drop at t ≡ afterSign (drop at t)
-  unfolding afterSign if_then_else_
-  sign-no e = rw e
+-- ---- the mantissa
 
-  -- ---- the fraction
+module _ (t : Text) (at : ℕ) (w : Digits) (h : DigitsRead t at 0 w) where
+  abbrev whole : Text
+  whole = start digit (drop at t)
 
-  pub fraction-yes : first (drop at t) ≡ 46 → (from : ℕ) (d : Digits) → DigitsRead t (at + 1) from d
-      → FractionRead t at from (record { value = d .value; places = d .end - (at + 1); end = d .end })
+  pub no-point : (first (drop (w .end) t) ≡ 46 → ⊥)
+      → MantissaRead t at (record { value = w .value; count = w .end - at; places = 0; end = w .end })
   unfolding fractionOf afterFraction if_then_else_
-  fraction-yes e from d h =
-      let is : fractionOf (drop at t) ≡ start digit (drop (at + 1) t) = rw (e, rest-at t at) in
-      let behind : afterFraction (drop at t) ≡ after digit (drop (at + 1) t) = rw (e, rest-at t at) in
+  no-point ne =
+      let q : point (first (after digit (drop at t))) ≡ false = rw (sym (h .rest)) (ne-eqb (first (drop (w .end) t)) 46 ne) in
+      let none : fractionOf (after digit (drop at t)) ≡ [] = rw q in
+      let behind : afterFraction (after digit (drop at t)) ≡ after digit (drop at t) = rw q in
+      let all : mantissaOf (drop at t) ≡ whole = rw none (append-nil whole) in
       let n = h .end in
-      let w = h .within in
-      let long : d .end - (at + 1) ≡ length (start digit (drop (at + 1) t)) = omega arith in
+      let long : w .end - at ≡ length whole = omega arith in
       record {
-        value = h .value ∙ ap (λ (u : Text). min held (numeralFrom from u)) (sym is);
-        places = long ∙ ap length (sym is);
+        value = h .value ∙ ap (λ (u : Text). min held (numeral u)) (sym all);
+        count = long ∙ ap length (sym all);
+        places = ap length (sym none);
         rest = h .rest ∙ sym behind;
-        within = w;
+        within = h .within;
         short = omega arith;
       }
 
-  pub fraction-no : (first (drop at t) ≡ 46 → ⊥) → (from : ℕ) → from ≤ held → at ≤ length t
-      → FractionRead t at from (record { value = from; places = 0; end = at })
-  unfolding fractionOf afterFraction if_then_else_ numeralFrom
-  fraction-no ne from low l =
-      let q = ne-eqb (first (drop at t)) 46 ne in
-      record { value = rw q (omega arith); places = rw q; rest = rw q; within = l; short = omega arith }
+  pub with-point : first (drop (w .end) t) ≡ 46 → (d : Digits) → DigitsRead t (w .end + 1) (w .value) d
+      → MantissaRead t at (record { value = d .value; count = d .end - at - 1; places = d .end - w .end - 1; end = d .end })
+  unfolding fractionOf afterFraction if_then_else_
+  with-point e d k =
+      let more = ap rest (sym (h .rest)) ∙ rest-at t (w .end) in
+      let q : point (first (after digit (drop at t))) ≡ true = rw (sym (h .rest), e) in
+      let fraction = start digit (drop (w .end + 1) t) in
+      let is : fractionOf (after digit (drop at t)) ≡ fraction = rw (q, more) in
+      let behind : afterFraction (after digit (drop at t)) ≡ after digit (drop (w .end + 1) t) = rw (q, more) in
+      let all : mantissaOf (drop at t) ≡ whole ++ fraction = ap (λ (u : Text). whole ++ u) is in
+      let n = h .end in
+      let m = k .end in
+      let l = k .within in
+      let both = length-append whole fraction in
+      let count : d .end - at - 1 ≡ length (whole ++ fraction) = omega arith in
+      let places : d .end - w .end - 1 ≡ length fraction = omega arith in
+      record {
+        value =
+            k .value
+            ∙ ap (λ (v : ℕ). min held (numeralFrom v fraction)) (h .value)
+            ∙ held-before (numeral whole) fraction
+            ∙ ap (min held) (sym (numeral-append 0 whole fraction) ∙ ap numeral (sym all));
+        count = count ∙ ap length (sym all);
+        places = places ∙ ap length (sym is);
+        rest = k .rest ∙ sym behind;
+        within = l;
+        short = omega arith;
+      }
 
-  -- ---- the exponent
+-- ---- the exponent
 
+module _ (t : Text) (at : ℕ) where
   pub exponent-none : at ≤ length t → exponentOf (drop at t) ≡ [] → ExponentRead t at (record { lowers = false; size = 0; end = at })
   unfolding lowering afterExponent if_then_else_ numeralFrom
   exponent-none l e = record { lowers = rw e; size = rw e; rest = rw e; within = l }

@@ -7,6 +7,8 @@ use native.Mathlib.Omega.{arith}
 use native.Mathlib.Nat.{pow-suc, pow-le-pow-right, mul-le-mul-right}
 use lib.Dec.{T, leb, ltb, eqb}
 use lib.ListN.{length, getD, drop}
+use mir.Syntax.{w64}
+use mir.Val.{Fits}
 use mir.Facts.{and-yes}
 use borrow.Author.Tests.{le-leb, lt-leb, leb-true, leb-false, eqb-true, eqb-false}
 use Rattle.registers.specs.Text.{Text, if_then_else_, digit, every, start, after}
@@ -81,6 +83,25 @@ few-digits (d ∷ ds) t = go (eqb 48 d) refl (few-digits ds (both .1))
         let b = digit-bounds d (both .0) in
         let z : 0 * 10 + (d - 48) ≡ d - 48 = omega arith in
         rw z (few (d - 48) (omega arith) (omega arith))
+
+-- ---- one digit more, held
+
+module _ {n v : ℕ} where
+  pub next-below : n < held → v ≡ n → v ≡ min held n
+  next-below h e = omega arith
+
+  pub next-held : held ≤ n → v ≡ held → v ≡ min held n
+  next-held h e = omega arith
+
+module _ {n b : ℕ} (low : n ≤ held) (digit : (48 ≤ b) × (b ≤ 57)) where
+  pub tens-fit : Fits w64 (n * 10)
+  tens-fit = omega arith
+
+  pub digit-fits : Fits w64 (b - 48)
+  digit-fits = omega arith
+
+  pub next-fits : Fits w64 (n * 10 + (b - 48))
+  next-fits = omega arith
 
 -- ---- the loop over digits, by what is left to read
 

@@ -1,13 +1,13 @@
 -- Rounding over powers of ten, held at a bound: what the two loops keep, and what they leave.
 use mathlib.Core.Path.{_≡_, refl, ap, sym, _∙_}
-use mathlib.Core.Bool.{Bool, true, false}
+use mathlib.Core.Bool.{Bool, false, _&&_, and-true}
 use Prim.Native.Nat.{ℕ, suc, _+_, _-_, _*_, _/_, _%_, _^_, min, _≤_, _<_}
 use native.Mathlib.Numerals.{add-one}
 use native.Mathlib.Omega.{arith}
 use native.Mathlib.Nat.{pow-suc, mul-div-mul-left, mul-div-mul-right, div-div-eq-div-mul, add-mul-div-right, one-le-pow, mul-le-mul-right, mul-assoc}
-use lib.Dec.{leb}
+use lib.Dec.{ltb}
 use lib.Pow.{pow-add}
-use borrow.Author.Tests.{leb-true, leb-false}
+use borrow.Author.Tests.{ltb-false, lt-ltb}
 use Rattle.registers.specs.Rounding.{nearest}
 use Rattle.registers.specs.RoundingParts.{beyond}
 use Rattle.registers.proofs.rounding.Laws.{nearest-only}
@@ -20,24 +20,18 @@ ten-times i h = let e : i ≡ suc (i - 1) = omega arith in ap (λ (n : ℕ). 10 
 
 -- ---- raising
 
--- a size held before it is raised is the same held size
-pub beyond-mul : (y p : ℕ) → 0 < p → min beyond (min beyond y * p) ≡ min beyond (y * p)
-beyond-mul y p h = go (leb y beyond) refl
-  where
-    go : (e : Bool) → leb y beyond ≡ e → min beyond (min beyond y * p) ≡ min beyond (y * p)
-    go true q = let k = leb-true y beyond q in let z : min beyond y ≡ y = omega arith in rw z
-    go false q =
-        let k = leb-false y beyond q in
-        let z : min beyond y ≡ beyond = omega arith in
-        let over : beyond ≤ y = omega arith in
-        let m = mul-le-mul-right p over in
-        rw z (omega arith)
+pub raise-turn : (y i : ℕ) → 0 < i → y * 10 * 10 ^ (i - 1) ≡ y * 10 ^ i
+raise-turn y i h = rw (ten-times i h) (omega arith)
 
-pub raise-turn : (y i : ℕ) → 0 < i → min beyond (min beyond (y * 10) * 10 ^ (i - 1)) ≡ min beyond (y * 10 ^ i)
-raise-turn y i h = beyond-mul (y * 10) (10 ^ (i - 1)) (ten-positive (i - 1)) ∙ rw (ten-times i h) (omega arith)
+-- the loop ends at a power of 0 or at a size beyond every limit
+pub raise-end : (y i : ℕ) → ltb 0 i && ltb y beyond ≡ false → y < beyond → y ≡ min beyond (y * 10 ^ i)
+raise-end y i e h =
+    let k = ltb-false 0 i (sym (and-true (ltb 0 i)) ∙ ap (λ (b : Bool). ltb 0 i && b) (sym (lt-ltb y beyond h)) ∙ e) in
+    let z : i ≡ 0 = omega arith in
+    rw z (omega arith)
 
-pub raise-end : (y i : ℕ) → i ≤ 0 → y ≤ beyond → y ≡ min beyond (y * 10 ^ i)
-raise-end y i h k = let z : i ≡ 0 = omega arith in rw z (omega arith)
+pub raise-beyond : (y i : ℕ) → beyond ≤ y → beyond ≡ min beyond (y * 10 ^ i)
+raise-beyond y i h = let p = ten-positive i in let m = mul-le-mul-right (10 ^ i) h in omega arith
 
 -- ---- lowering
 

@@ -1,15 +1,17 @@
 -- The status record by cases: an error raised, the oldest removed, a condition reported, a register set, the status byte, and
 -- refusal 4.
 use mathlib.Core.Path.{_≡_, refl, sym}
-use mathlib.Core.Bool.{Bool, true, false, not}
+use mathlib.Core.Bool.{Bool, true, false, not, _&&_}
 use mathlib.Core.List.{List, [], _∷_, _++_}
-use Prim.Native.Nat.{ℕ, zero, suc, _+_, _-_, _^_, _≤_, _<_}
+use Prim.Native.Nat.{ℕ, zero, suc, _+_, _-_, _*_, _^_, _≤_, _<_}
 use native.Mathlib.Omega.{arith}
 use lib.Bits.{bitOr}
 use lib.Dec.{leb, eqb}
 use native.Mathlib.Numerals.{add-one}
-use lib.ListN.{length, take, drop, getD, set, replicate, length-take, length-drop}
-use lib.Seq.{set-at, take-suc, take-all, append-snoc}
+use lib.ListN.{length, take, drop, getD, set, replicate, length-take, length-drop, drop-of-length-le}
+use lib.Seq.{set-at, take-suc, take-all, append-snoc, getD-take}
+use mir.Syntax.{w8, w16, w64}
+use mir.Val.{Fits}
 use borrow.Author.Tests.{lt-ltb, le-ltb, le-leb, lt-leb, eq-eqb, ne-eqb}
 use Rattle.registers.specs.Text.{if_then_else_, first, empty, every}
 use Rattle.registers.specs.Errors.{eventBit, overflow, known}
@@ -17,9 +19,16 @@ use Rattle.registers.specs.Group.{conditionIs, widestGroup}
 use Rattle.registers.specs.Status.{registersOf, troubleOf, raisedIn, oldestReadIn, reportedIn, registerSet, storedIn, withTrouble, withRegisters, withOperation, most, widest, bitIf, meet, summary, statusByte, possibleRegisters, possibleTrouble, possibleStatus}
 use Rattle.registers.specs.declared.status.Register.{Register}
 use Rattle.registers.specs.declared.status.Status.{Status}
-use Rattle.registers.proofs.Tests.{and-fails}
+use Rattle.registers.proofs.Tests.{every-skip, every-miss}
 
 -- ---- an error raised, by the room in the queue
+
+module _ {n : ℕ} (h : n < most) where
+  pub place-fits : Fits w64 (n * 2)
+  place-fits = omega arith
+
+  pub behind-fits : Fits w64 (n + 1)
+  behind-fits = omega arith
 
 module _ (n : ℕ) (s : Status) where
   pub raised-more : s .queued < most
@@ -91,6 +100,22 @@ unfolding if_then_else_
 bit-is true k = refl
 bit-is false k = refl
 
+-- bits of which none has more than its weight: each sum of them fits its type
+module _ {a b : ℕ} (h : a ≤ 128) (k : b ≤ 32) where
+  pub two-fit : Fits w8 (a + b)
+  two-fit = omega arith
+
+  module _ {c : ℕ} (l : c ≤ 16) where
+    pub three-fit : Fits w8 (a + b + c)
+    three-fit = omega arith
+
+    module _ {d : ℕ} (m : d ≤ 4) where
+      pub four-fit : Fits w8 (a + b + c + d)
+      four-fit = omega arith
+
+      pub four-wide : Fits w16 (a + b + c + d)
+      four-wide = omega arith
+
 queue-empty : (l : List ℕ) (q : ℕ) → 0 < length l → empty (take q l) ≡ eqb q 0
 queue-empty [] q h = absurd (omega arith)
 queue-empty (x ∷ l) zero h = refl
@@ -117,23 +142,30 @@ module _ (s : Status) (answers : Bool) (long : length (s .errors) ≡ 16) where
 front-short : (l : List ℕ) (q : ℕ) → q ≤ most → leb (length (take q l)) most ≡ true
 front-short l q h = le-leb (length (take q l)) most (rw length-take (omega arith))
 
+-- the loop over the numbers that wait
+module _ (errors : List ℕ) (count i : ℕ) (long : length errors ≡ 16) (h : count ≤ 16) where
+  waiting : length (take count errors) ≡ count
+  waiting = rw length-take (omega arith)
+
+  module _ (k : i < count) where
+    within : i < length (take count errors)
+    within = let w = waiting in omega arith
+
+    pub known-one : known (getD errors i 0) ≡ true → every known (drop i (take count errors)) ≡ every known (drop (i + 1) (take count errors))
+    known-one e = every-skip known (take count errors) i within (rw (getD-take count errors i 0 k) e)
+
+    pub known-none : known (getD errors i 0) ≡ false → every known (drop i (take count errors)) ≡ false
+    known-none e = every-miss known (take count errors) i within (rw (getD-take count errors i 0 k) e)
+
+  pub known-all : count ≤ i → every known (drop i (take count errors)) ≡ true
+  known-all k = let w = waiting in let past : length (take count errors) ≤ i = omega arith in rw (drop-of-length-le (take count errors) past)
+
 module _ (s : Status) where
   pub queue-above : most < s .queued → false ≡ possibleStatus s
   unfolding possibleStatus
   queue-above h = rw (lt-leb (s .queued) most h)
 
-  module _ (h : s .queued ≤ most) where
-    pub register-above : possibleRegisters (registersOf s) ≡ false → false ≡ possibleStatus s
-    unfolding possibleStatus
-    register-above e = rw (le-leb (s .queued) most h, e)
-
-    pub events-above : 255 < s .events → false ≡ possibleStatus s
-    unfolding possibleStatus possibleTrouble
-    events-above e =
-        rw (le-leb (s .queued) most h, front-short (s .errors) (s .queued) h, lt-leb (s .events) 255 e)
-        (sym (and-fails (possibleRegisters (registersOf s)) false refl))
-
-    pub queue-decides : possibleRegisters (registersOf s) ≡ true → s .events ≤ 255
-        → every known (take (s .queued) (s .errors)) ≡ possibleStatus s
-    unfolding possibleStatus possibleTrouble
-    queue-decides e k = rw (le-leb (s .queued) most h, e, front-short (s .errors) (s .queued) h, le-leb (s .events) 255 k)
+  pub queue-within : s .queued ≤ most
+      → possibleRegisters (registersOf s) && (leb (s .events) 255 && every known (take (s .queued) (s .errors))) ≡ possibleStatus s
+  unfolding possibleStatus possibleTrouble
+  queue-within h = rw (le-leb (s .queued) most h, front-short (s .errors) (s .queued) h)

@@ -1,5 +1,6 @@
+use mathlib.Core.Path.{_∙_}
 use Rattle.registers.proofs.answer.Laws.{laid-one, laid-then}
-use Rattle.registers.proofs.answer.Decimals.{decimal-length}
+use Rattle.registers.proofs.answer.Decimals.{behind-fits, behind-low}
 use Rattle.registers.specs.Answer.{tenths}
 use Prim.Native.Nat.{_/_}
 use native.Mathlib.Omega.{arith}
@@ -15,17 +16,19 @@ put-requires c κs = tt
 add-decimal-at : tie.Need-add-decimal-at
 add-decimal-at c =
     let k = c .before .before .before .before .before .before .before in
-    let p = k .decimal-at .ensures .end in
-    omega (arith, decimal-length (k .before .before .before .args .n / 10))
+    let s = k .before .before .before in
+    behind-fits (s .args .n / 10) (k .decimal-at .ensures .end) (omega arith)
 
 decimal-at-requires-2 : tie.Need-decimal-at-requires-2
 decimal-at-requires-2 c κs =
     let k = c .before .before .before .before .before .before .before in
-    let p = k .decimal-at .ensures .end in
-    omega (arith, decimal-length (k .before .before .before .args .n / 10))
+    let s = k .before .before .before in
+    behind-low (s .args .n / 10) (k .decimal-at .ensures .end) (s .pre)
 
 same-length : tie.Need-same-length
-same-length c = omega arith
+same-length c =
+    let k = c .before .before .before .before .before .before in
+    c .before .before .decimal-at2 .kept .1 .0 ∙ k .put .kept .0 ∙ k .before .before .before .before .decimal-at .kept .1 .0
 
 returns : tie.Need-returns
 unfolding tenths

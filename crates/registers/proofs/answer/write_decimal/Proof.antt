@@ -7,7 +7,7 @@ decimal-at-requires : tie.Need-decimal-at-requires
 decimal-at-requires c κs = omega arith
 
 same-length : tie.Need-same-length
-same-length c = omega arith
+same-length c = c .before .before .decimal-at .kept .1 .0
 
 returns : tie.Need-returns
 returns c = laid-whole (c .before .before .decimal-at .ensures)

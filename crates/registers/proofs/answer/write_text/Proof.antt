@@ -7,7 +7,7 @@ text-at-requires : tie.Need-text-at-requires
 text-at-requires c κs = omega arith
 
 same-length : tie.Need-same-length
-same-length c = omega arith
+same-length c = c .before .before .text-at .kept .1 .0
 
 returns : tie.Need-returns
 returns c = laid-whole (c .before .before .text-at .ensures)

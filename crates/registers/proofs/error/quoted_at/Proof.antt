@@ -1,62 +1,70 @@
-use Rattle.registers.proofs.answer.Laws.{laid-one, laid-then}
-use Rattle.registers.proofs.error.Texts.{laid-found, message-length}
+use Prim.Native.Nat.{_+_, _*_}
+use Rattle.registers.proofs.error.Texts.{byte-wide, found-row, found-fits, text-fits, cell-fits, cell-within, end-fits, found-text, length-cell, text-room, text-long, text-part}
 use native.Mathlib.Omega.{arith}
-use borrow.Author.Needs.{needs}
 use Rattle.registers.proofs.error.quoted_at.Statement.{statement}
 use Rattle.registers.proofs.error.quoted_at.Tie as tie
 
-put-requires : tie.Need-put-requires
-put-requires c κs = tt
-
-add-quote : tie.Need-add-quote
-add-quote c = omega arith
-
-put-requires-2 : tie.Need-put-requires-2
-put-requires-2 c κs = tt
-
 row-of-requires : tie.Need-row-of-requires
-row-of-requires c κs = search needs
+row-of-requires c κs = c .before .before .pre .0
 
-add-message-at : tie.Need-add-message-at
-add-message-at c = omega arith
+mul-row : tie.Need-mul-row
+mul-row c = found-fits _ (c .row-of .ensures)
 
-message-at-requires : tie.Need-message-at-requires
-message-at-requires c κs = search needs
+add-start : tie.Need-add-start
+add-start c = text-fits _ (c .row-of .ensures)
 
-put-requires-3 : tie.Need-put-requires-3
-put-requires-3 c κs = tt
+add-end : tie.Need-add-end
+add-end c = cell-fits _ (c .row-of .ensures)
 
-add-result : tie.Need-add-result
-add-result c =
-    let m = c .before .before .before .before .before .before in
-    let s = m .before .before .before .before .before .before .before .before .before .before .before .before .before in
-    let text = laid-found (s .args .number) (m .before .before .row-of .ensures) (m .message-at .ensures) in
-    omega (arith, message-length (s .args .number), text .end, s .pre .1)
+shared-slice-read-end : tie.Need-shared-slice-read-end
+shared-slice-read-end c = cell-within _ (c .before .row-of .ensures) (c .before .before .before .before .pre .0)
+
+cast-end : tie.Need-cast-end
+cast-end c = byte-wide (c .shared-slice-known2 .given (c .before .row-of .result * 33 + 2))
+
+add-end-2 : tie.Need-add-end-2
+add-end-2 c = end-fits _ (c .before .row-of .ensures) (c .shared-slice-known2 .given (c .before .row-of .result * 33 + 2))
+
+sub-text-at : tie.Need-sub-text-at
+sub-text-at c = omega arith
+
+part-text-at-start : tie.Need-part-text-at-start
+part-text-at-start c = omega arith
+
+part-text-at-end : tie.Need-part-text-at-end
+part-text-at-end c =
+    let row = c .before .row-of .result in
+    let h = found-row _ (c .before .row-of .ensures) in
+    rw (c .before .before .before .before .pre .0, length-cell row h) (text-room row h)
+
+text-at-requires : tie.Need-text-at-requires
+text-at-requires c κs = c .before .before .before .before .before .before .pre .1
 
 same-length : tie.Need-same-length
-same-length c = omega arith
+same-length c = c .before .before .text-at .kept .1 .0
 
 returns : tie.Need-returns
 returns c =
-    let m = c .before .before .before .before .before .before in
-    let q = m .before .before .before .before .before in
-    let k = q .before .before .before .before in
-    let n = k .before .before .before .before .args .number in
-    let text = laid-found n (m .before .before .row-of .ensures) (m .message-at .ensures) in
-    laid-then (laid-one (k .put .ensures))
-    (laid-then (laid-one (q .put2 .ensures)) (laid-then text (laid-one (c .before .before .put3 .ensures))))
+    let o = c .before .before .before .before .before .before in
+    let row = o .row-of .result in
+    let h = found-row _ (o .row-of .ensures) in
+    let e = o .before .before .before .pre .0 in
+    rw (e, text-long row h, text-part row h, found-text _ (o .row-of .ensures)) at (c .before .before .text-at .ensures)
 
 pub quoted-at-spec : {M : Type 1} → statement M
 quoted-at-spec =
     tie.close
     (tie.spec
-    put-requires
-    add-quote
-    put-requires-2
     row-of-requires
-    add-message-at
-    message-at-requires
-    put-requires-3
-    add-result
+    mul-row
+    add-start
+    add-end
+    shared-slice-read-end
+    cast-end
+    add-end-2
+    sub-text-at
+    part-text-at-start
+    part-text-at-end
+    text-at-requires
     same-length
     returns)

@@ -1,9 +1,10 @@
-use mathlib.Core.Path.{_≡_, sym, _∙_}
-use Prim.Native.Nat.{_-_, _≤_}
+use mathlib.Core.Path.{_≡_, sym, ap, _∙_}
+use Prim.Native.Nat.{_+_, _*_, _-_, _≤_}
 use native.Mathlib.Nat.{zero-add}
+use lib.ListN.{length}
 use Rattle.registers.specs.Errors.{messages}
 use Rattle.registers.specs.ErrorParts.{rowIn}
-use Rattle.registers.proofs.error.Texts.{sought, search-hit, search-more, search-end}
+use Rattle.registers.proofs.error.Texts.{number-cells, high-within, low-within, byte-fits, high-fits, both-fit, sought, search-hit, search-more, search-end}
 use native.Mathlib.Omega.{arith}
 use Rattle.registers.proofs.error.row_of.Statement.{statement}
 use Rattle.registers.proofs.error.row_of.Tie as tie
@@ -17,15 +18,39 @@ abbrev μ-loop : tie.MeasureT-loop
 loop-holds : tie.Need-loop-holds Inv-loop μ-loop
 loop-holds c = (omega arith, sym (zero-add _))
 
-number-at-requires : tie.Need-number-at-requires Inv-loop μ-loop
-number-at-requires c κs = (c .before .before .before .pre, c .loop-test .taken)
+mul-at : tie.Need-mul-at Inv-loop μ-loop
+mul-at c = omega arith
+
+shared-slice-read-if1 : tie.Need-shared-slice-read-if1 Inv-loop μ-loop
+shared-slice-read-if1 c = let o = c .before .before in high-within (o .loop .row) (c .before .loop-test .taken) (o .before .pre)
+
+cast-if1 : tie.Need-cast-if1 Inv-loop μ-loop
+cast-if1 c = byte-fits (c .shared-slice-known .given (c .before .before .loop .row * 33))
+
+mul-if1 : tie.Need-mul-if1 Inv-loop μ-loop
+mul-if1 c = high-fits (c .shared-slice-known .given (c .before .before .loop .row * 33))
+
+add-if1 : tie.Need-add-if1 Inv-loop μ-loop
+add-if1 c = omega arith
+
+shared-slice-read-if1-2 : tie.Need-shared-slice-read-if1-2 Inv-loop μ-loop
+shared-slice-read-if1-2 c = let o = c .before .before .before in low-within (o .loop .row) (c .before .before .loop-test .taken) (o .before .pre)
+
+cast-if1-2 : tie.Need-cast-if1-2 Inv-loop μ-loop
+cast-if1-2 c = byte-fits (c .shared-slice-known2 .given (c .before .before .before .loop .row * 33 + 1))
+
+add-if1-2 : tie.Need-add-if1-2 Inv-loop μ-loop
+add-if1-2 c =
+    let at = c .before .before .before .loop .row * 33 in
+    both-fit (c .shared-slice-known2 .given at) (c .shared-slice-known2 .given (at + 1))
 
 returns : tie.Need-returns Inv-loop μ-loop
 returns c =
-    let o = c .before .before .before in
-    let n = o .before .before .args .number in
-    let e = sym (c .before .number-at .ensures) ∙ c .if1 .taken in
-    sym (o .loop .inv .1 ∙ search-hit n (o .loop .row) (c .before .before .loop-test .taken) e)
+    let o = c .before .before .before .before in
+    let row = o .loop .row in
+    let n = o .before .args .number in
+    let e = sym (number-cells row (omega arith) (o .before .pre)) ∙ c .if1 .taken in
+    sym (o .loop .inv .1 ∙ search-hit n row (omega arith) e)
 
 add-row : tie.Need-add-row Inv-loop μ-loop
 add-row c = omega arith
@@ -35,16 +60,16 @@ loop-less c = omega arith
 
 loop-again : tie.Need-loop-again Inv-loop μ-loop
 loop-again c =
-    let o = c .before .before .before in
-    let n = o .before .before .args .number in
-    let h = c .before .before .loop-test .taken in
-    let found = c .before .number-at .ensures in
-    (omega arith, o .loop .inv .1 ∙ search-more n (o .loop .row) h (λ e. c .if1 .left (found ∙ e)))
+    let o = c .before .before .before .before in
+    let row = o .loop .row in
+    let n = o .before .args .number in
+    let found = number-cells row (omega arith) (o .before .pre) in
+    (omega arith, o .loop .inv .1 ∙ search-more n row (omega arith) (λ e. c .if1 .left (found ∙ e)))
 
 returns-2 : tie.Need-returns-2 Inv-loop μ-loop
 returns-2 c =
     let o = c .before in
-    sym (o .loop .inv .1 ∙ search-end (o .before .before .args .number) (o .loop .row) (c .loop-test .left) (o .loop .inv .0))
+    sym (o .loop .inv .1 ∙ search-end (o .before .args .number) (o .loop .row) (c .loop-test .left) (o .loop .inv .0))
 
 pub row-of-spec : {M : Type 1} → statement M
 row-of-spec =
@@ -53,7 +78,14 @@ row-of-spec =
     Inv-loop
     μ-loop
     loop-holds
-    number-at-requires
+    mul-at
+    shared-slice-read-if1
+    cast-if1
+    mul-if1
+    add-if1
+    shared-slice-read-if1-2
+    cast-if1-2
+    add-if1-2
     returns
     add-row
     loop-less

@@ -1,4 +1,4 @@
-use mathlib.Core.Path.{refl}
+use mathlib.Core.Path.{refl, _∙_}
 use lib.IntN.{pos, negℤ}
 use Rattle.registers.specs.Answer.{decimal}
 use Rattle.registers.specs.Errors.{messages}
@@ -31,7 +31,8 @@ quoted-at-requires c κs =
     (refl, omega (arith, signed-length decimal 20 decimal-length (negℤ (pos n)), e))
 
 same-length : tie.Need-same-length
-same-length c = omega arith
+same-length c =
+    c .before .before .quoted-at .kept .1 .1 .0 ∙ c .before .before .before .before .before .before .before .write-whole .kept .1 .0
 
 returns : tie.Need-returns
 returns c =

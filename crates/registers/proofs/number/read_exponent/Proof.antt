@@ -1,10 +1,13 @@
 use mathlib.Core.Path.{_≡_, sym, ap, _∙_}
 use native.Mathlib.Omega.{arith}
 use lib.Dec.{eqb}
-use lib.ListN.{drop}
+use Prim.Native.Nat.{_+_, _≤_}
+use lib.ListN.{length, drop}
+use mir.Val.{boolByte}
 use borrow.Author.Tests.{eq-eqb}
 use Rattle.registers.specs.Text.{first, capital}
-use Rattle.registers.proofs.number.Laws.{exponent-none, exponent-no, exponent-bare, exponent-some, zero-capital}
+use Rattle.registers.specs.Number.{sign, afterSign}
+use Rattle.registers.proofs.number.Laws.{sign-end, exponent-none, exponent-no, exponent-bare, exponent-some, zero-capital}
 use Rattle.registers.proofs.text.Laws.{first-within}
 use Rattle.registers.proofs.number.read_exponent.Statement.{statement}
 use Rattle.registers.proofs.number.read_exponent.Tie as tie
@@ -30,37 +33,44 @@ add-byte-at c = omega arith
 byte-at-requires-2 : tie.Need-byte-at-requires-2
 byte-at-requires-2 c κs = tt
 
-add-sign-end : tie.Need-add-sign-end
-add-sign-end c = omega arith
-
-sign-end-requires : tie.Need-sign-end-requires
-sign-end-requires c κs =
+-- where the digits begin
+start-is : (c : tie.After-byte-at2)
+    → let a = c .before .before .before .before .before .args in
+    let s = a .at + 1 + boolByte (sign (c .byte-at2 .result)) in
+    (drop s (a .text .now) ≡ afterSign (drop (a .at + 1) (a .text .now))) × (s ≤ length (a .text .now))
+start-is c =
     let a = c .before .before .before .before .before .args in
-    let e = letter-e (c .before) in
-    let is = eq-eqb (capital (first (drop (a .at) (a .text .now)))) 69 e in
+    let is = eq-eqb (capital (first (drop (a .at) (a .text .now)))) 69 (letter-e (c .before)) in
     let l = first-within (λ b. eqb (capital b) 69) (a .text .now) (a .at) zero-capital is in
-    omega arith
+    sign-end (a .text .now) (a .at + 1) (c .byte-at2 .result) (c .byte-at2 .ensures) (omega arith)
+
+add-s : tie.Need-add-s
+add-s c = omega arith
+
+cast-s : tie.Need-cast-s
+cast-s c = tt
+
+add-s-2 : tie.Need-add-s-2
+add-s-2 c = omega (arith, start-is c .1)
 
 read-digits-requires : tie.Need-read-digits-requires
-read-digits-requires c κs = omega arith
+read-digits-requires c κs = (start-is c .1, omega arith)
 
 returns-2 : tie.Need-returns-2
 returns-2 c =
-    let a = c .before .before .before .before .before .before .before .before .before .args in
-    let e = letter-e (c .before .before .before .before .before) in
-    let s = c .before .before .before .sign-end in
+    let b = c .before .before .before in
+    let a = b .before .before .before .before .before .args in
     let d = c .before .before .read-digits in
     exponent-none (a .text .now) (a .at) (omega arith)
-    (exponent-bare (a .text .now) (a .at) e (s .result) (s .ensures .0) (d .result) (d .ensures) (c .if2 .taken))
+    (exponent-bare (a .text .now) (a .at) (letter-e (b .before)) _ (start-is b .0) (d .result) (d .ensures) (c .if2 .taken))
 
 returns-3 : tie.Need-returns-3
 returns-3 c =
-    let a = c .before .before .before .before .before .before .before .before .before .args in
-    let e = letter-e (c .before .before .before .before .before) in
-    let b = c .before .before .before .before .byte-at2 in
-    let s = c .before .before .before .sign-end in
+    let b = c .before .before .before in
+    let a = b .before .before .before .before .before .args in
     let d = c .before .before .read-digits in
-    exponent-some (a .text .now) (a .at) e (s .result) (s .ensures .0) (d .result) (d .ensures) (c .if2 .left) (b .result) (b .ensures)
+    let some = exponent-some (a .text .now) (a .at) (letter-e (b .before)) _ (start-is b .0) (d .result) (d .ensures) in
+    some (c .if2 .left) (b .byte-at2 .result) (b .byte-at2 .ensures)
 
 pub read-exponent-spec : {M : Type 1} → statement M
 read-exponent-spec =
@@ -71,8 +81,9 @@ read-exponent-spec =
     returns
     add-byte-at
     byte-at-requires-2
-    add-sign-end
-    sign-end-requires
+    add-s
+    cast-s
+    add-s-2
     read-digits-requires
     returns-2
     returns-3)

@@ -1,5 +1,5 @@
-use mathlib.Core.Path.{sym, ap, _∙_}
-use Prim.Native.Nat.{min}
+use mathlib.Core.Path.{_≡_, sym, ap, _∙_}
+use Prim.Native.Nat.{_*_, _^_, min}
 use native.Mathlib.Omega.{arith}
 use Rattle.registers.specs.RoundingParts.{beyond}
 use Rattle.registers.proofs.rounding.Tens.{nearest-up, nearest-down}
@@ -23,13 +23,15 @@ sub-lowered-2 c = omega arith
 lowered-requires : tie.Need-lowered-requires
 lowered-requires c κs = tt
 
-hold-requires : tie.Need-hold-requires
-hold-requires c κs = tt
+raised-requires-2 : tie.Need-raised-requires-2
+raised-requires-2 c κs = tt
 
 returns-2 : tie.Need-returns-2
 returns-2 c =
     let a = c .before .before .before .args in
-    c .hold .ensures ∙ ap (min beyond) (c .before .lowered .ensures ∙ nearest-down (a .x) (a .up) (a .down) (omega arith))
+    let l = c .before .lowered in
+    let same : l .result * 10 ^ 0 ≡ l .result = omega arith in
+    c .raised2 .ensures ∙ ap (min beyond) (same ∙ l .ensures ∙ nearest-down (a .x) (a .up) (a .down) (omega arith))
 
 pub size-of-spec : {M : Type 1} → statement M
 size-of-spec =
@@ -40,5 +42,5 @@ size-of-spec =
     sub-lowered
     sub-lowered-2
     lowered-requires
-    hold-requires
+    raised-requires-2
     returns-2)

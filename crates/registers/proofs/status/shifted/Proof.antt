@@ -2,9 +2,8 @@ use mathlib.Core.Path.{_≡_, refl, _∙_}
 use mathlib.Core.List.{_++_}
 use Prim.Native.Nat.{_≤_, _-_}
 use native.Mathlib.Omega.{arith}
-use lib.ListN.{replicate, length, take, drop}
+use lib.ListN.{replicate, take, drop}
 use Rattle.registers.proofs.status.Laws.{shift-turn, shift-end}
-use borrow.Author.Needs.{needs}
 use Rattle.registers.proofs.status.shifted.Statement.{statement}
 use Rattle.registers.proofs.status.shifted.Tie as tie
 
@@ -15,7 +14,7 @@ abbrev μ-loop : tie.MeasureT-loop
 μ-loop errors next₀ i₀ next i = 15 - i
 
 loop-holds : tie.Need-loop-holds Inv-loop μ-loop
-loop-holds c = (search needs, refl)
+loop-holds c = (omega arith, refl)
 
 add-next : tie.Need-add-next Inv-loop μ-loop
 add-next c = omega arith
@@ -40,16 +39,14 @@ loop-less c = omega arith
 
 loop-again : tie.Need-loop-again Inv-loop μ-loop
 loop-again c =
-    let e = c .before .before .args .t1 in
+    let o = c .before .before in
     let i = c .before .loop .i in
-    let long : length e ≡ 16 = search needs in
-    (search needs, rw (c .before .loop .inv .1) (shift-turn e i long (omega arith)))
+    (omega arith, rw (c .before .loop .inv .1) (shift-turn (o .args .t1) i (o .good .0 .1 .0 .1) (omega arith)))
 
 returns : tie.Need-returns Inv-loop μ-loop
 returns c =
-    let e = c .before .before .args .t1 in
-    let long : length e ≡ 16 = search needs in
-    c .before .loop .inv .1 ∙ shift-end e (c .before .loop .i) long (omega arith)
+    let o = c .before .before in
+    c .before .loop .inv .1 ∙ shift-end (o .args .t1) (c .before .loop .i) (o .good .0 .1 .0 .1) (omega arith)
 
 pub shifted-spec : {M : Type 1} → statement M
 shifted-spec =

@@ -1,57 +1,56 @@
-use native.Mathlib.Omega.{arith}
 use Rattle.registers.proofs.error.Error.number.Statement.{statement}
 use Rattle.registers.proofs.error.Error.number.Tie as tie
 
 enum-told : tie.Need-enum-told
-enum-told c = omega arith
+enum-told c = c .match .keys1
 
 enum-told-2 : tie.Need-enum-told-2
-enum-told-2 c = omega arith
+enum-told-2 c = c .match .keys2
 
 enum-told-3 : tie.Need-enum-told-3
-enum-told-3 c = omega arith
+enum-told-3 c = c .match .keys3
 
 enum-told-4 : tie.Need-enum-told-4
-enum-told-4 c = omega arith
+enum-told-4 c = c .match .keys4
 
 enum-told-5 : tie.Need-enum-told-5
-enum-told-5 c = omega arith
+enum-told-5 c = c .match .keys5
 
 enum-told-6 : tie.Need-enum-told-6
-enum-told-6 c = omega arith
+enum-told-6 c = c .match .keys6
 
 enum-told-7 : tie.Need-enum-told-7
-enum-told-7 c = omega arith
+enum-told-7 c = c .match .keys7
 
 enum-told-8 : tie.Need-enum-told-8
-enum-told-8 c = omega arith
+enum-told-8 c = c .match .keys8
 
 enum-told-9 : tie.Need-enum-told-9
-enum-told-9 c = omega arith
+enum-told-9 c = c .match .keys9
 
 enum-told-10 : tie.Need-enum-told-10
-enum-told-10 c = omega arith
+enum-told-10 c = c .match .keys10
 
 enum-told-11 : tie.Need-enum-told-11
-enum-told-11 c = omega arith
+enum-told-11 c = c .match .keys11
 
 enum-told-12 : tie.Need-enum-told-12
-enum-told-12 c = omega arith
+enum-told-12 c = c .match .keys12
 
 enum-told-13 : tie.Need-enum-told-13
-enum-told-13 c = omega arith
+enum-told-13 c = c .match .keys13
 
 enum-told-14 : tie.Need-enum-told-14
-enum-told-14 c = omega arith
+enum-told-14 c = c .match .keys14
 
 enum-told-15 : tie.Need-enum-told-15
-enum-told-15 c = omega arith
+enum-told-15 c = c .match .keys15
 
 enum-told-16 : tie.Need-enum-told-16
-enum-told-16 c = omega arith
+enum-told-16 c = c .match .keys16
 
 enum-told-17 : tie.Need-enum-told-17
-enum-told-17 c = omega arith
+enum-told-17 c = c .match .keys17
 
 returns : tie.Need-returns
 returns c = rw (c .enum-told .given .1)

@@ -1,20 +1,35 @@
 use native.Mathlib.Omega.{arith}
-use mathlib.Core.Path.{_∙_}
+use borrow.Author.Tests.{ne-eqb}
+use Rattle.registers.specs.Text.{if_then_else_}
+use Rattle.registers.specs.SettingsParts.{valuesFrom}
 use Rattle.registers.proofs.settings.Laws.{kind-at, behind-is}
 use Rattle.registers.proofs.settings.Settings.values_of.Statement.{statement}
 use Rattle.registers.proofs.settings.Settings.values_of.Tie as tie
 
-array-read-values-from : tie.Need-array-read-values-from
-array-read-values-from c = omega arith
-
-values-from-requires : tie.Need-values-from-requires
-values-from-requires c κs = tt
-
 returns : tie.Need-returns
-returns c = c .values-from .ensures ∙ kind-at (c .before .before .args .row)
+returns c = rw (behind-is (c .before .args .row) (c .if1 .taken))
+
+array-read-kind : tie.Need-array-read-kind
+array-read-kind c = omega arith
 
 returns-2 : tie.Need-returns-2
-returns-2 c = rw (behind-is (c .before .args .row) (c .if1 .left))
+unfolding valuesFrom if_then_else_
+returns-2 c = rw (c .match .keys1) at (kind-at (c .before .before .args .row))
+
+returns-3 : tie.Need-returns-3
+unfolding valuesFrom if_then_else_
+returns-3 c = rw (c .match .keys2) at (kind-at (c .before .before .args .row))
+
+returns-4 : tie.Need-returns-4
+unfolding valuesFrom if_then_else_
+returns-4 c = rw (c .match .keys3) at (kind-at (c .before .before .args .row))
+
+returns-5 : tie.Need-returns-5
+unfolding valuesFrom if_then_else_
+returns-5 c =
+    let r = c .match .rest in
+    rw (ne-eqb _ 0 (r .0 .0 .1), ne-eqb _ 1 (r .0 .1), ne-eqb _ 2 (r .1)) at (kind-at (c .before .before .args .row))
 
 pub values-of-spec : {M : Type 1} → statement M
-values-of-spec = tie.close (tie.spec array-read-values-from values-from-requires returns returns-2)
+values-of-spec =
+    tie.close (tie.spec returns array-read-kind returns-2 returns-3 returns-4 returns-5)

@@ -1,6 +1,6 @@
-use native.Mathlib.Omega.{arith}
+use lib.Dec.{lit<}
 use mathlib.Core.Path.{sym}
-use Rattle.registers.proofs.status.Laws.{raised-more, raised-full}
+use Rattle.registers.proofs.status.Laws.{place-fits, behind-fits, raised-more, raised-full}
 use Rattle.registers.proofs.status.Status.raise.Statement.{statement}
 use Rattle.registers.proofs.status.Status.raise.Tie as tie
 
@@ -11,16 +11,16 @@ event-bit-requires : tie.Need-event-bit-requires
 event-bit-requires c κs = tt
 
 mul-self : tie.Need-mul-self
-mul-self c = omega arith
+mul-self c = place-fits (c .if1 .taken)
 
 element-write-self : tie.Need-element-write-self
-element-write-self c = omega arith
+element-write-self c = c .if1 .taken
 
 add-self : tie.Need-add-self
-add-self c = omega arith
+add-self c = behind-fits (c .if1 .taken)
 
 element-write-self-2 : tie.Need-element-write-self-2
-element-write-self-2 c = omega arith
+element-write-self-2 c = lit< tt
 
 event-bit-requires-2 : tie.Need-event-bit-requires-2
 event-bit-requires-2 c κs = tt

@@ -1,22 +1,21 @@
-use native.Mathlib.Omega.{arith}
 use Rattle.registers.specs.Status.{registerIn}
 use Rattle.registers.proofs.status.Status.register.Statement.{statement}
 use Rattle.registers.proofs.status.Status.register.Tie as tie
 
 enum-told : tie.Need-enum-told
-enum-told c = omega arith
+enum-told c = c .match .keys1
 
 enum-told-2 : tie.Need-enum-told-2
-enum-told-2 c = omega arith
+enum-told-2 c = c .match .keys2
 
 enum-told-3 : tie.Need-enum-told-3
-enum-told-3 c = omega arith
+enum-told-3 c = c .match .keys3
 
 enum-told-4 : tie.Need-enum-told-4
-enum-told-4 c = omega arith
+enum-told-4 c = c .match .keys4
 
 enum-told-5 : tie.Need-enum-told-5
-enum-told-5 c = omega arith
+enum-told-5 c = c .match .keys5
 
 returns : tie.Need-returns
 unfolding registerIn

@@ -1,8 +1,8 @@
-use native.Mathlib.Omega.{arith}
+use lib.Bits.{and-le-l}
 use Prim.Native.Nat.{_≤_, _<_}
 use Rattle.registers.proofs.status.Laws.{set-yes, set-no}
 use mathlib.Core.Path.{sym, _∙_}
-use Rattle.registers.specs.Status.{storedIn, widest}
+use Rattle.registers.specs.Status.{storedIn, withoutBit6, widest}
 use Rattle.registers.proofs.status.Status.store.Statement.{statement}
 use Rattle.registers.proofs.status.Status.store.Tie as tie
 
@@ -16,22 +16,22 @@ returns c =
     sym (set-no (a .self) (a .value) (a .register) h)
 
 enum-told : tie.Need-enum-told
-enum-told c = omega arith
+enum-told c = c .match .keys1
 
 enum-told-2 : tie.Need-enum-told-2
-enum-told-2 c = omega arith
+enum-told-2 c = c .match .keys2
 
-without-bit6-requires : tie.Need-without-bit6-requires
-without-bit6-requires c κs = tt
+sub-self : tie.Need-sub-self
+sub-self c = and-le-l (c .before .before .before .before .args .value) _
 
 enum-told-3 : tie.Need-enum-told-3
-enum-told-3 c = omega arith
+enum-told-3 c = c .match .keys3
 
 enum-told-4 : tie.Need-enum-told-4
-enum-told-4 c = omega arith
+enum-told-4 c = c .match .keys4
 
 enum-told-5 : tie.Need-enum-told-5
-enum-told-5 c = omega arith
+enum-told-5 c = c .match .keys5
 
 returns-2 : tie.Need-returns-2
 unfolding storedIn
@@ -41,11 +41,11 @@ returns-2 c =
     (sym (set-yes (a .self) (a .value) (a .register) h ∙ rw (c .enum-told .given .1)))
 
 returns-3 : tie.Need-returns-3
-unfolding storedIn
+unfolding storedIn withoutBit6
 returns-3 c =
-    let a = c .before .before .before .before .before .args in
-    let h : a .value ≤ widest (a .register) = rw (c .before .before .before .before .widest .ensures) at (c .before .before .before .if1 .left) in
-    rw (c .without-bit6 .ensures) (sym (set-yes (a .self) (a .value) (a .register) h ∙ rw (c .before .enum-told2 .given .1)))
+    let a = c .before .before .before .before .args in
+    let h : a .value ≤ widest (a .register) = rw (c .before .before .before .widest .ensures) at (c .before .before .if1 .left) in
+    (sym (set-yes (a .self) (a .value) (a .register) h ∙ rw (c .enum-told2 .given .1)))
 
 returns-4 : tie.Need-returns-4
 unfolding storedIn
@@ -76,7 +76,7 @@ store-spec =
     returns
     enum-told
     enum-told-2
-    without-bit6-requires
+    sub-self
     enum-told-3
     enum-told-4
     enum-told-5
