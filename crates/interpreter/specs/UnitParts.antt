@@ -21,8 +21,8 @@ use Rattle.interpreter.specs.declared.deed.Change.the-variants.{Nothing,
 use Rattle.interpreter.specs.declared.deed.Query.{Query}
 use Rattle.interpreter.specs.declared.deed.Query.the-variants.{Identity, SelfTest, Completed, Limit, Value, Stored, Condition, OperationEvents}
 use Rattle.interpreter.specs.declared.deed.Role.{Role}
-use Rattle.interpreter.specs.declared.unit.Reading.{Reading}
-use Rattle.interpreter.specs.declared.unit.Reading.the-variants.{Refused, Obey}
+use Rattle.interpreter.specs.declared.parameter.Decision.{Decision}
+use Rattle.interpreter.specs.declared.parameter.Decision.the-variants.{Refused, Obey}
 
 -- the role of the row that a search found: 33 is none
 unfoldable pub roleFound : ℕ → Checked Role
@@ -37,10 +37,10 @@ decided s row asked t =
     check 109 (leb (least r asked) (length (parameters t))) >>
     deedOf s r asked (parameters t)
 
--- a unit is refused by an error's number, or leaves its deed and a path in the buffer
-abbrev pub UnitRead : Settings → Text → Text → Reading → Text → Type 0
-UnitRead s path u (Refused e) buffer = readUnit s (named path) u ≡ refused (numberOf e)
-UnitRead s path u (Obey d used) buffer =
+-- a unit is refused by an error's number, or leaves its deed and a path that takes so much of the buffer
+abbrev pub UnitRead : Settings → Text → Text → Decision → ℕ → Text → Type 0
+UnitRead s path u (Refused e) used buffer = readUnit s (named path) u ≡ refused (numberOf e)
+UnitRead s path u (Obey d) used buffer =
     (readUnit s (named path) u ≡ passed (record { deed = d; path = named (take used buffer) }))
     × (closed (take used buffer) ≡ true)
     × (used ≤ length path + length u)

@@ -105,12 +105,7 @@ fn path_end(text: &[u8]) -> usize
 
 // A header's row, and the path that it leaves in the path's buffer: its names are entered behind the path, or at the
 // root, where the search reads them.
-pub(crate) fn look_up(
-    table: &[u8],
-    path: &mut [u8],
-    used: usize,
-    header: &[u8],
-) -> Looked
+pub(crate) fn look_up(table: &[u8], path: &mut [u8], used: usize, header: &[u8]) -> Looked
     requires { ⌜ now table ≡ commandTable ⌝ }
     requires { ⌜ (used + length (now header) ≤ length (now path)) × (closed (take used (now path)) ≡ true) ⌝ }
     ensures { λ r. ⌜ LookedUp (take used (now (path .entry))) (now (header .entry)) r (now (path .exit)) ⌝ }

@@ -1,10 +1,10 @@
 // A line: its units left to right, and its end.
+use crate::parameter::Decision;
 use crate::perform;
 use crate::perform::Done;
 use crate::perform::Present;
 use crate::state::LINE;
 use crate::unit;
-use crate::unit::Reading;
 use registers::error::Error;
 use registers::text;
 ghost use mathlib.Core.Path.{_≡_};
@@ -50,12 +50,13 @@ fn run_unit(
     ensures { λ r. ⌜ UnitRan done (take (done .used) (now (path .entry))) (now (unit .entry)) (now (out .entry)) r (now (path .exit)) (now (out .exit)) ⌝ }
 {
     let reading = unit::read(table, done.present.settings, path, done.used, unit);
-    match reading {
-        Reading::Refused(error) => {
+    let decision = reading.decision;
+    match decision {
+        Decision::Refused(error) => {
             return refuse(done, error);
         }
-        Reading::Obey { deed, used } => {
-            done.used = used;
+        Decision::Obey(deed) => {
+            done.used = reading.used;
             return perform::perform(table, done, deed, out);
         }
     }

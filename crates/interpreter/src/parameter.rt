@@ -261,7 +261,12 @@ pub(crate) fn decide_setting(
 }
 
 // Checks 5 to 7 on a register, which takes no words.
-pub(crate) fn decide_register(table: &[u8], register: Register, asked: bool, text: &[u8]) -> Decision
+pub(crate) fn decide_register(
+    table: &[u8],
+    register: Register,
+    asked: bool,
+    text: &[u8],
+) -> Decision
     requires { ⌜ now table ≡ commandTable ⌝ }
     ensures { λ r. ⌜ meantDeed r ≡ registerTo register asked (now (text .entry)) ⌝ }
 {

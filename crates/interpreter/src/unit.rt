@@ -1,6 +1,5 @@
 // Checks 1 to 8 on one unit, a part of the line where it stands.
 use crate::deed;
-use crate::deed::Deed;
 use crate::deed::Role;
 use crate::header;
 use crate::header::Looked;
@@ -23,11 +22,10 @@ ghost use Rattle.interpreter.specs.HeaderParts.{closed};
 ghost use Rattle.interpreter.specs.ParameterParts.{meantDeed};
 ghost use Rattle.interpreter.specs.UnitParts.{decided, UnitRead};
 
-// What checks 1 to 8 say of a unit: the error that refuses it, or its deed and how much of the
-// path's buffer the path takes that it leaves.
-pub(crate) enum Reading {
-    Refused(Error),
-    Obey { deed: Deed, used: usize },
+// What checks 1 to 8 say of a unit, and how much of the path's buffer the path takes that it leaves.
+pub(crate) struct Reading {
+    pub(crate) decision: Decision,
+    pub(crate) used: usize,
 }
 
 // Check 1. All bytes are looked at, without a branch: a unit is short and mostly good.
@@ -117,26 +115,33 @@ pub(crate) fn read(
 ) -> Reading
     requires { ⌜ now table ≡ commandTable ⌝ }
     requires { ⌜ (used + length (now unit) ≤ mostLine) × (closed (take used (now path)) ≡ true) ⌝ }
-    ensures { λ r. ⌜ UnitRead settings (take used (now (path .entry))) (now (unit .entry)) r (now (path .exit)) ⌝ }
+    ensures { λ r. ⌜ UnitRead settings (take used (now (path .entry))) (now (unit .entry)) (r .decision) (r .used) (now (path .exit)) ⌝ }
 {
     if !all_allowed(unit) {
-        return Reading::Refused(Error::InvalidCharacter);
+        return Reading {
+            decision: Decision::Refused(Error::InvalidCharacter),
+            used,
+        };
     }
     let start = text::white_end(unit, 0);
     let end = text::dark_end(unit, start);
     let looked = header::look_up(table, path, used, &unit[start..end]);
     match looked {
-        Looked::Bad => Reading::Refused(Error::Syntax),
+        Looked::Bad => {
+            return Reading {
+                decision: Decision::Refused(Error::Syntax),
+                used,
+            };
+        }
         Looked::At {
             row,
             used: left,
             asked,
         } => {
-            let decision = decide_behind(table, settings, row, asked, unit, end);
-            match decision {
-                Decision::Refused(e) => Reading::Refused(e),
-                Decision::Obey(deed) => Reading::Obey { deed, used: left },
-            }
+            return Reading {
+                decision: decide_behind(table, settings, row, asked, unit, end),
+                used: left,
+            };
         }
     }
 }

@@ -21,8 +21,8 @@ use Rattle.interpreter.specs.UnitParts.{UnitRead, Allowed}
 use Rattle.interpreter.specs.LineParts.{boxAt, RefusedWith, UnitRan}
 use Rattle.interpreter.specs.declared.deed.Deed.{Deed}
 use Rattle.interpreter.specs.declared.perform.Present.{Present}
-use Rattle.interpreter.specs.declared.unit.Reading.{Reading}
-use Rattle.interpreter.specs.declared.unit.Reading.the-variants.{Refused, Obey}
+use Rattle.interpreter.specs.declared.parameter.Decision.{Decision}
+use Rattle.interpreter.specs.declared.parameter.Decision.the-variants.{Refused, Obey}
 use Rattle.interpreter.specs.declared.perform.Done.{Done}
 use Rattle.interpreter.proofs.unit.Allowed.{read-allowed}
 
@@ -65,10 +65,10 @@ module _ (path : List Text) (b : Box) (u : Text) where
 
 -- ---- a unit that was read, and then refused or performed
 
-module _ (d : Done) (path unit paths : Text) (res : Reading) (read : UnitRead (d .present .settings) path unit res paths) where
-  pub unit-allowed : (e : Deed) (used : ℕ) → res ≡ Obey e used → Allowed (d .present .settings) e
-  unit-allowed e used q =
-      let f = subst (λ (r : Reading). UnitRead (d .present .settings) path unit r paths) q read in
+module _ (d : Done) (path unit paths : Text) (res : Decision) (used : ℕ) (read : UnitRead (d .present .settings) path unit res used paths) where
+  pub unit-allowed : (e : Deed) → res ≡ Obey e → Allowed (d .present .settings) e
+  unit-allowed e q =
+      let f = subst (λ (r : Decision). UnitRead (d .present .settings) path unit r used paths) q read in
       read-allowed (d .present .settings) (named path) unit (f .0)
 
   module _ (out : Text) where
@@ -78,7 +78,7 @@ module _ (d : Done) (path unit paths : Text) (res : Reading) (read : UnitRead (d
     pub unit-refused : (e : Error) → res ≡ Refused e → (r : Done) → RefusedWith e d r
         → d .present .status .queued ≤ 16 → d .answered < mostAnswer → UnitRan d path unit out r paths out
     unit-refused e q r w short room =
-        let f = subst (λ (r : Reading). UnitRead (d .present .settings) path unit r paths) q read in
+        let f = subst (λ (r : Decision). UnitRead (d .present .settings) path unit r used paths) q read in
         let less = w .room in
         record {
           queued = w .queued short;
@@ -87,11 +87,11 @@ module _ (d : Done) (path unit paths : Text) (res : Reading) (read : UnitRead (d
           stops = λ _. (numberOf e, attempt-read (named path) b unit (numberOf e) f, w .box out);
         }
 
-    pub unit-obeyed : (e : Deed) (used : ℕ) → res ≡ Obey e used → (r : Done) (left : Text)
+    pub unit-obeyed : (e : Deed) → res ≡ Obey e → (r : Done) (left : Text)
         → PerformedIn e (record { present = d .present; answered = d .answered; used = used; obeyed = d .obeyed }) out r left
         → UnitRan d path unit out r paths left
-    unit-obeyed e used q r left w =
-        let f = subst (λ (r : Reading). UnitRead (d .present .settings) path unit r paths) q read in
+    unit-obeyed e q r left w =
+        let f = subst (λ (r : Decision). UnitRead (d .present .settings) path unit r used paths) q read in
         record {
           queued = w .queued;
           room = w .room;

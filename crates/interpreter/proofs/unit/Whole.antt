@@ -24,8 +24,6 @@ use Rattle.interpreter.specs.declared.header.Looked.{Looked}
 use Rattle.interpreter.specs.declared.header.Looked.the-variants.{Bad, At}
 use Rattle.interpreter.specs.declared.parameter.Decision.{Decision}
 use Rattle.interpreter.specs.declared.parameter.Decision.the-variants.{Refused as noDeed, Obey as someDeed}
-use Rattle.interpreter.specs.declared.unit.Reading.{Reading}
-use Rattle.interpreter.specs.declared.unit.Reading.the-variants.{Refused, Obey}
 use Rattle.interpreter.proofs.header.Laws.{found-most}
 use Rattle.interpreter.proofs.unit.Bytes.{allowed}
 use Rattle.interpreter.proofs.unit.Found.{role-found}
@@ -117,11 +115,6 @@ pub record Headed (s : Settings) (path u : Text) (row used : ℕ) (asked : Bool)
   pub shut : closed (take used buffer) ≡ true
   pub short : used ≤ length path + length u
 
--- a decision, with what the path takes of the buffer
-abbrev readingOf : ℕ → Decision → Reading
-readingOf used (noDeed e) = Refused e
-readingOf used (someDeed d) = Obey d used
-
 module _ (s : Settings) (path u : Text) {row used : ℕ} {asked : Bool} {buffer : Text} where
   pub headed : every allowed u ≡ true → (t : Text) → t ≡ headerText u → length t ≤ length u
       → {r : Looked} → LookedUp path t r buffer → r ≡ At row used asked → Headed s path u row used asked buffer
@@ -137,8 +130,8 @@ module _ (s : Settings) (path u : Text) {row used : ℕ} {asked : Bool} {buffer 
         short = omega arith;
       }
 
-  pub read-to : Headed s path u row used asked buffer → {r : Decision} (d : Decision) → r ≡ d → meantDeed r ≡ decided s row asked (parameterText u)
-      → UnitRead s path u (readingOf used d) buffer
+  pub read-to : Headed s path u row used asked buffer → (d : Decision) → meantDeed d ≡ decided s row asked (parameterText u)
+      → UnitRead s path u d used buffer
   unfolding _>>=_
-  read-to h (noDeed e) q is = h .is ∙ rw (sym (ap meantDeed (sym q) ∙ is))
-  read-to h (someDeed d) q is = (h .is ∙ rw (sym (ap meantDeed (sym q) ∙ is)), h .shut, h .short)
+  read-to h (noDeed e) is = h .is ∙ rw (sym is)
+  read-to h (someDeed d) is = (h .is ∙ rw (sym is), h .shut, h .short)

@@ -8,8 +8,8 @@ read-requires c κs =
     let p = c .before .before .before .before .pre in
     (p .0, p .1 .0)
 
-enum-known-reading : tie.Need-enum-known-reading
-enum-known-reading c = c .match .keys1
+enum-known-decision : tie.Need-enum-known-decision
+enum-known-decision c = c .match .keys1
 
 refuse-requires : tie.Need-refuse-requires
 refuse-requires c κs = tt
@@ -19,18 +19,18 @@ returns c =
     let a = c .before .before .before .before .before .before .before .before .before .args in
     let p = c .before .before .before .before .before .before .before .before .before .pre in
     let read = c .before .before .before .before .read in
-    unit-refused (a .done) (take (a .done .used) (a .path .now)) (a .unit .now) (read .last .1 .1 .0) (read .result) (read .ensures)
-    (a .out .now) _ (c .before .before .reading .given .1) (c .refuse .result) (c .refuse .ensures) (p .1 .1 .2) (p .1 .1 .0)
+    unit-refused (a .done) (take (a .done .used) (a .path .now)) (a .unit .now) (read .last .1 .1 .0) (read .result .decision) (read .result .used) (read .ensures)
+    (a .out .now) _ (c .before .before .decision .given .1) (c .refuse .result) (c .refuse .ensures) (p .1 .1 .2) (p .1 .1 .0)
 
-enum-known-reading-2 : tie.Need-enum-known-reading-2
-enum-known-reading-2 c = c .match .keys2
+enum-known-decision-2 : tie.Need-enum-known-decision-2
+enum-known-decision-2 c = c .match .keys2
 
 perform-requires : tie.Need-perform-requires
 perform-requires c κs =
     let a = c .before .before .before .before .before .before .before .before .before .args in
     let p = c .before .before .before .before .before .before .before .before .before .pre in
     let read = c .before .before .before .before .read in
-    let allowed = unit-allowed (a .done) (take (a .done .used) (a .path .now)) (a .unit .now) (read .last .1 .1 .0) (read .result) (read .ensures) _ _ (c .before .before .reading2 .given .1) in
+    let allowed = unit-allowed (a .done) (take (a .done .used) (a .path .now)) (a .unit .now) (read .last .1 .1 .0) (read .result .decision) (read .result .used) (read .ensures) _ (c .before .before .decision2 .given .1) in
     ((p .0, allowed), p .1 .1)
 
 same-length : tie.Need-same-length
@@ -41,18 +41,18 @@ returns-2 c =
     let a = c .before .before .before .before .before .before .before .before .before .before .before .before .args in
     let read = c .before .before .before .before .before .before .before .read in
     let performed = c .before .before .perform in
-    unit-obeyed (a .done) (take (a .done .used) (a .path .now)) (a .unit .now) (read .last .1 .1 .0) (read .result) (read .ensures)
-    (a .out .now) _ _ (c .before .before .before .before .before .reading2 .given .1) (performed .result) (performed .last .1 .1 .1 .0) (performed .ensures)
+    unit-obeyed (a .done) (take (a .done .used) (a .path .now)) (a .unit .now) (read .last .1 .1 .0) (read .result .decision) (read .result .used) (read .ensures)
+    (a .out .now) _ (c .before .before .before .before .before .decision2 .given .1) (performed .result) (performed .last .1 .1 .1 .0) (performed .ensures)
 
 pub run-unit-spec : {M : Type 1} → statement M
 run-unit-spec =
     tie.close
     (tie.spec
     read-requires
-    enum-known-reading
+    enum-known-decision
     refuse-requires
     returns
-    enum-known-reading-2
+    enum-known-decision-2
     perform-requires
     same-length
     returns-2)

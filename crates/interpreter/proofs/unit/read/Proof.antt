@@ -81,6 +81,13 @@ look-up-requires c κs =
 enum-told : tie.Need-enum-told
 enum-told c = c .match .keys1
 
+returns-2 : tie.Need-returns-2
+returns-2 c =
+    let d = c .before .before .before .before .before in
+    let k = c .before .before .look-up in
+    bad-header (entry d .args .settings) (path-of d) (unit-of d) (k .last .1 .0) (clean d) (header-of d) (ran d .is)
+    (k .ensures) (c .enum-told .given .1)
+
 enum-known-looked : tie.Need-enum-known-looked
 enum-known-looked c = c .match .keys2
 
@@ -90,32 +97,12 @@ decide-behind-requires c κs =
     let d = dark-at l in
     (entry d .pre .0, row-found l .within, ran d .within)
 
-enum-known-decision : tie.Need-enum-known-decision
-enum-known-decision c = omega arith
-
-enum-known-decision-2 : tie.Need-enum-known-decision-2
-enum-known-decision-2 c = omega arith
-
-returns-2 : tie.Need-returns-2
-returns-2 c =
-    let d = c .before .before .before .before .before in
-    let k = c .before .before .look-up in
-    bad-header (entry d .args .settings) (path-of d) (unit-of d) (k .last .1 .0) (clean d) (header-of d) (ran d .is)
-    (k .ensures) (c .enum-told .given .1)
-
 returns-3 : tie.Need-returns-3
 returns-3 c =
-    let l = c .before .before .before .before .before in
+    let l = c .before .before in
     let d = dark-at l in
-    read-to (entry d .args .settings) (path-of d) (unit-of d) (row-found l) _ (c .before .decision .given .1)
-    (rw (ran d .behind) at (c .before .before .before .decide-behind .ensures))
-
-returns-4 : tie.Need-returns-4
-returns-4 c =
-    let l = c .before .before .before .before .before in
-    let d = dark-at l in
-    read-to (entry d .args .settings) (path-of d) (unit-of d) (row-found l) _ (c .before .decision2 .given .1)
-    (rw (ran d .behind) at (c .before .before .before .decide-behind .ensures))
+    read-to (entry d .args .settings) (path-of d) (unit-of d) (row-found l) (c .decide-behind .result)
+    (rw (ran d .behind) at (c .decide-behind .ensures))
 
 pub read-spec : {M : Type 1} → statement M
 read-spec =
@@ -130,10 +117,7 @@ read-spec =
     part-look-up-end
     look-up-requires
     enum-told
+    returns-2
     enum-known-looked
     decide-behind-requires
-    enum-known-decision
-    enum-known-decision-2
-    returns-2
-    returns-3
-    returns-4)
+    returns-3)
