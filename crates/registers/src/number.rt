@@ -2,7 +2,7 @@
 use crate::error::Error;
 use crate::text;
 ghost use mathlib.Core.Path.{_≡_};
-ghost use Prim.Native.Nat.{_^_, _≤_, _<_};
+ghost use Prim.Native.Nat.{_-_, _^_, _≤_, _<_};
 ghost use lib.ListN.{length};
 ghost use Rattle.registers.specs.Number.{number, meant, switchedOn};
 ghost use Rattle.registers.specs.NumberParts.{held, DigitsRead, MantissaRead, ExponentRead, valueRead};
@@ -122,6 +122,13 @@ fn read_exponent(text: &[u8], at: usize) -> Exponent
     }
 }
 
+// How far a number is above another, 0 where it is not.
+fn above(a: u64, b: u64) -> u64
+    ensures { λ r. ⌜ r ≡ a - b ⌝ }
+{
+    if b < a { a - b } else { 0 }
+}
+
 // The last of check 6: not too many digits, no exponent too large, and the exact value.
 fn valued(minus: bool, mantissa: Mantissa, exponent: Exponent) -> Reading
     requires { ⌜ mantissa .places < 2 ^ 63 ⌝ }
@@ -144,19 +151,11 @@ fn valued(minus: bool, mantissa: Mantissa, exponent: Exponent) -> Reading
             down: places + size,
         });
     }
-    if places <= size {
-        return Reading::Number(Decimal {
-            minus,
-            digits,
-            up: (size - places) as u32,
-            down: 0,
-        });
-    }
     Reading::Number(Decimal {
         minus,
         digits,
-        up: 0,
-        down: places - size,
+        up: above(size, places) as u32,
+        down: above(places, size),
     })
 }
 

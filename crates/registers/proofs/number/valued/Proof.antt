@@ -1,5 +1,4 @@
 use mathlib.Core.Path.{_≡_}
-use Prim.Native.Nat.{_-_}
 use native.Mathlib.Omega.{arith}
 use borrow.Author.Tests.{lt-leb, le-leb, lt-ltb, le-ltb}
 use Rattle.registers.specs.Check.{passed, check, _>>_}
@@ -36,26 +35,21 @@ returns-3 : tie.Need-returns-3
 unfolding decimalOf if_then_else_
 returns-3 c = rw (within (c .before), c .if3 .taken)
 
+above-requires : tie.Need-above-requires
+above-requires c κs = tt
+
 cast-t13 : tie.Need-cast-t13
-cast-t13 c = omega arith
+cast-t13 c = rw (c .above .ensures) (omega arith)
+
+above-requires-2 : tie.Need-above-requires-2
+above-requires-2 c κs = tt
 
 returns-4 : tie.Need-returns-4
 unfolding decimalOf if_then_else_
 returns-4 c =
-    let a = c .before .before .before .before .args in
-    let none : a .mantissa .places - a .exponent .size ≡ 0 = omega arith in
-    rw (within (c .before .before), c .before .if3 .left, none)
-
-sub-t15 : tie.Need-sub-t15
-sub-t15 c = omega arith
-
-returns-5 : tie.Need-returns-5
-unfolding decimalOf if_then_else_
-returns-5 c =
-    let a = c .before .before .before .before .args in
-    let none : a .exponent .size - a .mantissa .places ≡ 0 = omega arith in
-    rw (within (c .before .before), c .before .if3 .left, none)
+    let e = c .before .before in
+    rw (within (e .before), e .if3 .left, c .before .above .ensures, c .above2 .ensures)
 
 pub valued-spec : {M : Type 1} → statement M
 valued-spec =
-    tie.close (tie.spec returns returns-2 add-t10 returns-3 cast-t13 returns-4 sub-t15 returns-5)
+    tie.close (tie.spec returns returns-2 add-t10 returns-3 above-requires cast-t13 above-requires-2 returns-4)
