@@ -98,7 +98,7 @@ pub fn is_known(number: u16) -> bool
 {
     let numbers = QUEUEABLE;
     let mut i: usize = 0;
-    while i < 18 {
+    while i < numbers.len() {
         if numbers[i] == number {
             return true;
         }

@@ -72,7 +72,7 @@ impl Settings {
     pub fn highest(self, row: usize) -> i32
         ensures { λ r. ⌜ r ≡ highest self row ⌝ }
     {
-        let range = self.values[5];
+        let range = self.values[Settings::RANGE];
         if (row == Settings::VOLTAGE) & (range < 1) {
             return Settings::TWELVE_VOLTS;
         }
@@ -107,7 +107,7 @@ impl Settings {
     pub fn conflicts(self, row: usize, value: i32) -> bool
         ensures { λ r. ⌜ r ≡ conflict self row value ⌝ }
     {
-        let volts = self.values[4];
+        let volts = self.values[Settings::VOLTAGE];
         (row == Settings::RANGE) & (value <= 0) & (Settings::TWELVE_VOLTS < volts)
     }
 
@@ -131,7 +131,7 @@ impl Settings {
     {
         let values = self.values;
         let mut row: usize = 0;
-        while row < 16 {
+        while row < Settings::COUNT {
             let value = values[row];
             if !self.within(row, value) {
                 return false;
