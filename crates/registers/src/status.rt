@@ -58,7 +58,7 @@ fn all_known(errors: [u16; 16], count: usize) -> bool
     true
 }
 
-// The weight of bit k where it is on.
+// A bit's weight where the bit is on.
 fn bit_if(on: bool, weight: u8) -> u8
     ensures { λ r. ⌜ r ≡ if on then weight else 0 ⌝ }
     ensures { λ r. ⌜ r ≤ weight ⌝ }
@@ -122,9 +122,7 @@ impl Status {
     pub fn clear(mut self) -> Status
         ensures { λ r. ⌜ r ≡ clearedIn self ⌝ }
     {
-        let operation = self.operation;
-        let cleared = operation.read_event();
-        self.operation = cleared;
+        self = self.read_operation();
         self.events = 0;
         self.queued = 0;
         self
@@ -150,9 +148,7 @@ impl Status {
     pub fn read_operation(mut self) -> Status
         ensures { λ r. ⌜ r ≡ withRegisters (operationRead (registersOf self)) self ⌝ }
     {
-        let operation = self.operation;
-        let read = operation.read_event();
-        self.operation = read;
+        self.operation = self.operation.read_event();
         self
     }
 
@@ -189,9 +185,7 @@ impl Status {
         if Group::WIDEST < condition {
             return self;
         }
-        let operation = self.operation;
-        let next = operation.report(condition);
-        self.operation = next;
+        self.operation = self.operation.report(condition);
         self
     }
 
@@ -255,10 +249,9 @@ impl Status {
         if Status::MOST < count {
             return false;
         }
-        let operation = self.operation;
-        let group = operation.possible();
-        let registers = (self.ese <= 255) & (self.sre <= 255) & (self.sre & 64 == 0) & group;
+        let registers = (self.ese <= 255) & (self.sre <= 255) & (self.sre & 64 == 0);
         let errors = self.errors;
-        registers & ((self.events <= 255) & all_known(errors, count))
+        let trouble = (self.events <= 255) & all_known(errors, count);
+        registers & self.operation.possible() & trouble
     }
 }

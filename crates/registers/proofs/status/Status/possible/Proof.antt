@@ -6,24 +6,23 @@ use Rattle.registers.proofs.status.Status.possible.Tie as tie
 returns : tie.Need-returns
 returns c = queue-above (c .before .args .self) (c .if1 .taken)
 
+all-known-requires : tie.Need-all-known-requires
+all-known-requires c κs = c .before .before .before .before .before .if1 .left
+
 possible-requires : tie.Need-possible-requires
 possible-requires c κs = tt
-
-all-known-requires : tie.Need-all-known-requires
-all-known-requires c κs = c .before .before .before .before .before .before .before .if1 .left
 
 returns-2 : tie.Need-returns-2
 unfolding possibleRegisters
 returns-2 c =
-    let o = c .before .before .before .before .before .before in
-    let h = o .before .before .if1 .left in
-    rw (o .possible .ensures, c .all-known .ensures) (queue-within (o .before .before .before .args .self) h)
+    let e = c .before .before .before .before .before .before .before in
+    rw (c .possible .ensures, c .before .all-known .ensures) (queue-within (e .before .args .self) (e .if1 .left))
 
 pub possible-spec : {M : Type 1} → statement M
 possible-spec =
     tie.close
     (tie.spec
     returns
-    possible-requires
     all-known-requires
+    possible-requires
     returns-2)

@@ -9,7 +9,7 @@ read-event-requires c κs = tt
 
 returns : tie.Need-returns
 returns c =
-    let s = c .before .before .args .self in
+    let s = c .before .args .self in
     ap (λ (g : Group). withRegisters (withOperation g (registersOf s)) s) (c .read-event .ensures)
 
 pub read-operation-spec : {M : Type 1} → statement M

@@ -10,7 +10,9 @@ report-requires : tie.Need-report-requires
 report-requires c κs = tt
 
 returns-2 : tie.Need-returns-2
-returns-2 c = rw (c .report .ensures) (sym (reported-yes (c .before .before .before .args .self) (c .before .before .before .args .condition) (c .before .before .if1 .left)))
+returns-2 c =
+    let a = c .before .before .args in
+    rw (c .report .ensures) (sym (reported-yes (a .self) (a .condition) (c .before .if1 .left)))
 
 pub report-spec : {M : Type 1} → statement M
 report-spec = tie.close (tie.spec returns report-requires returns-2)
