@@ -100,6 +100,7 @@ pub(crate) fn to_deed(table: &[u8], present: Present, answers: bool, deed: Deed)
     }
 }
 
+// Writes a reply over the start of the buffer's tail behind the answers so far; its length, whether it fits or not.
 fn write(table: &[u8], reply: Reply, tail: &mut [u8]) -> usize
     requires { ⌜ (now table ≡ commandTable) × Stands reply ⌝ }
     ensures { λ r. ⌜ Laid (textOf reply) (now (tail .entry)) r (now (tail .exit)) ⌝ }

@@ -9,6 +9,9 @@ ghost use Rattle.interpreter.specs.RowsParts.{commandTable, wordAt, rowO
 // How many rows there are.
 pub(crate) const ROWS: usize = 33;
 
+// Where the rows begin in the table: behind its 52 words of 16 bytes.
+const FIRST_ROW: usize = 832;
+
 // More nodes than any row has: what is passed of a row that was not walked.
 const UNTRIED: usize = 8;
 
@@ -29,7 +32,7 @@ fn row_cell(table: &[u8], row: usize, i: usize) -> u8
     requires { ⌜ (now table ≡ commandTable) × (row < 33) × (i < 8) ⌝ }
     ensures { λ r. ⌜ r ≡ rowCell row i ⌝ }
 {
-    table[832 + row * 8 + i]
+    table[FIRST_ROW + row * 8 + i]
 }
 
 // Whether a word's short or its long form has so many letters.
