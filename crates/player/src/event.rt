@@ -22,7 +22,7 @@ const UNTOUCHED: u8 = 0xAA;
 // The most bytes that a script line spells.
 const PIECE: usize = 8192;
 
-fn unreadable(state: State) -> Played {
+pub(crate) fn unreadable(state: State) -> Played {
     Played { state, length: 0 }
 }
 
@@ -35,8 +35,7 @@ fn power_up(out: &mut [u8]) -> Played {
 fn receive(state: State, piece: &[u8], out: &mut [u8]) -> Played {
     let fed = state.piece(piece);
     let outcome = fed.outcome;
-    let letter = report::put(out, 0, b'p');
-    let number = report::number(out, letter, outcome.number() as u64);
+    let number = report::outcome(out, b'p', outcome);
     let length = report::number(out, number, fed.count as u64);
     let after = fed.state;
     Played {
@@ -49,21 +48,16 @@ fn receive(state: State, piece: &[u8], out: &mut [u8]) -> Played {
 fn receive_hex(state: State, text: &[u8], out: &mut [u8]) -> Played {
     let mut bytes = [0u8; PIECE];
     let n = script::unhex(text, &mut bytes);
-    receive_front(state, &bytes, n, out)
-}
-
-fn receive_front(state: State, bytes: &[u8], n: usize, out: &mut [u8]) -> Played {
-    if n <= bytes.len() {
-        return receive(state, &bytes[0..n], out);
+    if PIECE < n {
+        return unreadable(state);
     }
-    unreadable(state)
+    receive(state, &bytes[0..n], out)
 }
 
 fn take_into(state: State, buffer: &mut [u8], out: &mut [u8]) -> Played {
     let taken = state.take(buffer);
     let outcome = taken.outcome;
-    let letter = report::put(out, 0, b't');
-    let number = report::number(out, letter, outcome.number() as u64);
+    let number = report::outcome(out, b't', outcome);
     let answer = report::number(out, number, taken.length as u64);
     let length = report::hex(out, answer, buffer);
     let after = taken.state;
@@ -73,19 +67,14 @@ fn take_into(state: State, buffer: &mut [u8], out: &mut [u8]) -> Played {
     }
 }
 
-fn take_front(state: State, buffer: &mut [u8], n: u64, out: &mut [u8]) -> Played {
-    if n <= BUFFER as u64 {
-        let end = n as usize;
-        if end <= buffer.len() {
-            return take_into(state, &mut buffer[0..end], out);
-        }
-    }
-    unreadable(state)
-}
-
 fn take(state: State, text: &[u8], out: &mut [u8]) -> Played {
+    let n = script::decimal(text);
+    if (BUFFER as u64) < n {
+        return unreadable(state);
+    }
     let mut buffer = [UNTOUCHED; BUFFER];
-    take_front(state, &mut buffer, script::decimal(text), out)
+    let end = n as usize;
+    take_into(state, &mut buffer[0..end], out)
 }
 
 fn condition(state: State, text: &[u8], out: &mut [u8]) -> Played {
@@ -95,8 +84,7 @@ fn condition(state: State, text: &[u8], out: &mut [u8]) -> Played {
     }
     let reported = state.condition(value as u16);
     let outcome = reported.outcome;
-    let letter = report::put(out, 0, b'c');
-    let length = report::number(out, letter, outcome.number() as u64);
+    let length = report::outcome(out, b'c', outcome);
     let after = reported.state;
     Played {
         state: after,
@@ -107,8 +95,7 @@ fn condition(state: State, text: &[u8], out: &mut [u8]) -> Played {
 fn look(state: State, out: &mut [u8]) -> Played {
     let seen = state.look();
     let outcome = seen.outcome;
-    let letter = report::put(out, 0, b'l');
-    let number = report::number(out, letter, outcome.number() as u64);
+    let number = report::outcome(out, b'l', outcome);
     let length = report::number(out, number, seen.byte as u64);
     Played { state, length }
 }
@@ -122,11 +109,10 @@ fn show_group(group: Group, from: usize, out: &mut [u8]) -> usize {
 }
 
 fn show_registers(status: Status, from: usize, out: &mut [u8]) -> usize {
-    let group = status.operation;
     let events = report::number(out, from, status.events as u64);
     let ese = report::number(out, events, status.ese as u64);
     let sre = report::number(out, ese, status.sre as u64);
-    show_group(group, sre, out)
+    show_group(status.operation, sre, out)
 }
 
 fn show_queue(status: Status, from: usize, out: &mut [u8]) -> usize {
@@ -151,12 +137,10 @@ fn show_settings(settings: Settings, from: usize, out: &mut [u8]) -> usize {
 }
 
 fn show(state: State, out: &mut [u8]) -> Played {
-    let settings = state.settings;
-    let status = state.status;
     let letter = report::put(out, 0, b's');
-    let values = show_settings(settings, letter, out);
-    let registers = show_registers(status, values, out);
-    let queue = show_queue(status, registers, out);
+    let values = show_settings(state.settings, letter, out);
+    let registers = show_registers(state.status, values, out);
+    let queue = show_queue(state.status, registers, out);
     let line = show_line(state, queue, out);
     let length = show_answer(state, line, out);
     Played { state, length }

@@ -39,27 +39,12 @@ const PLACES: usize = 16;
 fn place(text: &[u8]) -> usize
     ensures { λ r. ⌜ r ≤ 16 ⌝ }
 {
-    if text.len() == 1 {
-        let b = text[0];
-        if b < 48 {
-            return PLACES;
-        }
-        if b < 58 {
-            return (b - 48) as usize;
-        }
-        return PLACES;
-    }
-    if text.len() == 2 {
-        let tens = text[0];
-        if tens != b'1' {
-            return PLACES;
-        }
-        let b = text[1];
-        if b < 48 {
-            return PLACES;
-        }
-        if b < 54 {
-            return (b - 38) as usize;
+    let n = script::decimal(text);
+    let short = (n < 10) & (text.len() == 1);
+    let long = (9 < n) & (text.len() == 2);
+    if n < 16 {
+        if short | long {
+            return n as usize;
         }
     }
     PLACES
@@ -157,9 +142,7 @@ fn in_queue(mut status: Status, item: usize, n: u16) -> Status {
 }
 
 fn in_status(mut status: Status, field: Field, n: u16) -> Status {
-    let group = status.operation;
-    let next = in_group(group, field, n);
-    status.operation = next;
+    status.operation = in_group(status.operation, field, n);
     match field {
         Field::Events => status.events = n,
         Field::Ese => status.ese = n,
@@ -172,9 +155,7 @@ fn in_status(mut status: Status, field: Field, n: u16) -> Status {
 }
 
 fn in_state(mut state: State, field: Field, n: u16) -> State {
-    let status = state.status;
-    let next = in_status(status, field, n);
-    state.status = next;
+    state.status = in_status(state.status, field, n);
     match field {
         Field::Line => state.filled = n as usize,
         Field::Answer => state.waiting = n as usize,
@@ -187,9 +168,7 @@ fn in_state(mut state: State, field: Field, n: u16) -> State {
 fn setting(mut state: State, row: usize, value: &[u8]) -> Overwritten {
     match script::signed(value) {
         Reading::Value(v) => {
-            let settings = state.settings;
-            let next = in_settings(settings, row, v);
-            state.settings = next;
+            state.settings = in_settings(state.settings, row, v);
             Overwritten {
                 state,
                 readable: true,

@@ -68,19 +68,18 @@ fn play_line(
     out: &mut [u8],
 ) -> event::Played {
     if overlong {
-        return event::Played { state, length: 0 };
+        return event::unreadable(state);
     }
-    if filled <= line.len() {
-        return event::play(state, &line[0..filled], out);
+    if line.len() < filled {
+        return event::unreadable(state);
     }
-    event::Played { state, length: 0 }
+    event::play(state, &line[0..filled], out)
 }
 
 // A line has ended: its event is played and answered.
 fn end_line(player: Player, line: &[u8], out: &mut [u8]) -> Player {
     let lines = next(player.lines);
-    let state = player.state;
-    let played = play_line(state, line, player.filled, player.overlong, out);
+    let played = play_line(player.state, line, player.filled, player.overlong, out);
     let length = report::ended(out, played.length, lines);
     let written = write_front(out, length);
     let after = played.state;

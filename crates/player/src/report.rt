@@ -1,5 +1,6 @@
 // The line that answers an event, written into a buffer from a place on. Each writer answers the
 // place behind what it wrote; what the buffer can't hold is dropped.
+use interpreter::state::Outcome;
 use registers::answer;
 ghost use Prim.Native.Nat.{_<_};
 ghost use Rattle.player.specs.Digits.{DigitOf};
@@ -22,14 +23,6 @@ fn put_text(out: &mut [u8], from: usize, text: &[u8]) -> usize {
     at
 }
 
-// The first bytes of a text, or all where there are fewer.
-fn put_front(out: &mut [u8], from: usize, text: &[u8], count: usize) -> usize {
-    if count <= text.len() {
-        return put_text(out, from, &text[0..count]);
-    }
-    put_text(out, from, text)
-}
-
 fn put_number(out: &mut [u8], at: usize, n: u64) -> usize {
     let mut text = [0u8; 20];
     let count = io::decimal(n, &mut text);
@@ -39,7 +32,10 @@ fn put_number(out: &mut [u8], at: usize, n: u64) -> usize {
 fn put_signed(out: &mut [u8], at: usize, value: i32) -> usize {
     let mut text = [0u8; 20];
     let count = answer::write_whole(value, &mut text);
-    put_front(out, at, &text, count)
+    if 20 < count {
+        return at;
+    }
+    put_text(out, at, &text[0..count])
 }
 
 fn glyph(half: u8) -> u8
@@ -58,6 +54,12 @@ fn put_byte(out: &mut [u8], at: usize, b: u8) -> usize {
 pub(crate) fn number(out: &mut [u8], from: usize, n: u64) -> usize {
     let at = put(out, from, b' ');
     put_number(out, at, n)
+}
+
+// An event's letter, and its refusal's number.
+pub(crate) fn outcome(out: &mut [u8], letter: u8, outcome: Outcome) -> usize {
+    let at = put(out, 0, letter);
+    number(out, at, outcome.number() as u64)
 }
 
 // A blank and a dash, for what is empty.
