@@ -23,7 +23,7 @@ use Rattle.interpreter.proofs.flow.Laws.{first-some, first-within}
 
 -- ---- the first line
 
-lines-first : (l : Text) → 0 < length l → linesOf l ≡ firstLine l ∷ linesOf (drop (length (firstLine l)) l)
+pub lines-first : (l : Text) → 0 < length l → linesOf l ≡ firstLine l ∷ linesOf (drop (length (firstLine l)) l)
 unfolding firstLine linesOf indexOf indexAfter if_then_else_
 lines-first [] h = absurd (omega arith)
 lines-first (x ∷ xs) h = go (eqb x 10) refl xs refl (λ k. lines-first xs k)
@@ -41,7 +41,7 @@ unfolding serves if_then_else_
 serves-stop s [] h = refl
 serves-stop s (l ∷ ls) h = rw (lt-leb mostAnswer (length (s .rest)) h)
 
-serves-on : (s : Service) (l : Text) (ls : List Text) → mostAnswer ≤ length (s .rest) → serves s (l ∷ ls) ≡ serves (servedLine s l) ls
+pub serves-on : (s : Service) (l : Text) (ls : List Text) → mostAnswer ≤ length (s .rest) → serves s (l ∷ ls) ≡ serves (servedLine s l) ls
 unfolding serves if_then_else_
 serves-on s l ls h = rw (le-leb mostAnswer (length (s .rest)) h)
 

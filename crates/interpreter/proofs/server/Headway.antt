@@ -1,0 +1,69 @@
+-- A chunk goes on: where the output has room for one answer, at least one byte is read, and never more than there are.
+use mathlib.Core.Path.{_≡_, refl, ap}
+use mathlib.Core.Bool.{true}
+use mathlib.Core.List.{List, [], _∷_}
+use Prim.Native.Nat.{ℕ, suc, _+_, _≤_, _<_}
+use native.Mathlib.Nat.{le-refl}
+use native.Mathlib.Omega.{arith}
+use lib.Dec.{eqb, leb}
+use lib.ListN.{length, drop}
+use Rattle.registers.specs.Text.{Text, empty}
+use Rattle.interpreter.specs.Cuts.{joinFirst}
+use Rattle.interpreter.specs.Box.{mostAnswer}
+use Rattle.interpreter.specs.Events.{happens, received}
+use Rattle.interpreter.specs.State.{boxOf, possibleState}
+use Rattle.interpreter.specs.FlowParts.{firstLine}
+use Rattle.interpreter.specs.Server.{linesOf, Service, service, servedLine, serves, Serves}
+use Rattle.interpreter.specs.declared.state.State.{State}
+use Rattle.interpreter.proofs.Choices.{if-elim}
+use Rattle.interpreter.proofs.flow.Laws.{first-some}
+use Rattle.interpreter.proofs.server.Laws.{lines-first, serves-on}
+
+-- how many bytes lines have together
+abbrev total : List Text → ℕ
+total [] = 0
+total (l ∷ ls) = length l + total ls
+
+joined-total : (b : ℕ) (ls : List Text) → total (joinFirst b ls) ≡ suc (total ls)
+joined-total b [] = omega arith
+joined-total b (l ∷ ls) = omega arith
+
+lines-total : (t : Text) → total (linesOf t) ≡ length t
+unfolding linesOf
+lines-total [] = refl
+lines-total (x ∷ xs) =
+    let more = lines-total xs in
+    let joined = joined-total x (linesOf xs) in
+    if-elim (λ (ls : List Text). total ls ≡ suc (length xs)) (eqb x 10) (λ _. omega arith) (λ _. omega arith)
+
+line-read : (s : Service) (l : Text) → servedLine s l .read ≡ s .read + length l
+unfolding servedLine
+line-read s l =
+    if-elim (λ (v : Service). v .read ≡ s .read + length l) (empty (happens (s .box) (received l) .box .core .answer)) (λ _. refl) (λ _. refl)
+
+serves-read : (s : Service) (ls : List Text) → (s .read ≤ serves s ls .read) × (serves s ls .read ≤ s .read + total ls)
+unfolding serves
+serves-read s [] = (le-refl _, omega arith)
+serves-read s (l ∷ ls) =
+    let more = serves-read (servedLine s l) ls in
+    let is = line-read s l in
+    if-elim (λ (v : Service). (s .read ≤ v .read) × (v .read ≤ s .read + total (l ∷ ls))) (leb mostAnswer (length (s .rest)))
+    (λ _. (omega (arith, more .0, is), omega (arith, more .1, is))) (λ _. (le-refl _, omega arith))
+
+module _ (s t : State) (input output left : Text) (number read written : ℕ) (w : Serves s input output number read written t left)
+    (p : possibleState s ≡ true) where
+  abbrev begun : Service
+  begun = service (boxOf s) 0 [] output
+
+  is : read ≡ serves begun (linesOf input) .read
+  is = ap (λ (v : Service). v .read) (w .possible p .3)
+
+  pub reads-within : read ≤ length input
+  reads-within = let most = serves-read begun (linesOf input) .1 in let all = lines-total input in rw is (omega (arith, most, all))
+
+  pub reads-some : mostAnswer ≤ length output → 0 < length input → 0 < read
+  reads-some room some =
+      let l = firstLine input in
+      let more = linesOf (drop (length l) input) in
+      rw (is, lines-first input some, serves-on begun l more room)
+      (omega (arith, serves-read (servedLine begun l) more .0, line-read begun l, first-some input some))
