@@ -16,16 +16,17 @@ ghost use Prim.Native.Nat.{_≤_};
 ghost use lib.ListN.{length};
 ghost use Rattle.interpreter.specs.Box.{mostAnswer};
 ghost use Rattle.interpreter.specs.State.{possibleState};
+ghost use Rattle.bench24.specs.Heard.{HeardAll};
 
 struct Bench {
     state: State,
-    open: bool,
+    serving: bool,
 }
 
 // Serves what was read, a full output at a time.
 fn serve_all(start: Bench, input: &[u8], output: &mut [u8]) -> Bench
     requires { ⌜ (possibleState (start .state) ≡ true) × (mostAnswer ≤ length (now output)) ⌝ }
-    ensures { λ r. ⌜ possibleState (r .state) ≡ true ⌝ }
+    ensures { λ r. ⌜ HeardAll start (now (input .entry)) r ⌝ }
 {
     let mut bench = start;
     let mut at: usize = 0;
@@ -36,7 +37,7 @@ fn serve_all(start: Bench, input: &[u8], output: &mut [u8]) -> Bench
         bench.state = next;
         at += served.read;
         if !io::write_all(libc::STDOUT_FILENO, &output[0..end]) {
-            bench.open = false;
+            bench.serving = false;
             return bench;
         }
     }
@@ -51,7 +52,7 @@ fn serve_some(mut bench: Bench, input: &mut [u8], output: &mut [u8]) -> Bench
     let got = libc::read(libc::STDIN_FILENO, input);
     let n = io::count(got, input);
     if n == 0 {
-        bench.open = false;
+        bench.serving = false;
         return bench;
     }
     serve_all(bench, &input[0..n], output)
@@ -67,8 +68,7 @@ fn run(start: Bench, input: &mut [u8], output: &mut [u8])
     while turns > 0 {
         turns -= 1;
         bench = serve_some(bench, input, output);
-        let open = bench.open;
-        if !open {
+        if !bench.serving {
             return;
         }
     }
@@ -78,6 +78,9 @@ fn main() {
     let mut input = io::large_buffer();
     let mut output = io::large_buffer();
     let state = State::power_up();
-    let start = Bench { state, open: true };
+    let start = Bench {
+        state,
+        serving: true,
+    };
     run(start, &mut input, &mut output);
 }

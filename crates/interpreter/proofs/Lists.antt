@@ -1,7 +1,7 @@
 -- Laws of lists by the place: what a test of all members, or an equation of two lists, says of one member, and a table of bytes
 -- whose rows stand one behind the other.
 use mathlib.Core.Path.{_≡_, refl, sym, _∙_, ap}
-use mathlib.Core.Bool.{Bool, true}
+use mathlib.Core.Bool.{Bool, true, false≢true}
 use mathlib.Core.List.{List, [], _∷_, _++_, map}
 use Prim.Native.Nat.{ℕ, zero, suc, _+_, _-_, _*_, _≤_, _<_}
 use native.Mathlib.Omega.{arith}
@@ -9,8 +9,12 @@ use lib.Dec.{eqb}
 use lib.ListN.{length, getD, take, drop, length-append, length-drop}
 use lib.Seq.{drop-nil, drop-cons, drop-append-add, getD-drop, take-all}
 use borrow.Author.Tests.{eqb-true}
-use Rattle.registers.specs.Text.{Text, every, rest}
+use Rattle.registers.specs.Text.{Text, every, empty, rest}
 use Rattle.registers.proofs.Tests.{and-both}
+
+pub is-empty : (t : Text) → empty t ≡ true → t ≡ []
+is-empty [] q = refl
+is-empty (x ∷ xs) q = absurd (false≢true q)
 
 -- a loop that goes on by one place
 pub fewer : {k n : ℕ} → k < n → n - (k + 1) < n - k

@@ -7,7 +7,7 @@ use lib.Dec.{eqb, leb}
 use lib.ListN.{length, take, drop}
 use Rattle.registers.specs.Text.{Text, if_then_else_, empty}
 use Rattle.interpreter.specs.Cuts.{joinFirst}
-use Rattle.interpreter.specs.Box.{Box, mostAnswer}
+use Rattle.interpreter.specs.Box.{Box, answerIs, mostAnswer}
 use Rattle.interpreter.specs.Events.{Happened, happens, received, take as takes}
 use Rattle.interpreter.specs.State.{boxOf, possibleState}
 use Rattle.interpreter.specs.declared.state.State.{State}
@@ -43,6 +43,15 @@ servedLine s line =
 unfoldable pub serves : Service → List Text → Service
 serves s [] = s
 serves s (line ∷ more) = if leb mostAnswer (length (s .rest)) then serves (servedLine s line) more else s
+
+-- lines heard one after the other, whatever the room: each is received, and an answer that then waits is taken, so that it is gone.
+-- It is what calls lead to that serve a chunk and then what was left of it
+abbrev pub heardLine : Box → Text → Box
+heardLine b line = answerIs [] (happens b (received line) .box)
+
+unfoldable pub heard : Box → List Text → Box
+heard b [] = b
+heard b (line ∷ more) = heard (heardLine b line) more
 
 -- a chunk on a state s: the refusal's number, the bytes read and written, the state t, and the output left
 pub record Serves (s : State) (input output : Text) (number read written : ℕ) (t : State) (left : Text) : Type 0 where

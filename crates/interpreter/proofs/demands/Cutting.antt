@@ -18,6 +18,7 @@ use Rattle.interpreter.specs.Unit.{Read, readUnit}
 use Rattle.interpreter.specs.Line.{Obeyed, attempt, refuse, next, runUnits, unitsOf, interrupted, finished, runLine, endLine, atNewline}
 use Rattle.interpreter.specs.Demand3.{obeyedNext, obeyed, refusalNext, refusal, joinUnits, cutLine, lineRefusal}
 use Rattle.interpreter.proofs.Choices.{if-elim}
+use Rattle.interpreter.proofs.Lists.{is-empty}
 use Rattle.interpreter.proofs.demands.Agreement.{over-cores, finished-core}
 
 -- the same box, its waiting line cut to the first n units
@@ -174,10 +175,6 @@ run-cut line b h =
 blank-line : (b : Box) → b .core .answer ≡ [] → runLine [] false b .core ≡ b .core
 unfolding runLine unitsOf runUnits finished if_then_else_
 blank-line b e = rw e refl
-
-pub is-empty : (t : Text) → empty t ≡ true → t ≡ []
-is-empty [] q = refl
-is-empty (x ∷ xs) q = absurd (false≢true q)
 
 -- behind the -410 no answer waits
 pub none-waits : (b : Box) → interrupted b .core .answer ≡ []

@@ -31,7 +31,7 @@ use Rattle.interpreter.proofs.Choices.{if-elim}
 use Rattle.interpreter.proofs.Possible.{Fit, history-fit, power-up-fit}
 use Rattle.interpreter.proofs.unit.Allowed.{read-allowed}
 use Rattle.interpreter.proofs.demands.Pieces.{after-append, newline-after, recut-state}
-use Rattle.interpreter.proofs.demands.Cutting.{is-empty}
+use Rattle.interpreter.proofs.Lists.{is-empty}
 use Rattle.interpreter.proofs.demands.Limits.{good-at, no-conflict}
 use Rattle.interpreter.proofs.demands.ReadBack.{plainByte, plainText, answer-sets, answer-plain}
 use Rattle.interpreter.proofs.demands.SentUnit as sent

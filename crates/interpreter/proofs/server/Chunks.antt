@@ -17,14 +17,14 @@ use Rattle.interpreter.proofs.Choices.{if-elim}
 use Rattle.interpreter.proofs.Possible.{Fit, event-fit, fit-from, fit-to}
 use Rattle.interpreter.proofs.state.Records.{box-from, state-from, could, could-not, short-of}
 
-line-fits : (s : Service) (l : Text) → Fit mostAnswer (s .box) → Fit mostAnswer (servedLine s l .box)
+pub line-fits : (s : Service) (l : Text) → Fit mostAnswer (s .box) → Fit mostAnswer (servedLine s l .box)
 unfolding servedLine
 line-fits s l f =
     let g = event-fit (s .box) (received l) f in
     if-elim (λ (v : Service). Fit mostAnswer (v .box)) (empty (happens (s .box) (received l) .box .core .answer))
     (λ _. g) (λ _. event-fit (happens (s .box) (received l) .box) (takes (s .rest)) g)
 
-serves-fit : (s : Service) (ls : List Text) → Fit mostAnswer (s .box) → Fit mostAnswer (serves s ls .box)
+pub serves-fit : (s : Service) (ls : List Text) → Fit mostAnswer (s .box) → Fit mostAnswer (serves s ls .box)
 unfolding serves
 serves-fit s [] f = f
 serves-fit s (l ∷ ls) f =

@@ -20,7 +20,7 @@ use Rattle.interpreter.proofs.flow.Laws.{first-some}
 use Rattle.interpreter.proofs.server.Laws.{lines-first, serves-on}
 
 -- how many bytes lines have together
-abbrev total : List Text → ℕ
+abbrev pub total : List Text → ℕ
 total [] = 0
 total (l ∷ ls) = length l + total ls
 
@@ -36,7 +36,7 @@ lines-total (x ∷ xs) =
     let joined = joined-total x (linesOf xs) in
     if-elim (λ (ls : List Text). total ls ≡ suc (length xs)) (eqb x 10) (λ _. omega arith) (λ _. omega arith)
 
-line-read : (s : Service) (l : Text) → servedLine s l .read ≡ s .read + length l
+pub line-read : (s : Service) (l : Text) → servedLine s l .read ≡ s .read + length l
 unfolding servedLine
 line-read s l =
     if-elim (λ (v : Service). v .read ≡ s .read + length l) (empty (happens (s .box) (received l) .box .core .answer)) (λ _. refl) (λ _. refl)
