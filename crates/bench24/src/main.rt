@@ -6,8 +6,10 @@
 // What was read is served at once, so a pipe that waits for an answer gets it, and a long file goes
 // through 64 KB at a time. The first write that fails ends the run.
 //
-// The contracts say that nothing goes wrong, that every run ends, and that what was read is served
-// to its end unless a write fails. What is written is what `server::serve` says.
+// The contracts say that nothing goes wrong, that every run ends, and that what was read was served
+// to its end where the bench still serves. That only a failed write, or the input's end, closes it is
+// to be read below: the kit's write promises nothing of its answer. What is written is what
+// `server::serve` says.
 use interpreter::server;
 use interpreter::state::State;
 ghost use mathlib.Core.Path.{_≡_};
