@@ -1,5 +1,6 @@
-//! The command side of the bench box, as document 01 has it: bytes come in, settings and status
-//! change, answers go out. Written from the paper alone, as an oracle for another implementation.
+//! The command side of the bench box, as documents 01 and 02 have it: bytes come in, settings and
+//! status change, answers go out. Written from the papers alone, as an oracle for another
+//! implementation. The README says which requests of 02 are built in.
 //!
 //! [`State`] is the raw record. Every field may be overwritten by hand; each event then tests
 //! first whether the record could be the box's (refusal 4 of 01).

@@ -44,10 +44,6 @@ const fn powers_of_ten() -> [u64; MOST_DIGITS + 1] {
 }
 
 impl Decimal {
-    pub fn is_zero(self) -> bool {
-        self.digits == 0
-    }
-
     /// 01, check 7: rounded to the step, halves away from zero, and counted in steps.
     pub fn in_steps(self, step: Step) -> i64 {
         let power = self.power + step.decimals();

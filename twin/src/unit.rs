@@ -306,12 +306,16 @@ impl<'unit> Parameter<'unit> {
     }
 }
 
+/// A bool has no limits. Its number is rounded to a whole one first, so 0.4 is off (02, #102).
 fn read_bool(parameter: &[u8]) -> Result<i32, Error> {
     match Parameter::read(parameter)? {
         Parameter::Word(spelling) if ON.is_spelled(spelling) => Ok(1),
         Parameter::Word(spelling) if OFF.is_spelled(spelling) => Ok(0),
         Parameter::Word(_) => Err(Error::InvalidCharacterData),
-        Parameter::Number(text) => Ok(i32::from(!number::read(text)?.is_zero())),
+        Parameter::Number(text) => {
+            let rounded = number::read(text)?.in_steps(Step::One);
+            Ok(i32::from(rounded != 0))
+        }
     }
 }
 

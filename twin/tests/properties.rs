@@ -7,7 +7,7 @@ use bench::*;
 use twin::paper::{nodes, Use, HEADERS};
 use twin::State;
 
-static UNITS: [&str; 64] = [
+static UNITS: [&str; 65] = [
     "VOLT 5",
     "VOLT 12.04",
     "VOLT 12.05",
@@ -33,6 +33,7 @@ static UNITS: [&str; 64] = [
     ":CURR:LIM:PEAK:TIME 7",
     "OUTP 1",
     "OUTP:STAT 0.4",
+    "REL 0.5",
     "PON ON",
     "REL 0",
     "MON:MODE SCUR",

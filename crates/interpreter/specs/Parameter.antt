@@ -9,8 +9,8 @@ use lib.Signed.{leZ}
 use Rattle.registers.specs.Text.{Text, if_then_else_, letter, digit, wordByte, every, empty, first}
 use Rattle.registers.specs.Check.{Checked, refused, passed, _>>=_, _>>_, check}
 use Rattle.registers.specs.Words.{matches}
-use Rattle.registers.specs.Number.{number as readNumber, sign, point, switchedOn}
-use Rattle.registers.specs.Rounding.{rounded}
+use Rattle.registers.specs.Number.{number as readNumber, sign, point}
+use Rattle.registers.specs.Rounding.{switchedOn, rounded}
 use Rattle.registers.specs.Settings.{Kind, bool, words, number, kindOf, lowest, highest, within, conflict}
 use Rattle.registers.specs.Status.{widest}
 use Rattle.registers.specs.declared.number.Decimal.{Decimal}
@@ -89,7 +89,7 @@ abbrev pub limitAt : Settings → ℕ → ℕ → ℤ
 limitAt s i zero = lowest i
 limitAt s i (suc n) = highest s i
 
--- the value that a parameter gives to setting i; for a bool "zero is off, any other is on". A number for a row of words, the
+-- the value that a parameter gives to setting i; for a bool it is switched on or off. A number for a row of words, the
 -- fourth line, was refused by check 5
 unfoldable pub valueGiven : Settings → ℕ → Kind → Given → ℤ
 valueGiven s i bool (Word n) = pos n

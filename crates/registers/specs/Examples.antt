@@ -15,8 +15,8 @@ use Rattle.registers.specs.Check.{Checked, refused, passed, _>>=_, _>>_,
 use Rattle.registers.specs.Words.{Node, must, may, shortForm}
 use Rattle.registers.specs.Answer.{inPlaces, decimal, tenths, over}
 use Rattle.registers.specs.Errors.{numberOf, eventBit, messages, messageIn, errorText, queueable, known}
-use Rattle.registers.specs.Number.{afterSign, fractionOf, afterFraction, exponentOf, afterExponent, lowering, written, numeralFrom, decimalOf, valueOf, remains, number, switchedOn}
-use Rattle.registers.specs.Rounding.{nearest, sizeIn, rounded, fitted}
+use Rattle.registers.specs.Number.{afterSign, fractionOf, afterFraction, exponentOf, afterExponent, lowering, written, numeralFrom, decimalOf, valueOf, remains, number}
+use Rattle.registers.specs.Rounding.{nearest, sizeIn, rounded, fitted, switchedOn}
 use Rattle.registers.specs.Settings.{Kind, bool, words, number as steps, Setting, minus, table, settingAt, kindOf, valueAt, atReset, wideRange, lowest, highest, within, conflict, stored, answerOf}
 use Rattle.registers.specs.Group.{rises, falls, eventsAfter, conditionIs, eventRead, possibleGroup}
 use Rattle.registers.specs.Status.{registersOf, troubleOf, withoutBit6, storedIn, registerIn, summary, statusByte, possibleRegisters, possibleTrouble, possibleStatus, withTrouble, raisedIn, clearedIn, eventsIn, operationRead, withRegisters, oldestReadIn, reportedIn, registerSet, atStart}
@@ -93,9 +93,12 @@ examples =
     -- something behind the number, or no number
     ∷ wrong 138 ("5V" ∷ "1E" ∷ "1E+" ∷ "5 E3" ∷ "5E 3" ∷ "0x10" ∷ "1E5E5" ∷ "1E10V" ∷ [])
     ∷ wrong 121 ("1 2" ∷ "1.2.3" ∷ "1_0" ∷ "5%" ∷ "+" ∷ "-" ∷ "." ∷ "--5" ∷ "- 5" ∷ "+V" ∷ ".E5" ∷ [])
-    -- a bool: "zero is off, any other is on"
-    ∷ switch "0.4" true
-    ∷ switch "1E-9" true
+    -- a bool: rounded to a whole number first, "zero is off, any other is on"
+    ∷ switch "0.4" false
+    ∷ switch "0.5" true
+    ∷ switch "-0.5" true
+    ∷ switch "-0.4" false
+    ∷ switch "1E-9" false
     ∷ switch "-1" true
     ∷ switch "-0" false
     -- check 7: rounded to the step, halves away from zero, and only then compared

@@ -120,7 +120,3 @@ number t =
 abbrev pub meant : Reading → Checked Decimal
 meant (Refused e) = refused (numberOf e)
 meant (Number d) = passed d
-
--- a bool is "ON, OFF, or a number: zero is off, any other is on"
-unfoldable pub switchedOn : Decimal → Bool
-switchedOn d = not (eqb (d .digits) 0)

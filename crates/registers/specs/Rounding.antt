@@ -1,6 +1,7 @@
 -- Check 7: "The exact decimal value is rounded to the row's step, halves away from zero, and only then compared".
-use mathlib.Core.Bool.{Bool, true, false, _&&_}
+use mathlib.Core.Bool.{Bool, true, false, not, _&&_}
 use Prim.Native.Nat.{ℕ, _+_, _*_, _/_, _^_}
+use lib.Dec.{eqb}
 use lib.IntN.{ℤ, pos, negℤ}
 use lib.Signed.{leZ}
 use Rattle.registers.specs.Text.{if_then_else_}
@@ -27,3 +28,7 @@ rounded k d = signed (d .minus) (sizeIn k d)
 -- rounded, and only then compared with the lowest and the highest value; `Outside` is -222
 unfoldable pub fitted : ℕ → ℤ → ℤ → Decimal → Fit
 fitted k low high d = if leZ low (rounded k d) && leZ (rounded k d) high then Within (rounded k d) else Outside
+
+-- a bool is "ON, OFF, or a number": the number is rounded to a whole one, and zero is off (02, #102)
+unfoldable pub switchedOn : Decimal → Bool
+switchedOn d = not (eqb (sizeIn 1 d) 0)

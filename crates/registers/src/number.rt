@@ -1,10 +1,12 @@
 // Check 6: the number that a parameter starts with, exactly.
 use crate::error::Error;
+use crate::rounding;
 use crate::text;
 ghost use mathlib.Core.Path.{_≡_};
 ghost use Prim.Native.Nat.{_-_, _^_, _≤_, _<_};
 ghost use lib.ListN.{length};
-ghost use Rattle.registers.specs.Number.{number, meant, switchedOn};
+ghost use Rattle.registers.specs.Number.{number, meant};
+ghost use Rattle.registers.specs.Rounding.{switchedOn};
 ghost use Rattle.registers.specs.NumberParts.{held, DigitsRead, MantissaRead, ExponentRead, valueRead};
 
 // A number's exact value: its digits, times 10 to the power up, over 10 to the power down.
@@ -44,11 +46,11 @@ struct Exponent {
 const HELD: u64 = 1_000_000_000_000;
 
 impl Decimal {
-    // "zero is off, any other is on"
+    // Rounded to a whole number, "zero is off, any other is on".
     pub fn switches_on(self) -> bool
         ensures { λ r. ⌜ r ≡ switchedOn self ⌝ }
     {
-        self.digits != 0
+        rounding::size_of(self.digits, self.up as u64, self.down) != 0
     }
 }
 

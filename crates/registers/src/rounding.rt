@@ -42,7 +42,7 @@ fn lowered(x: u64, n: u64) -> u64
 }
 
 // x times 10 to the power up over 10 to the power down, rounded and held.
-fn size_of(x: u64, up: u64, down: u64) -> u64
+pub(crate) fn size_of(x: u64, up: u64, down: u64) -> u64
     ensures { λ r. ⌜ r ≡ min beyond (nearest (x * 10 ^ up) (10 ^ down)) ⌝ }
 {
     if down <= up {

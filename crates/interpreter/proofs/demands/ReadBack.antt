@@ -13,9 +13,9 @@ use borrow.Author.Tests.{ltb-true, leb-true, le-leb, eqb-true, ne-eqb}
 use Rattle.registers.specs.Text.{Text, if_then_else_, bytes, same, white, printable, digit, letter, wordByte, small, capital, every, empty, below}
 use Rattle.registers.specs.Check.{Checked, refused, passed, check, _>>=_, _>>_}
 use Rattle.registers.specs.Words.{shortForm, longForm, matches}
-use Rattle.registers.specs.Number.{afterSign, fractionOf, afterFraction, exponentOf, afterExponent, lowering, written, numeralFrom, decimalOf, valueOf, remains, number as readNumber, switchedOn}
+use Rattle.registers.specs.Number.{afterSign, fractionOf, afterFraction, exponentOf, afterExponent, lowering, written, numeralFrom, decimalOf, valueOf, remains, number as readNumber}
 use Rattle.registers.specs.NumberParts.{held}
-use Rattle.registers.specs.Rounding.{nearest, sizeIn, rounded}
+use Rattle.registers.specs.Rounding.{switchedOn, nearest, sizeIn, rounded}
 use Rattle.registers.specs.Answer.{inPlaces, decimal, tenths, signedText}
 use Rattle.registers.specs.Settings.{Kind, bool, words, number, table, settingAt, kindOf, lowestOf, highestOf, voltage, twelveVolts, wideRange, lowest, highest, within, conflict, answerOf}
 use Rattle.registers.specs.declared.settings.Settings.{Settings}

@@ -9,7 +9,7 @@ use lib.IntN.{ℤ, pos, negsuc}
 use lib.Signed.{leZ}
 use borrow.Author.Tests.{eqb-true, le-leb}
 use Rattle.registers.specs.Text.{if_then_else_}
-use Rattle.registers.specs.Number.{switchedOn}
+use Rattle.registers.specs.Rounding.{switchedOn}
 use Rattle.registers.specs.Settings.{Kind, bool, words, number, table, settingAt, kindOf, lowestOf, highestOf, lowest, highest, within, voltage, wideRange, twelveVolts}
 use Rattle.registers.specs.declared.number.Decimal.{Decimal}
 use Rattle.registers.specs.declared.settings.Settings.{Settings}

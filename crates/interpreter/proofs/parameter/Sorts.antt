@@ -12,8 +12,7 @@ use types.Run.{OneOf, miss}
 use denote.Enum.Declared.{tagOf}
 use borrow.Author.Tests.{leb-true, ltb-true, ltb-false}
 use Rattle.registers.specs.Text.{if_then_else_}
-use Rattle.registers.specs.Number.{switchedOn}
-use Rattle.registers.specs.Rounding.{rounded}
+use Rattle.registers.specs.Rounding.{switchedOn, rounded}
 use Rattle.registers.specs.Settings.{Kind, bool, words, number, table, settingAt, kindOf, valuesIn, highest}
 use Rattle.registers.specs.declared.number.Decimal.{Decimal}
 use Rattle.registers.specs.declared.settings.Settings.{Settings}

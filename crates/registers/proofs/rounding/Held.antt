@@ -3,13 +3,13 @@ use mathlib.Core.Path.{_≡_, refl, sym, _∙_}
 use mathlib.Core.Bool.{Bool, true, false, _&&_, and-false}
 use Prim.Native.Nat.{ℕ, zero, suc, _+_, _*_, _^_, min, _≤_}
 use native.Mathlib.Omega.{arith}
-use lib.Dec.{T, leb, leb→le}
+use lib.Dec.{T, leb, eqb, leb→le}
 use lib.IntN.{ℤ, pos, negsuc, negℤ, _-ℤ_, +ℤ-idl}
 use lib.Signed.{leZ}
 use mir.Syntax.{w32, w64}
 use mir.Val.{SFits, toZ, ofZ}
 use mir.Facts.{toZ-pos, toZ-ofZ, sfits-widen, and-yes}
-use borrow.Author.Tests.{leb-true, leb-false, lt-leb}
+use borrow.Author.Tests.{leb-true, leb-false, lt-leb, ne-eqb}
 use Rattle.registers.specs.Text.{if_then_else_}
 use Rattle.registers.specs.Rounding.{nearest, signed, sizeIn, rounded, fitted}
 use Rattle.registers.specs.RoundingParts.{beyond, heldIn}
@@ -88,3 +88,14 @@ module _ (k : ℕ) (d : Decimal) (low high : ℤ) (l : SFits w32 low) (h : SFits
   pub fit-no : inside low high v ≡ false → Outside ≡ fitted k low high d
   unfolding if_then_else_ chosen
   fit-no e = sym (fitted-held ∙ rw e)
+
+-- a size is held at zero exactly where it is zero: for a bool
+pub held-zero : (d : Decimal) (n : ℕ) → n ≡ min beyond (nearest (d .digits * 10 ^ d .up) (10 ^ d .down)) → eqb n 0 ≡ eqb (sizeIn 1 d) 0
+unfolding sizeIn
+held-zero d n e =
+    let one : d .digits * 10 ^ d .up * 1 ≡ d .digits * 10 ^ d .up = omega arith in
+    rw (e, one) (go (nearest (d .digits * 10 ^ d .up) (10 ^ d .down)))
+  where
+    go : (m : ℕ) → eqb (min beyond m) 0 ≡ eqb m 0
+    go zero = refl
+    go (suc m) = ne-eqb (min beyond (suc m)) 0 (λ q. omega arith) ∙ sym (ne-eqb (suc m) 0 (λ q. omega arith))

@@ -19,6 +19,30 @@ pub struct Lines {
     manner: Manner,
 }
 
+static PLAIN_BOOLS: [&str; 7] = ["ON", "OFF", "0", "1", "on", "0.4", "-1"];
+
+/// Among them numbers on both sides of a half.
+static VARIED_BOOLS: [&str; 18] = [
+    "ON",
+    "OFF",
+    "oN",
+    "off",
+    "0",
+    "1",
+    "-1",
+    "-0",
+    "0.4",
+    "-0.4",
+    "0.5",
+    "-0.5",
+    "5E-1",
+    "49E-2",
+    "0.49999999999",
+    "1E-9",
+    "-1E9",
+    "000.50",
+];
+
 /// Units that are refused wherever they stand.
 static FAULTY_UNITS: [&str; 72] = [
     "VOLTA 5",
@@ -186,10 +210,8 @@ impl Lines {
             }
             _ if query => None,
             Use::QueryOnly | Use::CommandOnly | Use::Both => None,
-            Use::Bool => Some(
-                dice.pick(&["ON", "OFF", "0", "1", "on", "0.4", "-1"])
-                    .into(),
-            ),
+            Use::Bool if self.manner == Manner::Plain => Some(dice.pick(&PLAIN_BOOLS).into()),
+            Use::Bool => Some(dice.pick(&VARIED_BOOLS).into()),
             Use::Words(words) => {
                 let word = dice.pick(words);
                 Some(spell(dice, word))
