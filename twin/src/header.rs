@@ -1,6 +1,6 @@
 //! Headers: their form (01, check 2), and the row that they spell (check 3).
 //!
-//! The rows of 01 are walked as one tree. A place in it stands for the nodes read so far, and the
+//! The rows of 01 and 02 are walked as one tree. A place in it stands for the nodes read so far, and the
 //! optional nodes are branches that lead on from every place where they may be kept or left out.
 //! So the path of 01 is a place too: the one before the header's last node.
 
@@ -8,7 +8,7 @@ use crate::error::Error;
 use crate::settings::Setting;
 use crate::text::{is_white_space, read_name, Spelling, Word};
 
-/// A row of 01: a setting, a register or a common command, in its setting and its query form.
+/// A row of 01 or 02: a setting, a register or a common command, in its setting and its query form.
 #[derive(Clone, Copy, Debug, PartialEq, Eq)]
 pub enum Row {
     Setting(Setting),
@@ -81,6 +81,7 @@ pub enum Place {
     Brightness,
     System,
     KeyLock,
+    Exam,
     ErrorQueue,
     Status,
     Operation,
@@ -152,9 +153,10 @@ static PEAK: [Branch; 4] = [
     branch("LOW", Place::PeakLow),
 ];
 static DISPLAY: [Branch; 1] = [branch("BRIGhtness", Place::Brightness)];
-static SYSTEM: [Branch; 2] = [
+static SYSTEM: [Branch; 3] = [
     branch("ERRor", Place::ErrorQueue),
     branch("KLOCk", Place::KeyLock),
+    branch("EXAM", Place::Exam),
 ];
 static STATUS: [Branch; 1] = [branch("OPERation", Place::Operation)];
 static OPERATION: [Branch; 5] = [
@@ -224,6 +226,7 @@ impl Place {
             Place::PeakLow => Row::Setting(Setting::PeakLow),
             Place::Brightness => Row::Setting(Setting::Brightness),
             Place::KeyLock => Row::Setting(Setting::KeyLock),
+            Place::Exam => Row::Setting(Setting::Exam),
             Place::ErrorQueue => Row::ErrorQueue,
             Place::Operation | Place::Event => Row::Event,
             Place::Condition => Row::Condition,

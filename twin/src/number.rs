@@ -1,5 +1,7 @@
 //! Reading, rounding and writing numbers, in integers throughout.
 
+use std::cmp::Ordering;
+
 use crate::error::Error;
 use crate::text::skip_white_space;
 
@@ -31,6 +33,14 @@ pub struct Decimal {
     power: i64,
 }
 
+/// A value rounded to a step, and what became of it by that (02, #107).
+#[derive(Clone, Copy, Debug, PartialEq, Eq)]
+pub struct Rounded {
+    pub steps: i64,
+    /// How the exact value compares with the rounded one: on the step, below it or above it.
+    pub side: Ordering,
+}
+
 static POWERS_OF_TEN: [u64; MOST_DIGITS + 1] = powers_of_ten();
 
 const fn powers_of_ten() -> [u64; MOST_DIGITS + 1] {
@@ -45,18 +55,22 @@ const fn powers_of_ten() -> [u64; MOST_DIGITS + 1] {
 
 impl Decimal {
     /// 01, check 7: rounded to the step, halves away from zero, and counted in steps.
-    pub fn in_steps(self, step: Step) -> i64 {
+    pub fn in_steps(self, step: Step) -> Rounded {
         let power = self.power + step.decimals();
-        let size = if power >= 0 {
-            scale_up(self.digits, power.unsigned_abs())
+        let (size, side) = if power >= 0 {
+            let size = scale_up(self.digits, power.unsigned_abs());
+            (size, Ordering::Equal)
         } else {
             scale_down(self.digits, power.unsigned_abs())
         };
-        let size = i64::try_from(size).unwrap_or(i64::MAX);
+        let steps = i64::try_from(size).unwrap_or(i64::MAX);
         if self.negative {
-            -size
+            Rounded {
+                steps: -steps,
+                side: side.reverse(),
+            }
         } else {
-            size
+            Rounded { steps, side }
         }
     }
 }
@@ -67,11 +81,15 @@ fn scale_up(digits: u64, power: u64) -> u64 {
     digits.saturating_mul(*factor.unwrap_or(&u64::MAX))
 }
 
-fn scale_down(digits: u64, power: u64) -> u64 {
+/// The rounded quotient, and how the exact one compares with it.
+fn scale_down(digits: u64, power: u64) -> (u64, Ordering) {
     match POWERS_OF_TEN.get(power as usize) {
-        Some(divisor) => (digits + divisor / 2) / divisor,
+        Some(divisor) => {
+            let rounded = (digits + divisor / 2) / divisor;
+            (rounded, digits.cmp(&(rounded * divisor)))
+        }
         // Twelve digits are less than a tenth of that divisor.
-        None => 0,
+        None => (0, digits.cmp(&0)),
     }
 }
 
@@ -227,5 +245,41 @@ impl Written {
 
     pub fn text(&self) -> &[u8] {
         &self.bytes[self.start..]
+    }
+}
+
+#[cfg(test)]
+mod tests {
+    use super::*;
+
+    #[test]
+    fn the_side_of_the_exact_value() {
+        use Ordering::{Equal, Greater, Less};
+        let small = ".".to_string() + &"0".repeat(400) + "1";
+        let values = [
+            ("7.3", Step::Tenth, 73, Equal),
+            ("7.25", Step::Tenth, 73, Less),
+            ("7.24", Step::Tenth, 72, Greater),
+            ("-0.5", Step::Tenth, -5, Equal),
+            ("-0.45", Step::Tenth, -5, Greater),
+            ("-0.44", Step::Tenth, -4, Less),
+            ("5.10000000000", Step::Tenth, 51, Equal),
+            ("5.10000000001", Step::Tenth, 51, Greater),
+            ("51E-1", Step::Tenth, 51, Equal),
+            ("51E-1", Step::One, 5, Greater),
+            ("9.5", Step::One, 10, Less),
+            ("-9.5", Step::One, -10, Greater),
+            ("1E9", Step::One, 1_000_000_000, Equal),
+            ("0", Step::One, 0, Equal),
+            ("-0", Step::Tenth, 0, Equal),
+            ("0E-9", Step::Tenth, 0, Equal),
+            ("1E-9", Step::Tenth, 0, Greater),
+            ("-1E-9", Step::One, 0, Less),
+            (&small, Step::Tenth, 0, Greater),
+        ];
+        for (text, step, steps, side) in values {
+            let rounded = read(text.as_bytes()).unwrap().in_steps(step);
+            assert_eq!(rounded, Rounded { steps, side }, "{text}");
+        }
     }
 }

@@ -1,7 +1,7 @@
-//! The headers as 01 prints them, for the tests and for the generator of histories. The library
-//! itself walks the tree of `header`.
+//! The headers as 01 and 02 print them, for the tests and for the generator of histories. The
+//! library itself walks the tree of `header`.
 
-/// What a header of 01 is for.
+/// What a header is for.
 #[derive(Clone, Copy, Debug, PartialEq, Eq)]
 pub enum Use {
     Bool,
@@ -22,7 +22,10 @@ pub type Printed = (Option<usize>, &'static str, Use);
 const MONITOR_MODES: Use = Use::Words(&["CURRent", "SCURrent", "VOLTage"]);
 const LIMIT_MODES: Use = Use::Words(&["CONTinuous", "OFF"]);
 
-pub static HEADERS: [Printed; 32] = [
+/// How many of the headers are 01's own; they come first, and those of 02's requests follow.
+pub const OF_01: usize = 32;
+
+pub static HEADERS: [Printed; 33] = [
     (Some(0), "OUTPut[:STATe]", Use::Bool),
     (Some(1), "OUTPut:PON", Use::Bool),
     (Some(2), "OUTPut:RELay", Use::Bool),
@@ -83,6 +86,7 @@ pub static HEADERS: [Printed; 32] = [
     (None, "*ESR", Use::QueryOnly),
     (None, "*STB", Use::QueryOnly),
     (None, "*CLS", Use::CommandOnly),
+    (Some(16), "SYSTem:EXAM", Use::Bool),
 ];
 
 /// The nodes of a printed header, each with the mark whether it may be left out.

@@ -1,9 +1,10 @@
-//! The sixteen settings, in the order of 01's table, numbers counted in steps.
+//! The settings: 01's sixteen in the order of its table, then exam mode (02, #107). Numbers are
+//! counted in steps.
 
 use crate::number::Step;
 use crate::text::Word;
 
-pub const SETTINGS: usize = 16;
+pub const SETTINGS: usize = 17;
 
 /// A setting, by its place in the record.
 #[derive(Clone, Copy, Debug, PartialEq, Eq)]
@@ -24,9 +25,10 @@ pub enum Setting {
     PeakLow,
     Brightness,
     KeyLock,
+    Exam,
 }
 
-/// What a row of 01's table takes.
+/// What a row of the table takes.
 pub enum Values {
     Bool,
     Words(&'static [Word]),
@@ -94,6 +96,7 @@ static ROWS: [Row; SETTINGS] = [
     number_row(Step::Tenth, 5, 80, 40),
     number_row(Step::Tenth, -80, -5, -40),
     number_row(Step::One, 0, 99, 50),
+    bool_row(0),
     bool_row(0),
 ];
 
@@ -167,6 +170,11 @@ impl Settings {
         } else {
             HIGHEST[setting as usize]
         }
+    }
+
+    /// 02, #107: an off-step number is then out of range.
+    pub(crate) fn exam_is_on(&self) -> bool {
+        self.get(Setting::Exam) != 0
     }
 
     /// 01, check 8.

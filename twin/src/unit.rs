@@ -1,9 +1,11 @@
 //! One line run unit by unit, and the nine checks on one unit.
 
+use std::cmp::Ordering;
+
 use crate::answer::Answer;
 use crate::error::Error;
 use crate::header::{self, Place, Register, Row};
-use crate::number::{self, Decimal, Step, Written};
+use crate::number::{self, Rounded, Step, Written};
 use crate::settings::{Setting, Settings, Values, R12V};
 use crate::status::{Status, FIFTEEN_BITS};
 use crate::text::{
@@ -115,12 +117,14 @@ impl Instrument {
     fn read_number(&self, setting: Setting, step: Step, parameter: &[u8]) -> Result<i32, Error> {
         match Parameter::read(parameter)? {
             Parameter::Word(spelling) => self.limit(setting, spelling),
-            Parameter::Number(text) => round_within(
-                number::read(text)?,
-                step,
-                self.settings.lowest(setting),
-                self.settings.highest(setting),
-            ),
+            Parameter::Number(text) => {
+                let rounded = number::read(text)?.in_steps(step);
+                if self.settings.exam_is_on() && rounded.side != Ordering::Equal {
+                    return Err(Error::DataOutOfRange);
+                }
+                let lowest = self.settings.lowest(setting);
+                within(lowest, self.settings.highest(setting), rounded)
+            }
         }
     }
 
@@ -144,7 +148,7 @@ impl Instrument {
             Register::EventStatusEnable | Register::ServiceRequestEnable => 255,
             _ => i32::from(FIFTEEN_BITS),
         };
-        let value = round_within(number::read(text)?, Step::One, 0, highest)? as u16;
+        let value = within(0, highest, number::read(text)?.in_steps(Step::One))? as u16;
         match register {
             Register::EventStatusEnable => self.status.ese = value,
             Register::ServiceRequestEnable => self.status.enable_service_request(value),
@@ -314,7 +318,7 @@ fn read_bool(parameter: &[u8]) -> Result<i32, Error> {
         Parameter::Word(_) => Err(Error::InvalidCharacterData),
         Parameter::Number(text) => {
             let rounded = number::read(text)?.in_steps(Step::One);
-            Ok(i32::from(rounded != 0))
+            Ok(i32::from(rounded.steps != 0))
         }
     }
 }
@@ -331,10 +335,9 @@ fn read_word(words: &[Word], parameter: &[u8]) -> Result<i32, Error> {
 }
 
 /// 01, check 7: rounded first, and only then compared.
-fn round_within(value: Decimal, step: Step, lowest: i32, highest: i32) -> Result<i32, Error> {
-    let steps = value.in_steps(step);
-    if i64::from(lowest) <= steps && steps <= i64::from(highest) {
-        Ok(steps as i32)
+fn within(lowest: i32, highest: i32, rounded: Rounded) -> Result<i32, Error> {
+    if i64::from(lowest) <= rounded.steps && rounded.steps <= i64::from(highest) {
+        Ok(rounded.steps as i32)
     } else {
         Err(Error::DataOutOfRange)
     }

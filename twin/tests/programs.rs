@@ -75,7 +75,7 @@ fn play(script: &str) -> Vec<String> {
 
 #[test]
 fn player_events() {
-    let reset = "0,0,1,2,0,0,500,10,1,1,1,1,40,-40,50,0";
+    let reset = "0,0,1,2,0,0,500,10,1,1,1,1,40,-40,50,0,0";
     let script = "l\np 564F4C543F0A\nt 2\nl\nt 6\nt 0\nc 5\nc 32768\ns\nu\np 2a4944\ns\n";
     let expected = [
         "l 0 0".to_string(),
@@ -100,7 +100,7 @@ fn player_hand_made_records() {
                   x queued 17\nx error.0 101\ns\nx queued 2\nx error.1 350\nl\n\
                   x line 600\ns\nx line 2\nx answer 3\ns";
     let reports = play(script);
-    let settings = "0,0,1,2,0,0,500,10,1,1,1,1,40,-80,50,0";
+    let settings = "0,0,1,2,0,0,500,10,1,1,1,1,40,-80,50,0,0";
     let rest = "128 0 0 0 0 0 32767 0";
     assert_eq!(reports[1], "l 4 0");
     assert_eq!(reports[2], "t 4 0 AAAAAA");
@@ -151,7 +151,7 @@ fn player_on_what_it_cannot_read() {
         "x esr 65536",
         "x esr -1",
         "x foo 1",
-        "x setting.16 0",
+        "x setting.17 0",
         "x setting.01 0",
         "x setting. 0",
         "x setting.0 2147483648",
@@ -174,6 +174,7 @@ fn player_on_what_it_cannot_read() {
         "t 0",
         "t 4096",
         "x setting.0 -2147483648",
+        "x setting.16 1",
         "x queued 65535",
     ];
     assert!(play(&readable.join("\n"))

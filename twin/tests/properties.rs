@@ -5,9 +5,9 @@ mod bench;
 
 use bench::*;
 use twin::paper::{nodes, Use, HEADERS};
-use twin::State;
+use twin::{State, SETTINGS};
 
-static UNITS: [&str; 65] = [
+static UNITS: [&str; 69] = [
     "VOLT 5",
     "VOLT 12.04",
     "VOLT 12.05",
@@ -42,6 +42,10 @@ static UNITS: [&str; 65] = [
     "DISP:BRIG 100",
     "SYST:KLOC ON",
     "KLOC?",
+    "SYST:EXAM 1",
+    "EXAM 0.4",
+    "EXAM?",
+    "VOLT 5.05",
     "SYST:ERR?",
     "ERR?",
     "*IDN?",
@@ -297,8 +301,8 @@ impl NumberText {
         format!("{sign}{whole}.{fraction}E{exponent}")
     }
 
-    /// In steps, or the error of checks 6 and 7.
-    fn expected(&self, decimals: i32, lowest: i64, highest: i64) -> Result<i64, u16> {
+    /// In steps, or the error of checks 6 and 7, where exam mode may forbid what is off the step.
+    fn expected(&self, decimals: i32, lowest: i64, highest: i64, exam: bool) -> Result<i64, u16> {
         let digits = format!("{}{}", self.whole, self.fraction);
         if digits.trim_start_matches('0').len() > 12 {
             return Err(124);
@@ -313,6 +317,9 @@ impl NumberText {
             digits += &"0".repeat(shift as usize);
         } else {
             let dropped = digits.split_off(digits.len() - shift.unsigned_abs() as usize);
+            if exam && dropped.contains(|digit| digit != '0') {
+                return Err(222);
+            }
             up = i128::from(dropped.as_bytes()[0] >= b'5');
         }
         let size = digits.trim_start_matches('0').parse::<i128>().unwrap_or(0) + up;
@@ -335,22 +342,34 @@ fn numbers_are_exact() {
     ];
     let mut dice = Dice(3);
     let mut accepted = 0;
+    let mut accepted_in_exam = 0;
     for _ in 0..60_000 {
         let number = NumberText::random(&mut dice);
         let &(header, place, decimals, lowest, highest) = dice.pick(&rows);
         let line = format!("{header} {}", number.text());
-        match number.expected(decimals, lowest, highest) {
+        match number.expected(decimals, lowest, highest, false) {
             Ok(value) => {
                 sets(&line, place, value as i32);
                 accepted += 1;
             }
             Err(error) => refused(&line, error),
         }
+        match number.expected(decimals, lowest, highest, true) {
+            Ok(value) => {
+                let bench = after(format!("SYST:EXAM 1;:{line}"));
+                assert_eq!(bench.errors(), [], "{line}");
+                assert_eq!(bench.setting(place), value as i32, "{line}");
+                accepted_in_exam += 1;
+            }
+            Err(error) => refused_after("SYST:EXAM 1", &format!(":{line}"), error),
+        }
     }
     assert!(accepted > 5000);
+    assert!(accepted_in_exam > 500);
 }
 
-/// Demand 2: the answer to a settings query, sent back, is accepted and changes nothing.
+/// Demand 2: the answer to a settings query, sent back, is accepted and changes nothing; in exam
+/// mode too.
 #[test]
 fn answers_can_be_sent_back() {
     for (place, printed, takes) in HEADERS {
@@ -363,10 +382,11 @@ fn answers_can_be_sent_back() {
             Use::Number(lowest, highest, false) => lowest / 10..=highest / 10,
             _ => continue,
         };
-        for value in values {
+        for (value, exam) in values.flat_map(|value| [(value, 0), (value, 1)]) {
             let mut bench = Bench::power_up();
             let settings = &mut bench.state.instrument.settings.values;
             settings[RANGE] = 1;
+            settings[EXAM] = exam;
             settings[place] = value;
             let before = bench.settings();
             let answer = bench.ask(format!("{header}?")).unwrap();
@@ -463,7 +483,7 @@ fn overwrite_something(state: &mut State, dice: &mut Dice) {
     ]);
     let status = &mut state.instrument.status;
     match dice.below(8) {
-        0 => state.instrument.settings.values[dice.below(16)] = odd as i32 - 100,
+        0 => state.instrument.settings.values[dice.below(SETTINGS)] = odd as i32 - 100,
         1 => status.queued = odd,
         2 => status.errors[dice.below(16)] = odd as u16,
         3 => status.esr = odd as u16,

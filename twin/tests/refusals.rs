@@ -102,6 +102,7 @@ fn four_settings() {
         (-80, -5),
         (0, 99),
         (0, 1),
+        (0, 1),
     ];
     for (place, (lowest, highest)) in limits.into_iter().enumerate() {
         let with = |value| overwritten(|state| state.instrument.settings.values[place] = value);

@@ -92,7 +92,7 @@ fn service_request() {
 
 #[test]
 fn power_up_and_reset() {
-    let reset = [0, 0, 1, 2, 0, 0, 500, 10, 1, 1, 1, 1, 40, -40, 50, 0];
+    let reset = [0, 0, 1, 2, 0, 0, 500, 10, 1, 1, 1, 1, 40, -40, 50, 0, 0];
     let mut bench = Bench::power_up();
     assert_eq!(bench.settings(), reset);
     assert_eq!(bench.state.look(), Ok(0));
@@ -100,7 +100,8 @@ fn power_up_and_reset() {
     assert_eq!(registers.as_deref(), Some("128;0;0;0;0;0;0;32767"));
     assert_eq!(bench.ask("SYST:ERR?").as_deref(), Some("0,\"No error\""));
 
-    let mut bench = after("VOLT:RANG R24V;LEV 20;:FREQ 60;*ESE 3;*SRE 5;OUTP ON;SYST:KLOC 1");
+    let mut bench =
+        after("VOLT:RANG R24V;LEV 20;:FREQ 60;*ESE 3;*SRE 5;OUTP ON;SYST:KLOC 1;EXAM 1");
     bench.send("FOO");
     let before = bench.state.clone();
     bench.send("*RST");
@@ -185,7 +186,7 @@ fn answers_of_settings() {
     answers("VOLT:RANG?", "R12V");
     answers("CURR:LIM:RMS?;RMS:MODE?;TIME?", "1.0;OFF;1");
     answers("CURR:LIM:PEAK:MODE?;TIME?;HIGH?;LOW?", "OFF;1;4.0;-4.0");
-    answers("DISP:BRIG?;:SYST:KLOC?", "50;0");
+    answers("DISP:BRIG?;:SYST:KLOC?;EXAM?", "50;0;0");
     answers("CURR:LIM:PEAK:LOW MAX;LOW?", "-0.5");
     answers("VOLT -0.04;VOLT?", "0.0");
     answers("OUTP:MON:MODE SCURRENT;MODE?", "SCUR");

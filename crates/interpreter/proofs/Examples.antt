@@ -1,18 +1,18 @@
--- The P lines of 01, computed from the definitions.
+-- The P lines of 01 and the lines of exam mode, computed from the definitions.
 use mathlib.Core.Path.{refl}
 use Rattle.registers.specs.Text.{if_then_else_, bytes, same, white, printable, digit, letter, wordByte, small, capital}
 use Rattle.registers.specs.Check.{_>>=_, _>>_, check}
 use Rattle.registers.specs.Words.{shortForm, longForm, matches}
 use Rattle.registers.specs.Number.{afterSign, fractionOf, afterFraction, exponentOf, afterExponent, lowering, written, numeralFrom, decimalOf, valueOf, remains, number}
-use Rattle.registers.specs.Rounding.{nearest, sizeIn, rounded}
+use Rattle.registers.specs.Rounding.{switchedOn, nearest, sizeIn, rounded, sizeSide, sideIn}
 use Rattle.registers.specs.Answer.{inPlaces, decimal, tenths}
 use Rattle.registers.specs.Errors.{eventBit}
-use Rattle.registers.specs.Settings.{table, settingAt, atReset, wideRange, lowest, highest, within, conflict, answerOf}
-use Rattle.registers.specs.Status.{raised, summary, statusByte, atStart}
+use Rattle.registers.specs.Settings.{table, settingAt, atReset, wideRange, lowest, highest, within, conflict, examined, accepted, answerOf}
+use Rattle.registers.specs.Status.{raised, summary, statusByte, storedIn, registerIn, atStart}
 use Rattle.interpreter.specs.Cuts.{cutAt, trimEnd, trim}
 use Rattle.interpreter.specs.Header.{name, placed, header, spells}
 use Rattle.interpreter.specs.Rows.{settingRows, otherRows, rows, fitsRow, findRow}
-use Rattle.interpreter.specs.Parameter.{parameters, least, greatest, findWord, parameter, valueGiven, settingDeed, deedOf}
+use Rattle.interpreter.specs.Parameter.{parameters, least, greatest, findWord, parameter, valueGiven, settingDeed, registerDeed, deedOf}
 use Rattle.interpreter.specs.Unit.{readUnit}
 use Rattle.interpreter.specs.Box.{powerUp}
 use Rattle.interpreter.specs.Deeds.{changed, replyTo, inquiryReply, joined, fitsAnswer, reply, perform}
@@ -23,10 +23,10 @@ use Rattle.interpreter.specs.Examples.{examples, outcome, ran, allSet, e
 pub all-hold : AllHold
 unfolding if_then_else_ bytes same white printable digit letter wordByte small capital _>>=_ _>>_ check shortForm longForm matches
     afterSign fractionOf afterFraction exponentOf afterExponent lowering written numeralFrom decimalOf valueOf remains number
-    nearest sizeIn rounded inPlaces decimal tenths eventBit
-    table settingAt atReset wideRange lowest highest within conflict answerOf raised summary statusByte atStart
+    switchedOn nearest sizeIn rounded sizeSide sideIn inPlaces decimal tenths eventBit
+    table settingAt atReset wideRange lowest highest within conflict examined accepted answerOf raised summary statusByte storedIn registerIn atStart
     cutAt trimEnd trim name placed header spells settingRows otherRows rows fitsRow findRow
-    parameters least greatest findWord parameter valueGiven settingDeed deedOf readUnit powerUp
+    parameters least greatest findWord parameter valueGiven settingDeed registerDeed deedOf readUnit powerUp
     changed replyTo inquiryReply joined fitsAnswer reply perform
     attempt refuse runUnits interrupted finished unitsOf runLine endLine held byte piece happens
     examples outcome ran allSet expected

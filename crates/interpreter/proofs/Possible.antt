@@ -37,7 +37,7 @@ use Rattle.interpreter.proofs.Choices.{if-elim}
 use Rattle.interpreter.proofs.unit.Checks.{Holds, passes, hold-bind, hold-check, holds-from}
 use Rattle.interpreter.proofs.unit.Allowed.{read-allowed, read-known}
 
--- ---- the bounds of a state as facts; its answer has at most k bytes, and there are sixteen settings
+-- ---- the bounds of a state as facts; its answer has at most k bytes, and there are seventeen settings
 
 pub record FitCore (k : ℕ) (c : Core) : Type 0 where
   pub settings : limits.Good (c .settings)
@@ -82,11 +82,11 @@ reset-long = refl
 pub change-fit : (k : ℕ) (x : changes.Change) (c : Core) → AllowedChange (c .settings) x → FitCore k c → FitCore k (changed x c)
 unfolding changed
 change-fit k Nothing c a f = f
-change-fit k (Put i v) c a f =
+change-fit k (Put i v side) c a f =
     fit-settings k c f _ (value-good (c .settings) i v (f .long) (f .settings) (a .1) (a .2) (a .0))
     (length-set (c .settings .values) i v ∙ f .long)
 change-fit k Reset c a f = fit-settings k c f atReset (limits.good-from atReset reset-possible) reset-long
-change-fit k (Store x n) c a f = fit-registers k c f _ (stored-fit x n (c .registers) a (f .registers))
+change-fit k (Store x n side) c a f = fit-registers k c f _ (stored-fit x n (c .registers) a (f .registers))
 
 cleared-fit : (k : ℕ) (c : Core) → FitCore k c → FitCore k (operationCleared c)
 cleared-fit k c f = fit-registers k c f _ (read-fit (c .registers) (f .registers))
@@ -284,14 +284,14 @@ fit-to b f =
     let sizes = and-true (le-leb _ _ (c .line)) (le-leb _ _ (c .answer)) in
     and-true (and-true (limits.good-to _ (c .settings)) (and-true (status.fit-to _ (c .registers)) sizes)) (status.good-to _ (f .trouble))
 
--- what an event leaves could again be the box's, and still has sixteen settings
+-- what an event leaves could again be the box's, and still has seventeen settings
 pub still-possible : (b : Box) (e : Event) → length (b .core .settings .values) ≡ count → possible b ≡ true
     → possible (happens b e .box) ≡ true
 still-possible b e long p = fit-to _ (event-fit b e (fit-from b long p))
 
-pub still-sixteen : (b : Box) (e : Event) → length (b .core .settings .values) ≡ count → possible b ≡ true
+pub still-counted : (b : Box) (e : Event) → length (b .core .settings .values) ≡ count → possible b ≡ true
     → length (happens b e .box .core .settings .values) ≡ count
-still-sixteen b e long p = event-fit b e (fit-from b long p) .core .long
+still-counted b e long p = event-fit b e (fit-from b long p) .core .long
 
 pub power-up-possible : possible powerUp ≡ true
 power-up-possible = fit-to powerUp power-up-fit

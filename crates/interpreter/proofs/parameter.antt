@@ -4,3 +4,4 @@ pub mod Sorts
 pub mod Limits
 pub mod Words
 pub mod Deeds
+pub mod Exam

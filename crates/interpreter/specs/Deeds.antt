@@ -1,4 +1,4 @@
--- "The sixteen settings" and "Registers and queue": what a unit that passed checks 1 to 8 does to the box; and check 9.
+-- The seventeen settings and "Registers and queue": what a unit that passed checks 1 to 8 does to the box; and check 9.
 use mathlib.Core.Bool.{Bool, not}
 use mathlib.Core.List.{_∷_, _++_}
 use Prim.Native.Char.{code}
@@ -20,13 +20,14 @@ use Rattle.interpreter.specs.declared.deed.Query.the-variants.{Identity,
 use Rattle.interpreter.specs.declared.deed.Inquiry as inquiries
 use Rattle.interpreter.specs.declared.deed.Inquiry.the-variants.{StandardEvents, StatusByte, NextError}
 
--- ---- changes: a setting, *RST ("the settings only"), a register; *WAI does nothing
+-- ---- changes: a setting, *RST ("the settings only"), a register; *WAI does nothing. What was rounded off a number is told with it
+-- (02, #107) and changes nothing
 
 unfoldable pub changed : changes.Change → Core → Core
 changed Nothing c = c
-changed (Put i v) c = withSettings (withValue i v (c .settings)) c
+changed (Put i v x) c = withSettings (withValue i v (c .settings)) c
 changed Reset c = withSettings atReset c
-changed (Store r n) c = withRegisters (storedIn r n (c .registers)) c
+changed (Store r n x) c = withRegisters (storedIn r n (c .registers)) c
 
 -- ---- queries that see the core alone: "*IDN? answers `COURSE,BENCH24,0,4.00`; *TST? `0`; *OPC? `1`", "Register answers are decimal"
 

@@ -15,7 +15,7 @@ use Rattle.registers.specs.declared.error.Error as errors
 use Rattle.registers.specs.declared.settings.Settings.{Settings}
 use Rattle.registers.specs.declared.status.Status.{Status}
 use Rattle.interpreter.specs.Parameter.{wordsOf}
-use Rattle.interpreter.specs.RowsParts.{commandTable}
+use Rattle.interpreter.specs.RowsParts.{wordBytes, commandTable}
 use Rattle.interpreter.specs.UnitParts.{Allowed}
 use Rattle.interpreter.specs.Box.{Core, Box, box, mostAnswer}
 use Rattle.interpreter.specs.Deeds.{replyTo, afterInquiry, joined, perform}
@@ -69,7 +69,7 @@ textOf (Error n) = errorText n
 abbrev pub Stands : Reply → Type 0
 Stands Nothing = Unit {0}
 Stands Identity = Unit {0}
-Stands (Word start end) = (start ≤ end) × (end ≤ 832)
+Stands (Word start end) = (start ≤ end) × (end ≤ wordBytes)
 Stands (Tenths v) = Unit {0}
 Stands (Whole v) = Unit {0}
 Stands (Number n) = Unit {0}
@@ -111,9 +111,9 @@ pub record GivenTo (reply : Reply) (answered : ℕ) (out : Text) (r : ℕ) (left
 
 abbrev pub settingsChanged : changes.Change → Settings → Settings
 settingsChanged noChange s = s
-settingsChanged (Put i v) s = withValue i v s
+settingsChanged (Put i v side) s = withValue i v s
 settingsChanged Reset s = atReset
-settingsChanged (Store x n) s = s
+settingsChanged (Store x n side) s = s
 
 abbrev pub settingsLeft : Deed → Settings → Settings
 settingsLeft (Change x) s = settingsChanged x s
@@ -124,9 +124,9 @@ settingsLeft (Inquire q) s = s
 
 abbrev pub registersChanged : changes.Change → Registers → Registers
 registersChanged noChange r = r
-registersChanged (Put i v) r = r
+registersChanged (Put i v side) r = r
 registersChanged Reset r = r
-registersChanged (Store x n) r = storedIn x n r
+registersChanged (Store x n side) r = storedIn x n r
 
 abbrev pub registersAsked : queries.Query → Registers → Registers
 registersAsked identity r = r

@@ -1,4 +1,5 @@
--- 01's "Lines to try" that are marked P, as one table: each is run from power-up and compared with what it must leave.
+-- 01's "Lines to try" that are marked P, and lines of exam mode (02, #107), as one table: each is run from power-up and compared with
+-- what it must leave.
 use mathlib.Core.Path.{_≡_}
 use mathlib.Core.List.{List, [], _∷_, _++_, map}
 use Prim.Native.Nat.{ℕ}
@@ -32,6 +33,21 @@ examples =
     ∷ example "VOLT:RANG R24V;LEV 20;RANG R12V" "" (221 ∷ []) ((4, pos 200) ∷ (5, pos 1) ∷ [])
     ∷ example "VOLT 5;;FREQ 60" "" (102 ∷ []) ((4, pos 50) ∷ [])
     ∷ example "VOLT?;*STB?" "0.0;16\n" [] []
+    -- exam mode: off the step is -222, within the limits or not, below the step or above it
+    ∷ example "SYST:EXAM 1\nVOLT 5.05" "" (222 ∷ []) ((16, pos 1) ∷ [])
+    ∷ example "SYST:EXAM 1\nVOLT 5.04" "" (222 ∷ []) ((16, pos 1) ∷ [])
+    ∷ example "SYST:EXAM 1\nVOLT 5.10" "" [] ((4, pos 51) ∷ (16, pos 1) ∷ [])
+    ∷ example "SYST:EXAM 1\nVOLT 99.99" "" (222 ∷ []) ((16, pos 1) ∷ [])
+    ∷ example "SYST:EXAM ON;:CURR:LIM:PEAK:LOW -0.45" "" (222 ∷ []) ((16, pos 1) ∷ [])
+    ∷ example "SYST:EXAM ON;:CURR:LIM:RMS:TIME 2.4" "" (222 ∷ []) ((16, pos 1) ∷ [])
+    ∷ example "SYST:EXAM ON;:VOLT MAX;:CURR:LIM:PEAK:LOW -0.5" "" [] ((4, pos 120) ∷ (13, minus 5) ∷ (16, pos 1) ∷ [])
+    -- bools and registers round as before, SYSTem:EXAM itself too
+    ∷ example "OUTP 1;:SYST:EXAM 1;:OUTP 0.4" "" [] ((16, pos 1) ∷ [])
+    ∷ example "SYST:EXAM 1;*ESE 4.4;*ESE?" "4\n" [] ((16, pos 1) ∷ [])
+    ∷ example "SYST:EXAM 1;EXAM 0.4;EXAM?" "0\n" [] []
+    -- it counts from the next unit on, and *RST ends it
+    ∷ example "VOLT 5.05;:SYST:EXAM 1;:VOLT 6.05" "" (222 ∷ []) ((4, pos 51) ∷ (16, pos 1) ∷ [])
+    ∷ example "SYST:EXAM 1;*RST;:VOLT 5.05;:SYST:EXAM?" "0\n" [] ((4, pos 51) ∷ [])
     ∷ []
 
 -- what is compared: the answer, the queue, and every setting
@@ -54,6 +70,6 @@ allSet (p ∷ ps) vs = allSet ps (set vs (p .0) (p .1))
 unfoldable pub expected : Example → Outcome
 expected e = record { answer = bytes (e .answer); queue = e .errors; values = allSet (e .sets) (atReset .values) }
 
--- every line of the table leaves what 01 says
+-- every line of the table leaves what 01 and 02 say
 abbrev pub AllHold : Type 0
 AllHold = map ran examples ≡ map expected examples

@@ -10,10 +10,12 @@ use Rattle.registers.specs.Text.{Text, if_then_else_, letter, digit, wordByte, 
 use Rattle.registers.specs.Check.{Checked, refused, passed, _>>=_, _>>_, check}
 use Rattle.registers.specs.Words.{matches}
 use Rattle.registers.specs.Number.{number as readNumber, sign, point}
-use Rattle.registers.specs.Rounding.{switchedOn, rounded}
-use Rattle.registers.specs.Settings.{Kind, bool, words, number, kindOf, lowest, highest, within, conflict}
+use Rattle.registers.specs.Rounding.{switchedOn, rounded, sideIn}
+use Rattle.registers.specs.Settings.{Kind, bool, words, number, kindOf, lowest, highest, within, conflict, accepted}
 use Rattle.registers.specs.Status.{widest}
 use Rattle.registers.specs.declared.number.Decimal.{Decimal}
+use Rattle.registers.specs.declared.rounding.Side.{Side}
+use Rattle.registers.specs.declared.rounding.Side.the-variants.{On}
 use Rattle.registers.specs.declared.settings.Settings.{Settings}
 use Rattle.registers.specs.declared.status.Register.{Register}
 use Rattle.interpreter.specs.Cuts.{cutAt, trim}
@@ -99,11 +101,21 @@ valueGiven s i (words ws) (Figure d) = pos 0
 valueGiven s i (number k low high) (Word n) = limitAt s i n
 valueGiven s i (number k low high) (Figure d) = rounded k d
 
+-- "whether the exact value was on the step, below or above it" (02, #107): a number of a row that has a step tells it. Words,
+-- MINimum and MAXimum are on the step, and so is whatever is given for a row that has none
+abbrev pub sideGiven : Kind → Given → Side
+sideGiven bool g = On
+sideGiven (words ws) g = On
+sideGiven (number k low high) (Word n) = On
+sideGiven (number k low high) (Figure d) = sideIn k d
+
+-- with the limits' -222 stands that of exam mode
 unfoldable pub settingDeed : Settings → ℕ → Text → Checked Deed
 settingDeed s i t =
     parameter (wordsOf (kindOf i)) (takesNumbers (kindOf i)) t >>= λ g.
     let v = valueGiven s i (kindOf i) g in
-    check 222 (within s i v) >> check 221 (not (conflict s i v)) >> passed (Change (Put i v))
+    let x = sideGiven (kindOf i) g in
+    check 222 (within s i v) >> check 222 (accepted s x) >> check 221 (not (conflict s i v)) >> passed (Change (Put i v x))
 
 -- the query of a number row with MINimum or MAXimum; a number in a query was refused by check 5
 abbrev pub limitGiven : Settings → ℕ → Given → ℤ
@@ -118,11 +130,15 @@ abbrev pub registerGiven : Given → ℤ
 registerGiven (Word n) = pos n
 registerGiven (Figure d) = rounded 1 d
 
+abbrev pub registerSide : Given → Side
+registerSide (Word n) = On
+registerSide (Figure d) = sideIn 1 d
+
 unfoldable pub registerDeed : Register → Text → Checked Deed
 registerDeed r t =
     parameter [] true t >>= λ g.
     let v = registerGiven g in
-    check 222 (leZ (pos 0) v && leZ v (pos (widest r))) >> passed (Change (Store r (natAbs v)))
+    check 222 (leZ (pos 0) v && leZ v (pos (widest r))) >> passed (Change (Store r (natAbs v) (registerSide g)))
 
 -- checks 5 to 8; a parameter is there where check 4 asked for one
 unfoldable pub deedOf : Settings → Role → Bool → List Text → Checked Deed

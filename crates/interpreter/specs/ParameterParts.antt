@@ -12,13 +12,15 @@ use Rattle.registers.specs.Text.{Text, if_then_else_, wordByte, every, empty}
 use Rattle.registers.specs.Check.{Checked, refused, passed, _>>=_, _>>_, check}
 use Rattle.registers.specs.Errors.{numberOf}
 use Rattle.registers.specs.Number.{number as readNumber}
-use Rattle.registers.specs.Settings.{Kind, bool, words, number, within, conflict}
+use Rattle.registers.specs.Settings.{Kind, bool, words, number, within, conflict, accepted}
 use Rattle.registers.specs.Status.{widest}
 use Rattle.registers.specs.declared.rounding.Fit.{Fit}
 use Rattle.registers.specs.declared.rounding.Fit.the-variants.{Within, Outside}
+use Rattle.registers.specs.declared.rounding.Rounded.{Rounded}
+use Rattle.registers.specs.declared.rounding.Side.{Side}
 use Rattle.registers.specs.declared.settings.Settings.{Settings}
 use Rattle.registers.specs.declared.status.Register.{Register}
-use Rattle.interpreter.specs.RowsParts.{wordList}
+use Rattle.interpreter.specs.RowsParts.{wordCount, wordList}
 use Rattle.interpreter.specs.Parameter.{Given, Word, Figure, parameters, findWord, registerDeed}
 use Rattle.interpreter.specs.declared.deed.Deed.{Deed}
 use Rattle.interpreter.specs.declared.deed.Deed.the-variants.{Change, Query}
@@ -54,7 +56,7 @@ takenWords x = take (x .count) (drop (x .first) wordList)
 pub record TakesOf (ws : List String) (also : Bool) (r : Takes) : Type 0 where
   pub words : takenWords r ≡ ws
   pub numbers : r .numbers ≡ also
-  pub room : r .first + r .count ≤ 52
+  pub room : r .first + r .count ≤ wordCount
 
 -- check 5 on a word, and check 6
 unfoldable pub aWord : List String → Text → Checked Given
@@ -69,19 +71,22 @@ isNumber bool = false
 isNumber (words ws) = false
 isNumber (number k low high) = true
 
--- a value, where it is within the limits
+-- a value, where it is within the limits, and what was rounded off
 unfoldable pub fitIn : Settings → ℕ → ℤ → Fit
 fitIn s i v = if within s i v then Within v else Outside
 
--- check 8 on a value of a setting that check 7 let pass, or not; a query asks for it
-unfoldable pub putFit : Settings → ℕ → Bool → Fit → Checked Deed
-putFit s i asked Outside = refused 222
-putFit s i true (Within v) = passed (Query (Limit i v))
-putFit s i false (Within v) = check 221 (not (conflict s i v)) >> passed (Change (Put i v))
+abbrev pub roundedTo : Settings → ℕ → ℤ → Side → Rounded
+roundedTo s i v x = record { fit = fitIn s i v; side = x }
+
+-- exam mode and check 8 on a value of a setting that the limits let pass, or not; a query asks for it
+unfoldable pub putFit : Settings → ℕ → Bool → Fit → Side → Checked Deed
+putFit s i asked Outside x = refused 222
+putFit s i true (Within v) x = passed (Query (Limit i v))
+putFit s i false (Within v) x = check 222 (accepted s x) >> check 221 (not (conflict s i v)) >> passed (Change (Put i v x))
 
 -- check 7 on a number for a register
-unfoldable pub storeTo : Register → ℤ → Checked Deed
-storeTo x v = check 222 (leZ (pos 0) v && leZ v (pos (widest x))) >> passed (Change (Store x (natAbs v)))
+unfoldable pub storeTo : Register → ℤ → Side → Checked Deed
+storeTo x v side = check 222 (leZ (pos 0) v && leZ v (pos (widest x))) >> passed (Change (Store x (natAbs v) side))
 
 -- the parameters of a text that has none, or one
 abbrev pub partsOf : ℕ → Text → List Text

@@ -1,4 +1,4 @@
--- "The sixteen settings" and "Registers and queue": every header that the box knows, with what it is for; and check 3.
+-- The seventeen settings and "Registers and queue": every header that the box knows, with what it is for; and check 3.
 use mathlib.Core.Bool.{Bool, true, false, not, _&&_}
 use mathlib.Core.List.{List, [], _∷_, _++_}
 use Prim.Native.Nat.{ℕ, suc}

@@ -31,15 +31,35 @@ deedIn (Register x) = Inquire NextError
 deedIn (Order d) = d
 deedIn (Question d) = d
 
--- ---- words: those of the headers, and from place 42 on those of the parameters, so that each row's words stand together
+-- ---- words: those of the headers, and behind them those of the parameters, so that each row's words stand together
 
 unfoldable pub wordList : List String
 wordList =
     "OUTPut" ∷ "STATe" ∷ "PON" ∷ "RELay" ∷ "MONitor" ∷ "MODE" ∷ "SOURce" ∷ "VOLTage" ∷ "LEVel" ∷ "IMMediate" ∷ "AMPLitude" ∷ "RANGe"
     ∷ "FREQuency" ∷ "CURRent" ∷ "LIMit" ∷ "RMS" ∷ "PEAK" ∷ "TIME" ∷ "HIGH" ∷ "LOW" ∷ "DISPlay" ∷ "BRIGhtness" ∷ "SYSTem" ∷ "KLOCk"
     ∷ "IDN" ∷ "TST" ∷ "OPC" ∷ "WAI" ∷ "RST" ∷ "CLS" ∷ "ESE" ∷ "SRE" ∷ "ESR" ∷ "STB" ∷ "STATus" ∷ "OPERation" ∷ "CONDition" ∷ "EVENt"
-    ∷ "ENABle" ∷ "NTRansition" ∷ "PTRansition" ∷ "ERRor"
+    ∷ "ENABle" ∷ "NTRansition" ∷ "PTRansition" ∷ "ERRor" ∷ "EXAM"
     ∷ "CURRent" ∷ "SCURrent" ∷ "VOLTage" ∷ "R12V" ∷ "R24V" ∷ "CONTinuous" ∷ "OFF" ∷ "ON" ∷ "MINimum" ∷ "MAXimum" ∷ []
+
+-- how many words there are, how many of them are the headers', and how many rows
+abbrev pub wordCount : ℕ
+wordCount = 53
+
+abbrev pub headerWords : ℕ
+headerWords = 43
+
+abbrev pub rowCount : ℕ
+rowCount = 34
+
+-- how many bytes the words take in the table, the rows, and both
+abbrev pub wordBytes : ℕ
+wordBytes = wordCount * 16
+
+abbrev pub rowBytes : ℕ
+rowBytes = rowCount * 8
+
+abbrev pub tableBytes : ℕ
+tableBytes = wordBytes + rowBytes
 
 unfoldable pub wordAt : ℕ → String
 wordAt i = getD wordList i ""

@@ -7,11 +7,11 @@ use lib.ListN.{length, take}
 use Rattle.registers.specs.Text.{Text, if_then_else_, every, empty}
 use Rattle.registers.specs.Check.{Checked, refused, passed, _>>=_, _>>_, check}
 use Rattle.registers.specs.Errors.{numberOf}
-use Rattle.registers.specs.Settings.{within, conflict}
+use Rattle.registers.specs.Settings.{count, within, conflict, accepted}
 use Rattle.registers.specs.Status.{widest}
 use Rattle.registers.specs.declared.settings.Settings.{Settings}
 use Rattle.interpreter.specs.Parameter.{parameters, least, greatest, deedOf}
-use Rattle.interpreter.specs.RowsParts.{roleAt, named}
+use Rattle.interpreter.specs.RowsParts.{rowCount, roleAt, named}
 use Rattle.interpreter.specs.HeaderParts.{closed}
 use Rattle.interpreter.specs.Unit.{readUnit}
 use Rattle.interpreter.specs.declared.deed.Deed.{Deed}
@@ -24,9 +24,9 @@ use Rattle.interpreter.specs.declared.deed.Role.{Role}
 use Rattle.interpreter.specs.declared.parameter.Decision.{Decision}
 use Rattle.interpreter.specs.declared.parameter.Decision.the-variants.{Refused, Obey}
 
--- the role of the row that a search found: 33 is none
+-- the role of the row that a search found, if it found one
 unfoldable pub roleFound : ℕ → Checked Role
-roleFound row = if ltb row 33 then passed (roleAt row) else refused 113
+roleFound row = if ltb row rowCount then passed (roleAt row) else refused 113
 
 -- the checks behind the header
 unfoldable pub decided : Settings → ℕ → Bool → Text → Checked Deed
@@ -45,20 +45,21 @@ UnitRead s path u (Obey d) used buffer =
     × (closed (take used buffer) ≡ true)
     × (used ≤ length path + length u)
 
--- ---- what an accepted unit may do: what it stores is within its limits, and the settings that it names are there
+-- ---- what an accepted unit may do: what it stores is within its limits and, in exam mode, on the step, and the settings that
+-- it names are there
 
 abbrev pub AllowedChange : Settings → Change → Type 0
 AllowedChange s Nothing = Unit {0}
-AllowedChange s (Put i v) = (i < 16) × (within s i v ≡ true) × (conflict s i v ≡ false)
+AllowedChange s (Put i v x) = (i < count) × (within s i v ≡ true) × (conflict s i v ≡ false) × (accepted s x ≡ true)
 AllowedChange s Reset = Unit {0}
-AllowedChange s (Store x n) = n ≤ widest x
+AllowedChange s (Store x n side) = n ≤ widest x
 
 abbrev pub AllowedQuery : Query → Type 0
 AllowedQuery Identity = Unit {0}
 AllowedQuery SelfTest = Unit {0}
 AllowedQuery Completed = Unit {0}
-AllowedQuery (Limit i v) = i < 16
-AllowedQuery (Value i) = i < 16
+AllowedQuery (Limit i v) = i < count
+AllowedQuery (Value i) = i < count
 AllowedQuery (Stored x) = Unit {0}
 AllowedQuery Condition = Unit {0}
 AllowedQuery OperationEvents = Unit {0}

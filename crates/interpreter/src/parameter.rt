@@ -10,6 +10,8 @@ use registers::number::Decimal;
 use registers::number::Reading;
 use registers::rounding;
 use registers::rounding::Fit;
+use registers::rounding::Rounded;
+use registers::rounding::Side;
 use registers::settings::Settings;
 use registers::settings::Values;
 use registers::status::Register;
@@ -17,11 +19,11 @@ use registers::text;
 ghost use mathlib.Core.Path.{_≡_};
 ghost use mathlib.Core.Bool.{true, not, _&&_};
 ghost use Prim.Native.Nat.{_+_, _≤_, _<_};
-ghost use Rattle.registers.specs.Rounding.{rounded};
-ghost use Rattle.registers.specs.Settings.{kindOf};
-ghost use Rattle.interpreter.specs.RowsParts.{commandTable};
-ghost use Rattle.interpreter.specs.Parameter.{Word, Figure, parameter, wordsOf, takesNumbers, least, greatest, valueGiven, deedOf};
-ghost use Rattle.interpreter.specs.ParameterParts.{meantGiven, meantDeed, CountedIn, takenWords, TakesOf, aWord, isNumber, fitIn, putFit, storeTo, registerTo, partsOf};
+ghost use Rattle.registers.specs.Rounding.{rounded, sideIn};
+ghost use Rattle.registers.specs.Settings.{count, kindOf};
+ghost use Rattle.interpreter.specs.RowsParts.{wordCount, commandTable};
+ghost use Rattle.interpreter.specs.Parameter.{Word, Figure, parameter, wordsOf, takesNumbers, least, greatest, valueGiven, sideGiven, deedOf};
+ghost use Rattle.interpreter.specs.ParameterParts.{meantGiven, meantDeed, CountedIn, takenWords, TakesOf, aWord, isNumber, roundedTo, putFit, storeTo, registerTo, partsOf};
 
 // Checks 5 and 6 on a parameter: a word of the row by its place in the row's list, or a number.
 pub(crate) enum Parameter {
@@ -49,11 +51,14 @@ pub(crate) struct Takes {
     pub(crate) numbers: bool,
 }
 
-// Where each setting's words begin in the table of words, from place 42 on, and how many there are.
-// The first six are those of the settings that take words only.
-const FIRST_WORDS: [u8; 16] = [6, 6, 6, 0, 8, 3, 8, 8, 5, 5, 8, 8, 8, 8, 8, 6];
+// Where the parameters' words begin in the table of words: behind those of the headers.
+const HEADER_WORDS: usize = 43;
 
-const WORD_COUNTS: [u8; 16] = [2, 2, 2, 3, 2, 2, 2, 2, 2, 2, 2, 2, 2, 2, 2, 2];
+// Where each setting's words begin among those of the parameters, and how many there are. The first six
+// are those of the settings that take words only.
+const FIRST_WORDS: [u8; Settings::COUNT] = [6, 6, 6, 0, 8, 3, 8, 8, 5, 5, 8, 8, 8, 8, 8, 6, 6];
+
+const WORD_COUNTS: [u8; Settings::COUNT] = [2, 2, 2, 3, 2, 2, 2, 2, 2, 2, 2, 2, 2, 2, 2, 2, 2];
 
 // Counts the parameters of a text without white space around it.
 pub(crate) fn count(text: &[u8]) -> Counted
@@ -88,14 +93,14 @@ pub(crate) fn count(text: &[u8]) -> Counted
 
 // What a setting takes.
 pub(crate) fn setting_takes(row: usize) -> Takes
-    requires { ⌜ row < 16 ⌝ }
+    requires { ⌜ row < count ⌝ }
     ensures { λ r. ⌜ TakesOf (wordsOf (kindOf row)) (takesNumbers (kindOf row)) r ⌝ }
 {
     let firsts = FIRST_WORDS;
     let counts = WORD_COUNTS;
     let first = firsts[row] as usize;
     Takes {
-        first: 42 + first,
+        first: HEADER_WORDS + first,
         count: counts[row] as usize,
         numbers: 6 <= first,
     }
@@ -104,7 +109,7 @@ pub(crate) fn setting_takes(row: usize) -> Takes
 // Check 5 on a parameter that starts with a letter. A word with other bytes than letters, digits and
 // underscore is none of the table, so the search refuses it by the same number.
 fn find_word(table: &[u8], takes: Takes, text: &[u8]) -> Parameter
-    requires { ⌜ (now table ≡ commandTable) × (takes .first + takes .count ≤ 52) ⌝ }
+    requires { ⌜ (now table ≡ commandTable) × (takes .first + takes .count ≤ wordCount) ⌝ }
     ensures { λ r. ⌜ meantGiven r ≡ aWord (takenWords takes) (now (text .entry)) ⌝ }
 {
     let mut n: usize = 0;
@@ -121,7 +126,7 @@ fn find_word(table: &[u8], takes: Takes, text: &[u8]) -> Parameter
 
 // Checks 5 and 6. A digit, a sign or a point starts a number, and no query takes one.
 fn read_parameter(table: &[u8], takes: Takes, asked: bool, text: &[u8]) -> Parameter
-    requires { ⌜ (now table ≡ commandTable) × (takes .first + takes .count ≤ 52) ⌝ }
+    requires { ⌜ (now table ≡ commandTable) × (takes .first + takes .count ≤ wordCount) ⌝ }
     ensures { λ r. ⌜ meantGiven r ≡ parameter (takenWords takes) (takes .numbers && not asked) (now (text .entry)) ⌝ }
 {
     let b = text::byte_at(text, 0);
@@ -150,10 +155,10 @@ fn is_number(row: usize) -> bool
     }
 }
 
-// The value of a number for a setting, where it is within the limits. A row of words takes none: check
-// 5 refused it.
-fn figure_value(settings: Settings, row: usize, d: Decimal) -> Fit
-    ensures { λ r. ⌜ r ≡ fitIn settings row (valueGiven settings row (kindOf row) (Figure d)) ⌝ }
+// The value of a number for a setting, where it is within the limits, and what was rounded off. A bool has
+// no step to be off. A row of words takes no number: check 5 refused it.
+fn figure_value(settings: Settings, row: usize, d: Decimal) -> Rounded
+    ensures { λ r. ⌜ r ≡ roundedTo settings row (valueGiven settings row (kindOf row) (Figure d)) (sideGiven (kindOf row) (Figure d)) ⌝ }
 {
     let low = Settings::lowest(row);
     let high = settings.highest(row);
@@ -161,15 +166,21 @@ fn figure_value(settings: Settings, row: usize, d: Decimal) -> Fit
     match values {
         Values::Tenths => rounding::round_in(d, 1, low, high),
         Values::Whole => rounding::round_in(d, 0, low, high),
-        Values::Bool => Fit::Within(d.switches_on() as i32),
-        Values::Word => Fit::Within(0),
+        Values::Bool => Rounded {
+            fit: Fit::Within(d.switches_on() as i32),
+            side: Side::On,
+        },
+        Values::Word => Rounded {
+            fit: Fit::Within(0),
+            side: Side::On,
+        },
     }
 }
 
 // The value of a word for a setting, which is within the limits. MINimum is the first of a number's two
 // words, MAXimum the other.
 fn word_value(settings: Settings, row: usize, word: usize) -> i32
-    requires { ⌜ word < 52 ⌝ }
+    requires { ⌜ word < wordCount ⌝ }
     ensures { λ r. ⌜ r ≡ valueGiven settings row (kindOf row) (Word word) ⌝ }
 {
     if !is_number(row) {
@@ -199,9 +210,9 @@ fn obey_query(query: Query) -> Decision
     Decision::Obey(Deed::Query(query))
 }
 
-// Check 8 on a value of a setting, where check 7 let one pass. A query asks for it.
-fn put(settings: Settings, row: usize, asked: bool, fit: Fit) -> Decision
-    ensures { λ r. ⌜ meantDeed r ≡ putFit settings row asked fit ⌝ }
+// Exam mode and check 8 on a value of a setting, where the limits let one pass. A query asks for it.
+fn put(settings: Settings, row: usize, asked: bool, fit: Fit, side: Side) -> Decision
+    ensures { λ r. ⌜ meantDeed r ≡ putFit settings row asked fit side ⌝ }
 {
     match fit {
         Fit::Outside => return Decision::Refused(Error::DataOutOfRange),
@@ -209,24 +220,30 @@ fn put(settings: Settings, row: usize, asked: bool, fit: Fit) -> Decision
             if asked {
                 return obey_query(Query::Limit { row, value });
             }
+            if !settings.accepts(side) {
+                return Decision::Refused(Error::DataOutOfRange);
+            }
             if settings.conflicts(row, value) {
                 return Decision::Refused(Error::SettingsConflict);
             }
-            return Decision::Obey(Deed::Change(Change::Put { row, value }));
+            return Decision::Obey(Deed::Change(Change::Put { row, value, side }));
         }
     }
 }
 
 // Check 7 on a number for a register.
 fn store(register: Register, d: Decimal) -> Decision
-    ensures { λ r. ⌜ meantDeed r ≡ storeTo register (rounded 1 d) ⌝ }
+    ensures { λ r. ⌜ meantDeed r ≡ storeTo register (rounded 1 d) (sideIn 1 d) ⌝ }
 {
-    let fit = rounding::round_in(d, 0, 0, register.widest() as i32);
+    let rounded = rounding::round_in(d, 0, 0, register.widest() as i32);
+    let fit = rounded.fit;
+    let side = rounded.side;
     match fit {
         Fit::Outside => return Decision::Refused(Error::DataOutOfRange),
         Fit::Within(value) => return Decision::Obey(Deed::Change(Change::Store {
             register,
             value: value as u16,
+            side,
         })),
     }
 }
@@ -240,7 +257,7 @@ pub(crate) fn decide_setting(
     parts: usize,
     text: &[u8],
 ) -> Decision
-    requires { ⌜ (now table ≡ commandTable) × (row < 16) ⌝ }
+    requires { ⌜ (now table ≡ commandTable) × (row < count) ⌝ }
     requires { ⌜ (least (Role.Setting row) asked ≤ parts) × (parts ≤ greatest (Role.Setting row) asked) ⌝ }
     ensures { λ r. ⌜ meantDeed r ≡ deedOf settings (Role.Setting row) asked (partsOf parts (now (text .entry))) ⌝ }
 {
@@ -252,10 +269,13 @@ pub(crate) fn decide_setting(
         Parameter::Refused(e) => return Decision::Refused(e),
         Parameter::Word(word) => {
             let value = word_value(settings, row, word);
-            return put(settings, row, asked, Fit::Within(value));
+            return put(settings, row, asked, Fit::Within(value), Side::On);
         }
         Parameter::Figure(d) => {
-            return put(settings, row, asked, figure_value(settings, row, d));
+            let rounded = figure_value(settings, row, d);
+            let fit = rounded.fit;
+            let side = rounded.side;
+            return put(settings, row, asked, fit, side);
         }
     }
 }

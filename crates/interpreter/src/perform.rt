@@ -47,7 +47,7 @@ fn settings_after(settings: Settings, deed: Deed) -> Settings
 {
     match deed {
         Deed::Change(change) => match change {
-            Change::Put { row, value } => return settings.store(row, value),
+            Change::Put { row, value, .. } => return settings.store(row, value),
             Change::Reset => return Settings::reset(),
             _ => return settings,
         },
@@ -62,7 +62,11 @@ fn status_after(status: Status, deed: Deed) -> Status
 {
     match deed {
         Deed::Change(change) => match change {
-            Change::Store { register, value } => return status.store(register, value),
+            Change::Store {
+                register,
+                value,
+                ..
+            } => return status.store(register, value),
             _ => return status,
         },
         Deed::Complete => return status.complete(),

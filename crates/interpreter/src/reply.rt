@@ -13,7 +13,7 @@ ghost use mathlib.Core.Path.{_≡_};
 ghost use Prim.Native.Nat.{_<_};
 ghost use lib.ListN.{length};
 ghost use Rattle.registers.specs.Answer.{Laid};
-ghost use Rattle.registers.specs.Settings.{kindOf, answerOf};
+ghost use Rattle.registers.specs.Settings.{count, kindOf, answerOf};
 ghost use Rattle.interpreter.specs.Box.{mostAnswer};
 ghost use Rattle.interpreter.specs.Deeds.{replyTo};
 ghost use Rattle.interpreter.specs.RowsParts.{commandTable};
@@ -32,7 +32,7 @@ pub(crate) enum Reply {
 
 // The short form of a setting's word by its place; at a place that has no word it is empty.
 fn to_word(table: &[u8], row: usize, value: i32) -> Reply
-    requires { ⌜ (now table ≡ commandTable) × (row < 16) ⌝ }
+    requires { ⌜ (now table ≡ commandTable) × (row < count) ⌝ }
     ensures { λ r. ⌜ RepliesWith (placeText row value) r ⌝ }
 {
     let takes = parameter::setting_takes(row);

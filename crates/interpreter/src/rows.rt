@@ -4,13 +4,18 @@ ghost use mathlib.Core.Path.{_≡_};
 ghost use Prim.Native.Nat.{_≤_, _<_};
 ghost use lib.ListN.{length};
 ghost use Rattle.registers.specs.Words.{longForm};
-ghost use Rattle.interpreter.specs.RowsParts.{commandTable, wordAt, rowOf, named, agreed, formLength, WordTaken, wordCell, rowCell, wordIn, nodeOf, Walked, formBit};
+ghost use Rattle.interpreter.specs.RowsParts.{wordCount, rowCount, commandTable, wordAt, rowOf, named, agreed, formLength, WordTaken, wordCell, rowCell, wordIn, nodeOf, Walked, formBit};
 
 // How many rows there are.
-pub(crate) const ROWS: usize = 33;
+pub(crate) const ROWS: usize = 34;
 
-// Where the rows begin in the table: behind its 52 words of 16 bytes.
-const FIRST_ROW: usize = 832;
+// How many words there are.
+const WORDS: usize = 53;
+
+// Where the rows begin in the table, behind its words of 16 bytes, and where they end.
+const FIRST_ROW: usize = WORDS * 16;
+
+pub(crate) const TABLE: usize = FIRST_ROW + ROWS * 8;
 
 // More nodes than any row has: what is passed of a row that was not walked.
 const UNTRIED: usize = 8;
@@ -22,14 +27,14 @@ enum Walk {
 }
 
 fn word_cell(table: &[u8], word: usize, i: usize) -> u8
-    requires { ⌜ (now table ≡ commandTable) × (word < 52) × (i < 16) ⌝ }
+    requires { ⌜ (now table ≡ commandTable) × (word < wordCount) × (i < 16) ⌝ }
     ensures { λ r. ⌜ r ≡ wordCell word i ⌝ }
 {
     table[word * 16 + i]
 }
 
 fn row_cell(table: &[u8], row: usize, i: usize) -> u8
-    requires { ⌜ (now table ≡ commandTable) × (row < 33) × (i < 8) ⌝ }
+    requires { ⌜ (now table ≡ commandTable) × (row < rowCount) × (i < 8) ⌝ }
     ensures { λ r. ⌜ r ≡ rowCell row i ⌝ }
 {
     table[FIRST_ROW + row * 8 + i]
@@ -37,7 +42,7 @@ fn row_cell(table: &[u8], row: usize, i: usize) -> u8
 
 // Whether a word's short or its long form has so many letters.
 pub(crate) fn has_length(table: &[u8], word: usize, n: usize) -> bool
-    requires { ⌜ (now table ≡ commandTable) × (word < 52) ⌝ }
+    requires { ⌜ (now table ≡ commandTable) × (word < wordCount) ⌝ }
     ensures { λ r. ⌜ r ≡ formLength word n ⌝ }
 {
     let short = word_cell(table, word, 0) as usize;
@@ -47,7 +52,7 @@ pub(crate) fn has_length(table: &[u8], word: usize, n: usize) -> bool
 
 // How many first bytes of a text are a word's letters, in any letter case.
 pub(crate) fn agreed_letters(table: &[u8], text: &[u8], word: usize) -> usize
-    requires { ⌜ (now table ≡ commandTable) × (word < 52) ⌝ }
+    requires { ⌜ (now table ≡ commandTable) × (word < wordCount) ⌝ }
     ensures { λ r. ⌜ r ≡ agreed (now (text .entry)) (longForm (wordAt word)) ⌝ }
 {
     let long = word_cell(table, word, 1) as usize;
@@ -68,7 +73,7 @@ pub(crate) fn agreed_letters(table: &[u8], text: &[u8], word: usize) -> usize
 // the letters finds the name's end too. Most names differ from a word in the first letter, so that is
 // compared before the walk begins.
 fn take_word(table: &[u8], text: &[u8], at: usize, word: usize) -> Walk
-    requires { ⌜ (now table ≡ commandTable) × (word < 52) ⌝ }
+    requires { ⌜ (now table ≡ commandTable) × (word < wordCount) ⌝ }
     ensures { λ r. ⌜ WordTaken word (now (text .entry)) at r ⌝ }
 {
     if text.len() <= at {
@@ -93,7 +98,7 @@ fn take_word(table: &[u8], text: &[u8], at: usize, word: usize) -> Walk
 
 // Takes a row's node at the name that starts at a place, or leaves it out if it is optional.
 fn take_node(table: &[u8], text: &[u8], at: usize, node: u8) -> Walk
-    requires { ⌜ (now table ≡ commandTable) × (at ≤ length (now text)) × (wordIn node < 52) ⌝ }
+    requires { ⌜ (now table ≡ commandTable) × (at ≤ length (now text)) × (wordIn node < wordCount) ⌝ }
     ensures { λ r. ⌜ Walked (nodeOf node) (now (text .entry)) at r ⌝ }
 {
     if node < 128 {

@@ -1,12 +1,13 @@
 // The table that the header search reads: made once where a chunk of bytes is served, and lent down. It
 // is tied to 01's rows and words by its statement.
+use crate::rows::TABLE;
 ghost use mathlib.Core.Path.{_≡_};
 ghost use Rattle.interpreter.specs.RowsParts.{commandTable};
 
 // 16 bytes to a word: the lengths of its short and its long form, then its letters. Behind the words 8
 // bytes to a row: its forms as bits, the number of its nodes, how many of them the row before begins
 // with too, and each node's word, with 128 more where the node may be left out.
-pub(crate) fn commands() -> [u8; 1096]
+pub(crate) fn commands() -> [u8; TABLE]
     ensures { λ r. ⌜ r ≡ commandTable ⌝ }
 {
     *b"\
@@ -52,6 +53,7 @@ pub(crate) fn commands() -> [u8; 1096]
         \x03\x0bNTRANSITION\0\0\0\
         \x03\x0bPTRANSITION\0\0\0\
         \x03\x05ERROR\0\0\0\0\0\0\0\0\0\
+        \x04\x04EXAM\0\0\0\0\0\0\0\0\0\0\
         \x04\x07CURRENT\0\0\0\0\0\0\0\
         \x04\x08SCURRENT\0\0\0\0\0\0\
         \x04\x07VOLTAGE\0\0\0\0\0\0\0\
@@ -78,6 +80,7 @@ pub(crate) fn commands() -> [u8; 1096]
         \x03\x05\x04\x86\x0d\x0e\x10\x13\
         \x03\x02\0\x14\x15\0\0\0\
         \x03\x02\0\x16\x17\0\0\0\
+        \x03\x02\x01\x16\x2a\0\0\0\
         \x08\x01\0\x18\0\0\0\0\
         \x08\x01\0\x19\0\0\0\0\
         \x08\x01\0\x1a\0\0\0\0\

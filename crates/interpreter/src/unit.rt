@@ -17,7 +17,7 @@ ghost use lib.ListN.{length, take, drop};
 ghost use Rattle.registers.specs.Text.{every, white, printable};
 ghost use Rattle.interpreter.specs.Box.{mostLine};
 ghost use Rattle.interpreter.specs.Cuts.{trim, trimEnd};
-ghost use Rattle.interpreter.specs.RowsParts.{commandTable};
+ghost use Rattle.interpreter.specs.RowsParts.{rowCount, commandTable};
 ghost use Rattle.interpreter.specs.HeaderParts.{closed};
 ghost use Rattle.interpreter.specs.ParameterParts.{meantDeed};
 ghost use Rattle.interpreter.specs.UnitParts.{decided, UnitRead};
@@ -58,7 +58,7 @@ fn trimmed_end(text: &[u8]) -> usize
 
 // Checks 2 to 8 behind the header, on the parameters' text without white space around it.
 fn decide(table: &[u8], settings: Settings, row: usize, asked: bool, text: &[u8]) -> Decision
-    requires { ⌜ (now table ≡ commandTable) × (row ≤ 33) × (trim (now text) ≡ now text) ⌝ }
+    requires { ⌜ (now table ≡ commandTable) × (row ≤ rowCount) × (trim (now text) ≡ now text) ⌝ }
     ensures { λ r. ⌜ meantDeed r ≡ decided settings row asked (now (text .entry)) ⌝ }
 {
     let counted = parameter::count(text);
@@ -96,7 +96,7 @@ fn decide_behind(
     unit: &[u8],
     at: usize,
 ) -> Decision
-    requires { ⌜ (now table ≡ commandTable) × (row ≤ 33) × (at ≤ length (now unit)) ⌝ }
+    requires { ⌜ (now table ≡ commandTable) × (row ≤ rowCount) × (at ≤ length (now unit)) ⌝ }
     ensures { λ r. ⌜ meantDeed r ≡ decided settings row asked (trim (drop at (now (unit .entry)))) ⌝ }
 {
     let start = text::white_end(unit, at);

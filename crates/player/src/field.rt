@@ -33,16 +33,17 @@ pub(crate) struct Overwritten {
 // The largest value of a register, an error and a length.
 const WIDEST: u64 = 65535;
 
-const PLACES: usize = 16;
+// As many places as the longer of the record's two arrays has.
+const PLACES: usize = 17;
 
-// The place from 0 to 15 that a text spells, 16 for any other text.
+// The place that a text spells, PLACES for any other text.
 fn place(text: &[u8]) -> usize
-    ensures { λ r. ⌜ r ≤ 16 ⌝ }
+    ensures { λ r. ⌜ r ≤ 17 ⌝ }
 {
     let n = script::decimal(text);
     let short = (n < 10) & (text.len() == 1);
     let long = (9 < n) & (text.len() == 2);
-    if n < 16 {
+    if n < 17 {
         if short | long {
             return n as usize;
         }
@@ -50,9 +51,9 @@ fn place(text: &[u8]) -> usize
     PLACES
 }
 
-// The place in an array that a name spells behind the array's own, 16 for any other name.
+// The place in an array that a name spells behind the array's own, PLACES for any other name.
 fn place_in(name: &[u8], array: &[u8]) -> usize
-    ensures { λ r. ⌜ r ≤ 16 ⌝ }
+    ensures { λ r. ⌜ r ≤ 17 ⌝ }
 {
     let n = array.len();
     if n <= name.len() {
@@ -104,11 +105,11 @@ fn single(name: &[u8]) -> Field {
 // The field that a name spells.
 fn named(name: &[u8]) -> Field {
     let row = place_in(name, b"setting.");
-    if row < PLACES {
+    if row < Settings::COUNT {
         return Field::Setting(row);
     }
     let item = place_in(name, b"error.");
-    if item < PLACES {
+    if item < Status::MOST {
         return Field::Failure(item);
     }
     single(name)
@@ -116,7 +117,7 @@ fn named(name: &[u8]) -> Field {
 
 // The parts of the record with a number put in. A field of another part leaves a part as it is.
 fn in_settings(mut settings: Settings, row: usize, value: i32) -> Settings {
-    if row < PLACES {
+    if row < Settings::COUNT {
         settings.values[row] = value;
     }
     settings
@@ -135,7 +136,7 @@ fn in_group(mut group: Group, field: Field, n: u16) -> Group {
 }
 
 fn in_queue(mut status: Status, item: usize, n: u16) -> Status {
-    if item < PLACES {
+    if item < Status::MOST {
         status.errors[item] = n;
     }
     status

@@ -12,11 +12,12 @@
 //     x FIELD VALUE   a number of the raw record overwritten   x
 //
 // NUMBER is 0 or the refusal's in 01's table. Every byte of take's buffer is AA before. SETTINGS
-// are the sixteen in 01's order, with commas between (bools 0 and 1, words by their place, numbers
-// in steps); QUEUE the error numbers, without their minus; OVERLONG 0 or 1; BUFFER, LINE and ANSWER
-// hex in capitals. What is empty is `-`. A hand-made length past its array shows the whole array.
+// are the sixteen in 01's order and SYSTem:EXAM, with commas between (bools 0 and 1, words by their
+// place, numbers in steps); QUEUE the error numbers, without their minus; OVERLONG 0 or 1; BUFFER,
+// LINE and ANSWER hex in capitals. What is empty is `-`. A hand-made length past its array shows the
+// whole array.
 //
-// FIELD is `setting.0` to `setting.15`, `error.0` to `error.15`, `esr`, `ese`, `sre`, `condition`,
+// FIELD is `setting.0` to `setting.16`, `error.0` to `error.15`, `esr`, `ese`, `sre`, `condition`,
 // `event`, `enable`, `ptr`, `ntr`, or a length: `queued`, `line`, `answer`. VALUE is decimal, of a
 // setting also with a minus: 32 bits signed for a setting, else 0 to 65535.
 //

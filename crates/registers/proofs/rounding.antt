@@ -1,3 +1,5 @@
 pub mod Laws
 pub mod Tens
+pub mod Sides
+pub mod Exact
 pub mod Held

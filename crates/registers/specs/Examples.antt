@@ -1,5 +1,5 @@
 -- Worked values of 01, as one table under one statement: the definitions of this crate compute each of them. Checks 6, 7 and 8,
--- the sixteen settings and their answers, registers, queue and status byte, and refusal 4 on the status record.
+-- the seventeen settings and their answers, registers, queue and status byte, and refusal 4 on the status record.
 use mathlib.Core.Bool.{Bool, true, false, not, _&&_}
 use mathlib.Core.List.{List, [], _∷_, _++_}
 use Prim.Native.Nat.{ℕ, suc}
@@ -16,8 +16,8 @@ use Rattle.registers.specs.Words.{Node, must, may, shortForm}
 use Rattle.registers.specs.Answer.{inPlaces, decimal, tenths, over}
 use Rattle.registers.specs.Errors.{numberOf, eventBit, messages, messageIn, errorText, queueable, known}
 use Rattle.registers.specs.Number.{afterSign, fractionOf, afterFraction, exponentOf, afterExponent, lowering, written, numeralFrom, decimalOf, valueOf, remains, number}
-use Rattle.registers.specs.Rounding.{nearest, sizeIn, rounded, fitted, switchedOn}
-use Rattle.registers.specs.Settings.{Kind, bool, words, number as steps, Setting, minus, table, settingAt, kindOf, valueAt, atReset, wideRange, lowest, highest, within, conflict, stored, answerOf}
+use Rattle.registers.specs.Rounding.{nearest, sizeIn, rounded, fitted, sizeSide, sideIn, switchedOn}
+use Rattle.registers.specs.Settings.{Kind, bool, words, number as steps, Setting, minus, table, settingAt, kindOf, valueAt, atReset, wideRange, lowest, highest, within, conflict, examined, accepted, stored, answerOf}
 use Rattle.registers.specs.Group.{rises, falls, eventsAfter, conditionIs, eventRead, possibleGroup}
 use Rattle.registers.specs.Status.{registersOf, troubleOf, withoutBit6, storedIn, registerIn, summary, statusByte, possibleRegisters, possibleTrouble, possibleStatus, withTrouble, raisedIn, clearedIn, eventsIn, operationRead, withRegisters, oldestReadIn, reportedIn, registerSet, atStart}
 use Rattle.registers.specs.declared.error.Error.{Error}
@@ -25,6 +25,8 @@ use Rattle.registers.specs.declared.error.Error.the-variants.{Syntax, Da
 use Rattle.registers.specs.declared.number.Decimal.{Decimal}
 use Rattle.registers.specs.declared.rounding.Fit.{Fit}
 use Rattle.registers.specs.declared.rounding.Fit.the-variants.{Within, Outside}
+use Rattle.registers.specs.declared.rounding.Side.{Side}
+use Rattle.registers.specs.declared.rounding.Side.the-variants.{On, Below, Above}
 use Rattle.registers.specs.declared.settings.Settings.{Settings}
 use Rattle.registers.specs.declared.status.Register.{Register}
 use Rattle.registers.specs.declared.status.Register.the-variants.{Ese, Sre, Enable, Ntr, Ptr}
@@ -48,6 +50,8 @@ data Example : Type 0 where
   wrong : ℕ → List String → Example  -- an error, and texts that check 6 refuses by it
   switch : String → Bool → Example  -- a number given for a bool: is it on
   rounds : String → ℕ → ℤ → ℤ → Fit → Example  -- a number, how many steps make one, the limits in steps, and what check 7 says
+  rests : String → ℕ → Side → Example  -- a number, how many steps make one, and how the exact value stands to the rounded one
+  exams : String → ℤ → Side → Bool → Example  -- a header and the value stored for it at *RST: does a number on that side then pass
   sets : String → String → String → Example  -- a header, a number given for it at *RST, and what the header then answers
   outside : String → String → Example  -- a header, and a number given for it at *RST: -222
   limits : String → String → String → String → Example  -- a header's lowest, highest and own value at *RST, as answers
@@ -109,6 +113,28 @@ examples =
     ∷ rounds "123456789012E9" 1 (minus 9) (pos 9) Outside
     ∷ rounds "255.4" 1 (pos 0) (pos 255) (Within (pos 255))
     ∷ rounds "255.5" 1 (pos 0) (pos 255) Outside
+    -- what was rounded off: the exact value against the rounded one, which is below zero with it
+    ∷ rests "5.10" 10 On
+    ∷ rests "5.05" 10 Below
+    ∷ rests "5.04" 10 Above
+    ∷ rests "-0.45" 10 Above
+    ∷ rests "-0.44" 10 Below
+    ∷ rests "-0.5" 10 On
+    ∷ rests "4.4" 1 Above
+    ∷ rests "4.5" 1 Below
+    ∷ rests "5.000000001" 10 Above
+    ∷ rests "5.00000000000" 10 On
+    ∷ rests "0.0000000000001" 10 Above
+    ∷ rests "-1E-9" 1 Below
+    ∷ rests "0E-9" 1 On
+    ∷ rests "123456789012E9" 10 On
+    ∷ rests "99999999999.5" 1 Below
+    -- exam mode: off the step nothing passes
+    ∷ exams "SYST:EXAM" (pos 0) Below true
+    ∷ exams "SYST:EXAM" (pos 1) Below false
+    ∷ exams "SYST:EXAM" (pos 1) Above false
+    ∷ exams "SYST:EXAM" (pos 1) On true
+    ∷ exams "SYST:KLOC" (pos 1) Above true
     ∷ sets "VOLT" "7.25" "7.3"
     ∷ sets "VOLT" "7.2499" "7.2"
     ∷ sets "VOLT" "12.04" "12.0"
@@ -125,7 +151,7 @@ examples =
     ∷ outside "CURR:LIM:RMS:TIME" "0.4"
     ∷ sets "DISP:BRIG" "99.4" "99"
     ∷ outside "DISP:BRIG" "99.5"
-    -- the sixteen settings: lowest and highest value, and the one at *RST
+    -- the seventeen settings: lowest and highest value, and the one at *RST
     ∷ limits "OUTP" "0" "1" "0"
     ∷ limits "OUTP:PON" "0" "1" "0"
     ∷ limits "OUTP:REL" "0" "1" "1"
@@ -142,6 +168,7 @@ examples =
     ∷ limits "CURR:LIM:PEAK:LOW" "-8.0" "-0.5" "-4.0"
     ∷ limits "DISP:BRIG" "0" "99" "50"
     ∷ limits "SYST:KLOC" "0" "1" "0"
+    ∷ limits "SYST:EXAM" "0" "1" "0"
     -- stored and answered; the voltage's limit goes by the range, and check 8 keeps R24V above 12.0
     ∷ answers (("OUTP:MON:MODE", pos 1) ∷ []) "OUTP:MON:MODE" "SCUR"
     ∷ answers (("CURR:LIM:PEAK:LOW", minus 5) ∷ []) "CURR:LIM:PEAK:LOW" "-0.5"
@@ -237,6 +264,17 @@ sameFit (Within a) Outside = false
 sameFit Outside (Within b) = false
 sameFit Outside Outside = true
 
+sameSide : Side → Side → Bool
+sameSide On On = true
+sameSide On Below = false
+sameSide On Above = false
+sameSide Below On = false
+sameSide Below Below = true
+sameSide Below Above = false
+sameSide Above On = false
+sameSide Above Below = false
+sameSide Above Above = true
+
 -- a header in its shortest spelling, and the row that it stands in
 shortest : List Node → Text
 shortest [] = []
@@ -294,6 +332,8 @@ holds (value t m n up down) =
 holds (wrong n ts) = every (λ (t : String). fails n (number (bytes t))) ts
 holds (switch t on) = passes (λ (d : Decimal). alike (switchedOn d) on) (number (bytes t))
 holds (rounds t k low high r) = passes (sameFit r) (fit k low high t)
+holds (rests t k x) = passes (λ (d : Decimal). sameSide (sideIn k d) x) (number (bytes t))
+holds (exams h v x on) = alike (accepted (stored (row h) v atReset) x) on
 holds (sets h t answer) = passes (answeredFit (row h) answer) (given (row h) t)
 holds (outside h t) = passes (sameFit Outside) (given (row h) t)
 holds (limits h low high reset) =
@@ -310,12 +350,12 @@ holds (byte xs on n) = eqb (statusByte (registersOf (stepsFrom atStart xs)) (tro
 holds (possible s on) = alike (possibleStatus s) on
 
 all-hold : T (every holds examples)
-unfolding examples passes fails alike sameFit fit stepsOf shortest rowIn row given answered answeredFit storedAll step stepsFrom holds
+unfolding examples passes fails alike sameFit sameSide fit stepsOf shortest rowIn row given answered answeredFit storedAll step stepsFrom holds
     if_then_else_ bytes white digit small letter capital same _>>=_ _>>_ check shortForm inPlaces decimal tenths over
     eventBit messages messageIn errorText queueable known
     afterSign fractionOf afterFraction exponentOf afterExponent lowering written numeralFrom decimalOf valueOf remains number switchedOn
-    nearest sizeIn rounded fitted
-    table settingAt atReset wideRange lowest highest within conflict stored answerOf
+    nearest sizeIn rounded fitted sizeSide sideIn
+    table settingAt atReset wideRange lowest highest within conflict examined accepted stored answerOf
     rises falls eventsAfter conditionIs eventRead possibleGroup
     withoutBit6 storedIn registerIn summary statusByte possibleRegisters possibleTrouble possibleStatus
     raisedIn clearedIn eventsIn oldestReadIn reportedIn registerSet atStart

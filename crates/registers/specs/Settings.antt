@@ -1,7 +1,7 @@
--- "The sixteen settings": headers, values, steps, limits and values at *RST, and how a value is answered. Checks 7 and 8, and
--- refusal 4 on the settings, by these limits.
+-- "The sixteen settings", and SYSTem:EXAM as the seventeenth (02, #107): headers, values, steps, limits and values at *RST, and how a
+-- value is answered. Checks 7 and 8, exam mode, and refusal 4 on the settings, by these limits.
 -- A bool is 0 or 1, a word its place in its list from 0, and a number is counted in its steps.
-use mathlib.Core.Bool.{Bool, not, _&&_}
+use mathlib.Core.Bool.{Bool, true, false, not, _&&_, _||_}
 use mathlib.Core.List.{List, [], _∷_, map}
 use Prim.Native.Nat.{ℕ, pred}
 use Prim.Native.String.{String}
@@ -12,6 +12,8 @@ use lib.Signed.{leZ, ltZ}
 use Rattle.registers.specs.Text.{Text, if_then_else_, below}
 use Rattle.registers.specs.Answer.{decimal, tenths, signedText}
 use Rattle.registers.specs.Words.{Node, must, may, shortForm}
+use Rattle.registers.specs.declared.rounding.Side.{Side}
+use Rattle.registers.specs.declared.rounding.Side.the-variants.{On, Below, Above}
 use Rattle.registers.specs.declared.settings.Settings.{Settings}
 use Rattle.registers.specs.declared.settings.Values.{Values}
 use Rattle.registers.specs.declared.settings.Values.the-variants.{Bool as BoolValue, Word, Tenths, Whole}
@@ -38,7 +40,7 @@ minus n = negℤ (pos n)
 abbrev pub underLimit : List Node → List Node
 underLimit nodes = may "SOURce" ∷ must "CURRent" ∷ must "LIMit" ∷ nodes
 
--- "The sixteen settings", in 01's order
+-- "The sixteen settings", in 01's order, and behind them the one that 02 adds
 unfoldable pub table : List Setting
 table =
     row (must "OUTPut" ∷ may "STATe" ∷ []) bool (pos 0)
@@ -57,17 +59,21 @@ table =
     ∷ row (underLimit (must "PEAK" ∷ must "LOW" ∷ [])) (number 10 (minus 80) (minus 5)) (minus 40)
     ∷ row (must "DISPlay" ∷ must "BRIGhtness" ∷ []) (number 1 (pos 0) (pos 99)) (pos 50)
     ∷ row (must "SYSTem" ∷ must "KLOCk" ∷ []) bool (pos 0)
+    ∷ row (must "SYSTem" ∷ must "EXAM" ∷ []) bool (pos 0)
     ∷ []
 
--- how many there are, and the two that a rule names, by their place in the table
+-- how many there are, and the three that a rule names, by their place in the table
 abbrev pub count : ℕ
-count = 16
+count = 17
 
 abbrev pub voltage : ℕ
 voltage = 4
 
 abbrev pub range : ℕ
 range = 5
+
+abbrev pub exam : ℕ
+exam = 16
 
 -- the row at a place; behind the table a bool that has no header
 unfoldable pub settingAt : ℕ → Setting
@@ -121,6 +127,18 @@ highest s i = if eqb i voltage && not (wideRange s) then twelveVolts else highes
 -- check 7: "-222 outside the limits"
 unfoldable pub within : Settings → ℕ → ℤ → Bool
 within s i v = leZ (lowest i) v && leZ v (highest s i)
+
+-- exam mode (02, #107): "when 1, an off-step number on a settings row of step 0.1 or 1 is -222"
+unfoldable pub examined : Settings → Bool
+examined s = leZ (pos 1) (valueAt s exam)
+
+abbrev pub onStep : Side → Bool
+onStep On = true
+onStep Below = false
+onStep Above = false
+
+unfoldable pub accepted : Settings → Side → Bool
+accepted s x = onStep x || not (examined s)
 
 -- check 8: "-221: range R12V while the voltage is above 12.0"
 unfoldable pub conflict : Settings → ℕ → ℤ → Bool

@@ -50,7 +50,8 @@ impl Decimal {
     pub fn switches_on(self) -> bool
         ensures { λ r. ⌜ r ≡ switchedOn self ⌝ }
     {
-        rounding::size_of(self.digits, self.up as u64, self.down) != 0
+        let sized = rounding::size_of(self.digits, self.up as u64, self.down);
+        sized.size != 0
     }
 }
 

@@ -1,14 +1,41 @@
-// Check 7: a value rounded to a step, halves away from zero, and only then compared with limits.
+// Check 7: a value rounded to a step, halves away from zero, and only then compared with limits; and on which side of the
+// rounded value the exact one lies (02, #107).
 use crate::number::Decimal;
 ghost use mathlib.Core.Path.{_≡_};
+ghost use mathlib.Core.Bool.{true};
 ghost use Prim.Native.Nat.{_+_, _*_, _^_, min};
-ghost use Rattle.registers.specs.Rounding.{nearest, fitted};
-ghost use Rattle.registers.specs.RoundingParts.{beyond, heldIn};
+ghost use Rattle.registers.specs.Rounding.{turned, roundedIn};
+ghost use Rattle.registers.specs.RoundingParts.{beyond, sizedOver, heldOver, heldIn};
 
 // A value in steps, or none.
 pub enum Fit {
     Within(i32),
     Outside,
+}
+
+// How the exact value stands to the one that it was rounded to: the same, below it or above it.
+pub enum Side {
+    On,
+    Below,
+    Above,
+}
+
+// What check 7 says of a value, and what was rounded off. The side is that of the rounded value, within the limits or not.
+pub struct Rounded {
+    pub fit: Fit,
+    pub side: Side,
+}
+
+// A size in steps, and how the exact size stands to it.
+pub(crate) struct Sized {
+    pub(crate) size: u64,
+    pub(crate) side: Side,
+}
+
+// A value in steps, and how the exact value stands to it.
+struct Stepped {
+    value: i64,
+    side: Side,
 }
 
 // A size in steps is held here: it is beyond every limit of 32 bits, on both sides of zero, so that
@@ -28,48 +55,103 @@ fn raised(x: u64, n: u64) -> u64
     if y < BEYOND { y } else { BEYOND }
 }
 
-// x over 10 to the power n + 1, rounded: only the last digit that is cut off decides.
-fn lowered(x: u64, n: u64) -> u64
-    ensures { λ r. ⌜ r ≡ nearest x (10 ^ (n + 1)) ⌝ }
+// x over 10 to the power n + 1, rounded: only the last digit that is cut off decides. The size is exact where every digit
+// that is cut off is 0.
+fn lowered(x: u64, n: u64) -> Sized
+    ensures { λ r. ⌜ r ≡ sizedOver x (10 ^ (n + 1)) ⌝ }
 {
     let mut y = x;
     let mut i = n;
+    let mut exact = true;
     while 0 < i {
+        exact = exact & (y % 10 == 0);
         y = y / 10;
         i -= 1;
     }
-    y / 10 + (y % 10 + 5) / 10
+    let last = y % 10;
+    let whole = y / 10;
+    if 5 <= last {
+        return Sized {
+            size: whole + 1,
+            side: Side::Below,
+        };
+    }
+    if exact & (last == 0) {
+        return Sized {
+            size: whole,
+            side: Side::On,
+        };
+    }
+    Sized {
+        size: whole,
+        side: Side::Above,
+    }
 }
 
 // x times 10 to the power up over 10 to the power down, rounded and held.
-pub(crate) fn size_of(x: u64, up: u64, down: u64) -> u64
-    ensures { λ r. ⌜ r ≡ min beyond (nearest (x * 10 ^ up) (10 ^ down)) ⌝ }
+pub(crate) fn size_of(x: u64, up: u64, down: u64) -> Sized
+    ensures { λ r. ⌜ r ≡ heldOver (x * 10 ^ up) (10 ^ down) ⌝ }
 {
     if down <= up {
-        return raised(x, up - down);
+        return Sized {
+            size: raised(x, up - down),
+            side: Side::On,
+        };
     }
+    let low = lowered(x, down - up - 1);
+    let side = low.side;
     // Raised by nothing: only held.
-    raised(lowered(x, down - up - 1), 0)
+    Sized {
+        size: raised(low.size, 0),
+        side,
+    }
+}
+
+// The side with the sign changed.
+fn turned(side: Side) -> Side
+    ensures { λ r. ⌜ r ≡ turned true side ⌝ }
+{
+    match side {
+        Side::On => Side::On,
+        Side::Below => Side::Above,
+        Side::Above => Side::Below,
+    }
 }
 
 // The value in steps of which 10 to the power tens make one, held.
-fn steps(d: Decimal, tens: u32) -> i64
+fn steps(d: Decimal, tens: u32) -> Stepped
     ensures { λ r. ⌜ r ≡ heldIn (10 ^ tens) d ⌝ }
 {
     let up = d.up as u64 + tens as u64;
     let down = d.down;
     let digits = d.digits;
-    let size = size_of(digits, up, down) as i64;
-    if d.minus { 0 - size } else { size }
+    let sized = size_of(digits, up, down);
+    let size = sized.size as i64;
+    let side = sized.side;
+    if d.minus {
+        return Stepped {
+            value: 0 - size,
+            side: turned(side),
+        };
+    }
+    Stepped { value: size, side }
 }
 
 // Check 7 for a row of which 10 to the power tens steps make one.
-pub fn round_in(d: Decimal, tens: u32, low: i32, high: i32) -> Fit
-    ensures { λ r. ⌜ r ≡ fitted (10 ^ tens) low high d ⌝ }
+pub fn round_in(d: Decimal, tens: u32, low: i32, high: i32) -> Rounded
+    ensures { λ r. ⌜ r ≡ roundedIn (10 ^ tens) low high d ⌝ }
 {
-    let v = steps(d, tens);
+    let steps = steps(d, tens);
+    let v = steps.value;
+    let side = steps.side;
     if (low as i64 <= v) & (v <= high as i64) {
-        return Fit::Within(v as i32);
+        return Rounded {
+            fit: Fit::Within(v as i32),
+            side,
+        };
     }
-    Fit::Outside
+    Rounded {
+        fit: Fit::Outside,
+        side,
+    }
 }

@@ -1,10 +1,14 @@
-// The sixteen settings, by their row in 01's table: bools 0 and 1, words by their place, numbers in
-// steps, the negative peak limit as signed tenths.
+// The seventeen settings, by their row in 01's table and SYSTem:EXAM behind it: bools 0 and 1, words by their place,
+// numbers in steps, the negative peak limit as signed tenths.
+use crate::rounding::Side;
 ghost use mathlib.Core.Path.{_≡_};
-ghost use Rattle.registers.specs.Settings.{valueAt, atReset, lowest, highest, within, conflict, possibleSettings, stored, kindOf, valuesIn};
+ghost use Rattle.registers.specs.Settings.{valueAt, atReset, lowest, highest, within, conflict, possibleSettings, stored, kindOf, valuesIn, accepted};
+
+// How many there are.
+const ROWS: usize = 17;
 
 pub struct Settings {
-    pub values: [i32; 16],
+    pub values: [i32; ROWS],
 }
 
 // What a row's values are: on or off, words, numbers of step 0.1, numbers of step 1.
@@ -16,27 +20,29 @@ pub enum Values {
 }
 
 // Each row's kind of values: 0 for a bool, 1 for words, 2 for step 0.1, 3 for step 1.
-const KINDS: [u8; 16] = [0, 0, 0, 1, 2, 1, 2, 2, 1, 1, 3, 3, 2, 2, 3, 0];
+const KINDS: [u8; ROWS] = [0, 0, 0, 1, 2, 1, 2, 2, 1, 1, 3, 3, 2, 2, 3, 0, 0];
 
 impl Settings {
-    pub const COUNT: usize = 16;
+    pub const COUNT: usize = ROWS;
 
     pub const VOLTAGE: usize = 4;
 
     pub const RANGE: usize = 5;
 
+    pub const EXAM: usize = 16;
+
     pub const TWELVE_VOLTS: i32 = 120;
 
-    pub const LOWEST: [i32; 16] = [0, 0, 0, 0, 0, 0, 400, 1, 0, 0, 1, 1, 5, -80, 0, 0];
+    pub const LOWEST: [i32; ROWS] = [0, 0, 0, 0, 0, 0, 400, 1, 0, 0, 1, 1, 5, -80, 0, 0, 0];
 
-    pub const HIGHEST: [i32; 16] = [1, 1, 1, 2, 240, 1, 5500, 20, 1, 1, 10, 10, 80, -5, 99, 1];
+    pub const HIGHEST: [i32; ROWS] = [1, 1, 1, 2, 240, 1, 5500, 20, 1, 1, 10, 10, 80, -5, 99, 1, 1];
 
     // The values at *RST.
     pub fn reset() -> Settings
         ensures { λ r. ⌜ r ≡ atReset ⌝ }
     {
         Settings {
-            values: [0, 0, 1, 2, 0, 0, 500, 10, 1, 1, 1, 1, 40, -40, 50, 0],
+            values: [0, 0, 1, 2, 0, 0, 500, 10, 1, 1, 1, 1, 40, -40, 50, 0, 0],
         }
     }
 
@@ -101,6 +107,17 @@ impl Settings {
         let low = Settings::lowest(row);
         let high = self.highest(row);
         (low <= value) & (value <= high)
+    }
+
+    // Exam mode lets no number pass that is off its row's step (02, #107).
+    pub fn accepts(self, side: Side) -> bool
+        ensures { λ r. ⌜ r ≡ accepted self side ⌝ }
+    {
+        let exam = self.values[Settings::EXAM];
+        match side {
+            Side::On => true,
+            Side::Below | Side::Above => exam < 1,
+        }
     }
 
     // Check 8: R12V while the voltage is above 12.0.

@@ -3,7 +3,7 @@
 
 use std::io::{self, BufRead, BufWriter, Write};
 
-use twin::{Refusal, State};
+use twin::{Refusal, State, QUEUE_LIMIT, SETTINGS};
 
 const LONGEST_BUFFER: usize = 4096;
 const LONGEST_LENGTH: usize = 65_535;
@@ -71,12 +71,12 @@ fn read_length(text: &str) -> Option<usize> {
 
 /// Overwrites one number of the raw record; nothing, if field or value can't be read.
 fn overwrite(state: &mut State, field: &str, value: &str) -> Option<()> {
-    if let Some(place) = read_place(field, "setting.") {
+    if let Some(place) = read_place(field, "setting.", SETTINGS) {
         state.instrument.settings.values[place] = read_signed(value)?;
         return Some(());
     }
     let status = &mut state.instrument.status;
-    if let Some(place) = read_place(field, "error.") {
+    if let Some(place) = read_place(field, "error.", QUEUE_LIMIT) {
         status.errors[place] = read_decimal(value)?;
         return Some(());
     }
@@ -97,10 +97,10 @@ fn overwrite(state: &mut State, field: &str, value: &str) -> Option<()> {
     Some(())
 }
 
-/// The place in `setting.0` to `setting.15` or `error.0` to `error.15`.
-fn read_place(field: &str, array: &str) -> Option<usize> {
+/// The place in `setting.0` to `setting.16` or `error.0` to `error.15`.
+fn read_place(field: &str, array: &str, length: usize) -> Option<usize> {
     let place = field.strip_prefix(array)?;
-    (0..16).find(|number| number.to_string() == place)
+    (0..length).find(|number| number.to_string() == place)
 }
 
 /// What an event is answered with; nothing, if it can't be read.

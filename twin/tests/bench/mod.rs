@@ -2,7 +2,7 @@
 
 #![allow(dead_code)]
 
-use twin::State;
+use twin::{State, SETTINGS};
 
 pub const VOLTAGE: usize = 4;
 pub const RANGE: usize = 5;
@@ -11,6 +11,7 @@ pub const RMS: usize = 7;
 pub const HIGH: usize = 12;
 pub const LOW: usize = 13;
 pub const BRIGHTNESS: usize = 14;
+pub const EXAM: usize = 16;
 
 pub struct Bench {
     pub state: State,
@@ -50,7 +51,7 @@ impl Bench {
         &status.errors[..status.queued]
     }
 
-    pub fn settings(&self) -> [i32; 16] {
+    pub fn settings(&self) -> [i32; SETTINGS] {
         self.state.instrument.settings.values
     }
 

@@ -11,9 +11,9 @@ use Rattle.registers.specs.Text.{Text, if_then_else_, bytes, same, white, print
 use Rattle.registers.specs.Check.{_>>=_, _>>_, check}
 use Rattle.registers.specs.Words.{shortForm, longForm, matches}
 use Rattle.registers.specs.Number.{afterSign, fractionOf, afterFraction, exponentOf, afterExponent, lowering, written, numeralFrom, decimalOf, valueOf, remains, number}
-use Rattle.registers.specs.Rounding.{nearest, sizeIn, rounded}
+use Rattle.registers.specs.Rounding.{nearest, sizeIn, rounded, sizeSide, sideIn}
 use Rattle.registers.specs.Answer.{inPlaces, decimal, tenths}
-use Rattle.registers.specs.Settings.{table, settingAt, atReset, wideRange, lowest, highest, within, conflict, answerOf, valueAt}
+use Rattle.registers.specs.Settings.{table, settingAt, atReset, wideRange, lowest, highest, within, conflict, examined, accepted, answerOf, valueAt}
 use Rattle.registers.specs.Status.{atStart}
 use Rattle.interpreter.specs.Cuts.{cutAt, trimEnd, trim}
 use Rattle.interpreter.specs.Header.{name, placed, header, spells}
@@ -62,8 +62,8 @@ record Computed : Type 0 where
 computed : Computed
 unfolding if_then_else_ bytes same white printable digit letter wordByte small capital _>>=_ _>>_ check shortForm longForm matches
     afterSign fractionOf afterFraction exponentOf afterExponent lowering written numeralFrom decimalOf valueOf remains number
-    nearest sizeIn rounded inPlaces decimal tenths
-    table settingAt atReset wideRange lowest highest within conflict answerOf atStart
+    nearest sizeIn rounded sizeSide sideIn inPlaces decimal tenths
+    table settingAt atReset wideRange lowest highest within conflict examined accepted answerOf atStart
     cutAt trimEnd trim name placed header spells settingRows otherRows rows fitsRow findRow
     parameters least greatest findWord parameter valueGiven settingDeed deedOf readUnit powerUp
     changed replyTo joined fitsAnswer reply perform

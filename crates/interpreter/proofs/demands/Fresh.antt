@@ -29,9 +29,9 @@ FreshBox b = Fresh (b .core)
 changed-fresh : (x : changes.Change) (c : Core) → Fresh c → Fresh (changed x c)
 unfolding changed
 changed-fresh Nothing c f = f
-changed-fresh (Put i v) c f = f
+changed-fresh (Put i v side) c f = f
 changed-fresh Reset c f = f
-changed-fresh (Store r n) c f = f
+changed-fresh (Store r n side) c f = f
 
 query-fresh : (q : queries.Query) (c : Core) → Fresh c → Fresh (afterQuery q c)
 query-fresh Identity c f = f

@@ -16,7 +16,7 @@ use Rattle.interpreter.specs.Box.{powerUp}
 use Rattle.interpreter.specs.Demand2.{WithinLimits, WithinRange}
 use Rattle.interpreter.proofs.Possible.{history-fit, power-up-fit}
 
--- each of the sixteen, by its place
+-- each of the settings, by its place
 pub good-at : (s : Settings) → Good s → (i : ℕ) → i < count → within s i (valueAt s i) ≡ true
 unfolding possibleSettings
 good-at s g i h = below-at count (λ j. within s j (valueAt s j)) (good-to s g) i h

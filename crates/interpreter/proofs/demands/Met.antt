@@ -11,10 +11,10 @@ use Rattle.registers.specs.Text.{Text, if_then_else_, bytes, same, white, print
 use Rattle.registers.specs.Check.{Checked, passed, _>>=_, _>>_, check}
 use Rattle.registers.specs.Words.{shortForm, longForm, matches}
 use Rattle.registers.specs.Number.{afterSign, fractionOf, afterFraction, exponentOf, afterExponent, lowering, written, numeralFrom, decimalOf, valueOf, remains, number}
-use Rattle.registers.specs.Rounding.{switchedOn, nearest, sizeIn, rounded}
+use Rattle.registers.specs.Rounding.{switchedOn, nearest, sizeIn, rounded, sizeSide, sideIn}
 use Rattle.registers.specs.Answer.{inPlaces, decimal, tenths}
 use Rattle.registers.specs.Errors.{eventBit}
-use Rattle.registers.specs.Settings.{table, settingAt, atReset, wideRange, lowest, highest, within, conflict, answerOf}
+use Rattle.registers.specs.Settings.{count, table, settingAt, atReset, wideRange, lowest, highest, within, conflict, examined, accepted, answerOf}
 use Rattle.registers.specs.Status.{raised, atStart}
 use Rattle.interpreter.specs.Cuts.{front, cutAt, trimEnd, trim}
 use Rattle.interpreter.specs.Header.{Header, here, name, placed, header, spells}
@@ -64,7 +64,7 @@ trips =
     ("OUTP", "0") ∷ ("OUTP:PON", "0") ∷ ("OUTP:REL", "1") ∷ ("OUTP:MON:MODE", "VOLT") ∷ ("VOLT", "0.0") ∷ ("VOLT:RANG", "R12V")
     ∷ ("FREQ", "50.0") ∷ ("CURR:LIM:RMS", "1.0") ∷ ("CURR:LIM:RMS:MODE", "OFF") ∷ ("CURR:LIM:PEAK:MODE", "OFF")
     ∷ ("CURR:LIM:RMS:TIME", "1") ∷ ("CURR:LIM:PEAK:TIME", "1") ∷ ("CURR:LIM:PEAK:HIGH", "4.0") ∷ ("CURR:LIM:PEAK:LOW", "-4.0")
-    ∷ ("DISP:BRIG", "50") ∷ ("SYST:KLOC", "0") ∷ []
+    ∷ ("DISP:BRIG", "50") ∷ ("SYST:KLOC", "0") ∷ ("SYST:EXAM", "0") ∷ []
 
 abbrev buffer : Text
 buffer = replicate 8 0
@@ -151,23 +151,34 @@ early = take [] ∷ text "\t:SOURce:volt:AMPL" ∷ []
 abbrev late : List Event
 late = text "  0.0 " ∷ []
 
+-- and of one in exam mode
+abbrev inExam : List Event
+inExam = text "SYST:EXAM 1\nVOLT 5.1\nVOLT?" ∷ []
+
+abbrev sentInExam : List Event
+sentInExam = text "VOLT 5.1" ∷ []
+
 pub record Met2 : Type 0 where
-  pub everyRow : (i : ℕ) → i < 16 → Trip i (tripAt trips i)
+  pub everyRow : (i : ℕ) → i < count → Trip i (tripAt trips i)
   pub oneMore : Premises 4 (bytes "0.0") before early late
+  pub examOn : examined (after powerUp inExam .core .settings) ≡ true
+  pub examTrip : Premises 4 (bytes "5.1") inExam [] sentInExam
 
 -- ---- computed
 
 record Computed : Type 0 where
   met3 : Met3
   seen : map seenAt trips ≡ numbered 0 trips
-  long : length trips ≡ 16
+  long : length trips ≡ count
   oneMore : Premises 4 (bytes "0.0") before early late
+  examOn : examined (after powerUp inExam .core .settings) ≡ true
+  examTrip : Premises 4 (bytes "5.1") inExam [] sentInExam
 
 computed : Computed
 unfolding if_then_else_ bytes same white printable digit letter wordByte small capital _>>=_ _>>_ check shortForm longForm matches
     afterSign fractionOf afterFraction exponentOf afterExponent lowering written numeralFrom decimalOf valueOf remains number switchedOn
-    nearest sizeIn rounded inPlaces decimal tenths eventBit
-    table settingAt atReset wideRange lowest highest within conflict answerOf raised atStart
+    nearest sizeIn rounded sizeSide sideIn inPlaces decimal tenths eventBit
+    table settingAt atReset wideRange lowest highest within conflict examined accepted answerOf raised atStart
     cutAt trimEnd trim name placed header spells settingRows otherRows rows fitsRow findRow
     parameters least greatest findWord parameter valueGiven settingDeed deedOf readUnit powerUp
     changed replyTo inquiryReply joined fitsAnswer reply perform
@@ -198,6 +209,26 @@ computed =
           header = bytes ":SOURce:volt:AMPL";
           gap = bytes "  ";
           right = bytes " ";
+          line = refl;
+          spelling = record { read = _; reads = refl; sets = refl; row = refl };
+          leftWhite = refl;
+          gapWhite = refl;
+          gapThere = refl;
+          rightWhite = refl;
+        };
+      };
+      examOn = refl;
+      examTrip = record {
+        first = refl;
+        second = refl;
+        asks = record { whole = refl; alone = refl; path = _; asks = refl };
+        took = record { number = refl; bytes = refl };
+        sends = record {
+          whole = refl;
+          left = [];
+          header = bytes "VOLT";
+          gap = bytes " ";
+          right = [];
           line = refl;
           spelling = record { read = _; reads = refl; sets = refl; row = refl };
           leftWhite = refl;
@@ -254,9 +285,9 @@ trip-at i t e =
     }
 
 pub met2 : Met2
-met2 = record { everyRow = at; oneMore = computed .oneMore }
+met2 = record { everyRow = at; oneMore = computed .oneMore; examOn = computed .examOn; examTrip = computed .examTrip }
   where
-    at : (i : ℕ) → i < 16 → Trip i (tripAt trips i)
+    at : (i : ℕ) → i < count → Trip i (tripAt trips i)
     at i h =
         let l = computed .long in
         let q : 0 + i ≡ i = omega arith in

@@ -15,32 +15,34 @@ use Rattle.registers.specs.Check.{Checked, refused, passed, check, _>>=_, _>>_}
 use Rattle.registers.specs.Words.{shortForm, longForm, matches}
 use Rattle.registers.specs.Number.{afterSign, fractionOf, afterFraction, exponentOf, afterExponent, lowering, written, numeralFrom, decimalOf, valueOf, remains, number as readNumber}
 use Rattle.registers.specs.NumberParts.{held}
-use Rattle.registers.specs.Rounding.{switchedOn, nearest, sizeIn, rounded}
+use Rattle.registers.specs.Rounding.{switchedOn, nearest, sizeIn, rounded, sizeSide, sideIn}
 use Rattle.registers.specs.Answer.{inPlaces, decimal, tenths, signedText}
-use Rattle.registers.specs.Settings.{Kind, bool, words, number, table, settingAt, kindOf, lowestOf, highestOf, voltage, twelveVolts, wideRange, lowest, highest, within, conflict, answerOf}
+use Rattle.registers.specs.Settings.{count, Kind, bool, words, number, table, settingAt, kindOf, lowestOf, highestOf, voltage, twelveVolts, wideRange, lowest, highest, within, conflict, answerOf, onStep, accepted}
+use Rattle.registers.specs.declared.rounding.Side.{Side}
+use Rattle.registers.specs.declared.rounding.Side.the-variants.{On, Below, Above}
 use Rattle.registers.specs.declared.settings.Settings.{Settings}
 use Rattle.registers.proofs.Tests.{holds, and-both, below-at}
 use Rattle.registers.proofs.text.Laws.{digit-bounds}
 use Rattle.registers.proofs.answer.Decimals.{tenths-length, signed-length}
-use Rattle.interpreter.specs.Parameter.{Given, Word, Figure, findWord, parameter, limitWords, wordsOf, takesNumbers, valueGiven, settingDeed}
+use Rattle.interpreter.specs.Parameter.{Given, Word, Figure, findWord, parameter, limitWords, wordsOf, takesNumbers, valueGiven, settingDeed, sideGiven}
 use Rattle.interpreter.specs.declared.deed.Deed.the-variants.{Change}
 use Rattle.interpreter.specs.declared.deed.Change.the-variants.{Put}
 use Rattle.interpreter.proofs.Choices.{if-elim}
-use Rattle.interpreter.proofs.demands.Tenths.{tenths-rounded, tenths-read, tenths-some, tenths-bytes}
+use Rattle.interpreter.proofs.demands.Tenths.{tenths-rounded, tenths-on, tenths-read, tenths-some, tenths-bytes}
 
 -- ---- the test
 
 unfoldable sameZ : ℤ → ℤ → Bool
 sameZ x y = leZ x y && leZ y x
 
--- a parameter gives v to a setting of this kind, whatever the settings are
+-- a parameter gives v to a setting of this kind, whatever the settings are, and nothing is rounded off
 unfoldable gives : Kind → ℤ → Given → Bool
 gives bool v (Word n) = sameZ (pos n) v
 gives bool v (Figure d) = sameZ (if switchedOn d then pos 1 else pos 0) v
 gives (words ws) v (Word n) = sameZ (pos n) v
 gives (words ws) v (Figure d) = false
 gives (number k low high) v (Word n) = false
-gives (number k low high) v (Figure d) = sameZ (rounded k d) v
+gives (number k low high) v (Figure d) = onStep (sideIn k d) && sameZ (rounded k d) v
 
 unfoldable readTo : Kind → ℤ → Checked Given → Bool
 readTo k v (refused n) = false
@@ -74,10 +76,10 @@ covered bool = tested bool
 covered (words ws) = tested (words ws)
 covered (number k low high) = if eqb k 10 then ltb (sizeOf (number k low high)) held else tested (number k low high)
 
-all-covered : below 16 (λ i. covered (kindOf i)) ≡ true
+all-covered : below count (λ i. covered (kindOf i)) ≡ true
 unfolding covered tested readsBack plainText readTo gives sameZ if_then_else_ bytes same printable white digit letter wordByte small capital
     _>>=_ _>>_ check shortForm longForm matches afterSign fractionOf afterFraction exponentOf afterExponent lowering written numeralFrom decimalOf
-    valueOf remains readNumber switchedOn nearest sizeIn rounded inPlaces decimal table settingAt answerOf findWord parameter
+    valueOf remains readNumber switchedOn nearest sizeIn rounded sizeSide sideIn inPlaces decimal table settingAt answerOf findWord parameter
 all-covered = refl
 
 -- ---- the test and the law together
@@ -109,7 +111,19 @@ gives-value s i bool v (Figure d) t = sameZ-eq _ v t
 gives-value s i (words ws) v (Word n) t = sameZ-eq _ v t
 gives-value s i (words ws) v (Figure d) t = absurd (false≢true t)
 gives-value s i (number k low high) v (Word n) t = absurd (false≢true t)
-gives-value s i (number k low high) v (Figure d) t = sameZ-eq _ v t
+gives-value s i (number k low high) v (Figure d) t = sameZ-eq _ v (and-both (onStep (sideIn k d)) (sameZ (rounded k d) v) t .1)
+
+gives-side : (k : Kind) (v : ℤ) (g : Given) → gives k v g ≡ true → sideGiven k g ≡ On
+unfolding gives
+gives-side bool v g t = refl
+gives-side (words ws) v g t = refl
+gives-side (number k low high) v (Word n) t = refl
+gives-side (number k low high) v (Figure d) t = go (sideIn k d) (and-both (onStep (sideIn k d)) (sameZ (rounded k d) v) t .0)
+  where
+    go : (x : Side) → onStep x ≡ true → x ≡ On
+    go On e = refl
+    go Below e = absurd (false≢true e)
+    go Above e = absurd (false≢true e)
 
 in-size : (low high v : ℤ) → leZ low v ≡ true → leZ v high ≡ true → natAbs v ≤ natAbs low + natAbs high
 in-size low (pos h) (pos n) l t = let p = leb-true n h t in omega arith
@@ -153,7 +167,7 @@ module _ (v : ℤ) (h : natAbs v < held) where
 
   by-law : (low high : ℤ) → readsBack (number 10 low high) v ≡ true
   unfolding readsBack readTo gives answerOf if_then_else_
-  by-law low high = rw (tenths-read limitWords v h, tenths-rounded v, sameZ-same v) tenths-plain
+  by-law low high = rw (tenths-read limitWords v h, tenths-on v, tenths-rounded v, sameZ-same v) tenths-plain
 
 reads-back : (k : Kind) → covered k ≡ true → (v : ℤ) → inTable k v ≡ true → readsBack k v ≡ true
 unfolding covered
@@ -166,11 +180,14 @@ reads-back (number k low high) c v t =
     (λ _ c. by-test row v t c) c
 
 read-deed : (s : Settings) (i : ℕ) (v : ℤ) (m : Checked Given) → readTo (kindOf i) v m ≡ true → within s i v ≡ true → conflict s i v ≡ false
-    → (m >>= λ g. let x = valueGiven s i (kindOf i) g in check 222 (within s i x) >> check 221 (not (conflict s i x)) >> passed (Change (Put i x)))
-    ≡ passed (Change (Put i v))
-unfolding readTo _>>=_ _>>_ check
+    → (m >>= λ g.
+    let z = valueGiven s i (kindOf i) g in
+    let x = sideGiven (kindOf i) g in
+    check 222 (within s i z) >> check 222 (accepted s x) >> check 221 (not (conflict s i z)) >> passed (Change (Put i z x)))
+    ≡ passed (Change (Put i v On))
+unfolding readTo accepted _>>=_ _>>_ check
 read-deed s i v (refused n) t w c = absurd (false≢true t)
-read-deed s i v (passed g) t w c = rw (gives-value s i (kindOf i) v g t, w, c)
+read-deed s i v (passed g) t w c = rw (gives-value s i (kindOf i) v g t, gives-side (kindOf i) v g t, w, c)
 
 -- a voltage within any range is in the table
 wider : (v : ℤ) → leZ v twelveVolts ≡ true → leZ v (pos 240) ≡ true
@@ -189,15 +206,15 @@ under-table s i v w =
     go false q l = l
 
 -- a setting's answer, sent as its parameter, sets the value that was answered
-module _ (s : Settings) (i : ℕ) (h : i < 16) (v : ℤ) (w : within s i v ≡ true) where
+module _ (s : Settings) (i : ℕ) (h : i < count) (v : ℤ) (w : within s i v ≡ true) where
   both : (readTo (kindOf i) v (parameter (wordsOf (kindOf i)) (takesNumbers (kindOf i)) (answerOf (kindOf i) v)) ≡ true)
       × (plainText (answerOf (kindOf i) v) ≡ true)
   unfolding readsBack
   both =
-      let c = below-at 16 (λ i. covered (kindOf i)) all-covered i h in
+      let c = below-at count (λ i. covered (kindOf i)) all-covered i h in
       and-both _ (plainText (answerOf (kindOf i) v)) (reads-back (kindOf i) c v (under-table s i v w))
 
-  pub answer-sets : conflict s i v ≡ false → settingDeed s i (answerOf (kindOf i) v) ≡ passed (Change (Put i v))
+  pub answer-sets : conflict s i v ≡ false → settingDeed s i (answerOf (kindOf i) v) ≡ passed (Change (Put i v On))
   unfolding settingDeed
   answer-sets c = read-deed s i v (parameter (wordsOf (kindOf i)) (takesNumbers (kindOf i)) (answerOf (kindOf i) v)) (both .0) w c
 

@@ -11,8 +11,9 @@ use lib.IntN.{pos}
 use borrow.Author.Tests.{lt-ltb, leb-true, not-true}
 use Rattle.registers.specs.Text.{Text, if_then_else_, every, empty}
 use Rattle.registers.specs.Check.{passed, check, _>>=_, _>>_}
-use Rattle.registers.specs.Settings.{kindOf, valueAt, withValue, answerOf}
+use Rattle.registers.specs.Settings.{count, kindOf, valueAt, withValue, answerOf}
 use Rattle.registers.specs.Status.{Trouble}
+use Rattle.registers.specs.declared.rounding.Side.the-variants.{On}
 use Rattle.registers.specs.declared.settings.Settings.{Settings}
 use Rattle.registers.proofs.Tests.{and-both}
 use Rattle.interpreter.specs.Cuts.{front}
@@ -63,12 +64,12 @@ module _ (i : ℕ) (b : Box) (fit : Fit mostAnswer b) (q : Asks i b) where
   abbrev a : Text
   a = answer-of s i
 
-  sixteen : i < 16
-  sixteen = read-allowed s [] (b .core .line) (q .asks)
+  there : i < count
+  there = read-allowed s [] (b .core .line) (q .asks)
 
   plain : plainText a ≡ true
   unfolding answer-of
-  plain = answer-plain s i sixteen (valueAt s i) (good-at s (fit .core .settings) i sixteen)
+  plain = answer-plain s i there (valueAt s i) (good-at s (fit .core .settings) i there)
 
   query-line : endLine b ≡ box (withAnswer (a ++ 10 ∷ []) (withLine [] false (b .core))) (atNewline b .trouble)
   unfolding endLine runLine plainText answer-of if_then_else_
@@ -101,7 +102,7 @@ none-finished c t e =
 
 -- a setting given the value that it has
 module _ (i : ℕ) (c : Core) (t : Trouble) (u : Text) (path : List Text)
-    (e : readUnit (c .settings) [] u ≡ passed (record { deed = Change (Put i (valueAt (c .settings) i)); path = path })) where
+    (e : readUnit (c .settings) [] u ≡ passed (record { deed = Change (Put i (valueAt (c .settings) i) On); path = path })) where
   same-value : withValue i (valueAt (c .settings) i) (c .settings) ≡ c .settings
   same-value = ap (λ l. record { values = l }) (set-getD (c .settings .values) i (pos 0))
 
@@ -113,7 +114,7 @@ module _ (i : ℕ) (c : Core) (t : Trouble) (u : Text) (path : List Text)
   unfolding refusal attempt perform _>>=_
   not-refused = rw e
 
-module _ (i : ℕ) (b : Box) (fit : Fit mostAnswer b) (h : i < 16) (a : Text) (is : a ≡ answer-of (b .core .settings) i)
+module _ (i : ℕ) (b : Box) (fit : Fit mostAnswer b) (h : i < count) (a : Text) (is : a ≡ answer-of (b .core .settings) i)
     (none : b .core .answer ≡ []) (q : Sends i a b) where
   abbrev c : Core
   c = withLine [] false (b .core)
@@ -137,7 +138,7 @@ module _ (i : ℕ) (b : Box) (fit : Fit mostAnswer b) (h : i < 16) (a : Text) (i
       let n : atNewline b ≡ box c (b .trouble) = none-interrupted c (b .trouble) none in
       let w = good-at s (fit .core .settings) i h in
       let d = answer-sets s i h (valueAt s i) w (no-conflict s (fit .core .settings) i) in
-      let r = sent.reads-line i (q .left) (q .header) (q .gap) a (q .right) parts s (Change (Put i (valueAt s i))) (rw is d) in
+      let r = sent.reads-line i (q .left) (q .header) (q .gap) a (q .right) parts s (Change (Put i (valueAt s i) On)) (rw is d) in
       let u = sent.alone i (q .left) (q .header) (q .gap) a (q .right) parts in (
         rw (q .whole, n, q .line, u, put-back i c (b .trouble) _ _ r) (none-finished c (b .trouble) none),
         rw (q .whole, n, q .line, u) (not-refused i c (b .trouble) _ _ r),
@@ -202,7 +203,7 @@ module _ (i : ℕ) (a buffer : Text) (before early late : List Event)
 
   back : Sends i a sending → (endLine sending ≡ box (withLine [] false (sending .core)) (sending .trouble)) × (lineRefusal sending ≡ 0)
   back sends =
-      back-line i sending (fit (sentBack before early buffer late)) (sixteen i asking (fit before) asks) a
+      back-line i sending (fit (sentBack before early buffer late)) (there i asking (fit before) asks) a
       (answer-is ∙ ap (λ (s : Settings). answer-of s i) (sym same-settings)) none sends
 
 pub round-trip : RoundTrip

@@ -15,13 +15,15 @@ use Rattle.registers.specs.Text.{Text, if_then_else_, digit, small, letter, cap
 use Rattle.registers.specs.Check.{passed, check, _>>=_, _>>_}
 use Rattle.registers.specs.Number.{sign, point, afterSign, fractionOf, afterFraction, exponentOf, afterExponent, lowering, written, numeralFrom, numeral, decimalOf, valueOf, remains, number}
 use Rattle.registers.specs.NumberParts.{held}
-use Rattle.registers.specs.Rounding.{nearest, sizeIn, rounded}
+use Rattle.registers.specs.Rounding.{nearest, sizeIn, rounded, sideIn}
 use Rattle.registers.specs.Answer.{inPlaces, decimal, tenths, signedText}
 use Rattle.registers.specs.declared.number.Decimal.{Decimal}
+use Rattle.registers.specs.declared.rounding.Side.the-variants.{On}
 use Rattle.registers.proofs.Tests.{holds, and-both, and-true, every-append}
 use Rattle.registers.proofs.text.Laws.{digit-bounds}
 use Rattle.registers.proofs.number.Numerals.{numeral-append, few-digits}
 use Rattle.registers.proofs.answer.Decimals.{decimal-one}
+use Rattle.registers.proofs.rounding.Sides.{side-on}
 use Rattle.interpreter.specs.Parameter.{Figure, parameter}
 use Rattle.interpreter.proofs.Choices.{if-elim}
 use Rattle.interpreter.proofs.unit.Trims.{some-behind}
@@ -132,6 +134,12 @@ pub tenths-rounded : (v : ℤ) → rounded 10 (asTenths v) ≡ v
 unfolding rounded sizeIn
 tenths-rounded (pos n) = rw (in-steps n)
 tenths-rounded (negsuc n) = rw (in-steps (suc n))
+
+-- nothing is rounded off
+pub tenths-on : (v : ℤ) → sideIn 10 (asTenths v) ≡ On
+unfolding sideIn sizeIn
+tenths-on (pos n) = rw (in-steps n, side-on (n * 1 * 10) 10 n (omega arith))
+tenths-on (negsuc n) = rw (in-steps (suc n), side-on (suc n * 1 * 10) 10 (suc n) (omega arith))
 
 -- ---- its bytes are digits, a point and a minus
 

@@ -10,7 +10,7 @@ use Rattle.registers.specs.Check.{Checked, refused, passed}
 use Rattle.registers.proofs.Tests.{and-both}
 use Rattle.interpreter.specs.Header.{spells}
 use Rattle.interpreter.specs.Rows.{Row, rows, fitsRow, findRow, hasForm, sameBool}
-use Rattle.interpreter.specs.RowsParts.{roleAt, firstFit, rowOf, named}
+use Rattle.interpreter.specs.RowsParts.{rowCount, roleAt, firstFit, rowOf, named}
 use Rattle.interpreter.specs.HeaderParts.{closed}
 use Rattle.interpreter.specs.declared.deed.Role.{Role}
 use Rattle.interpreter.specs.declared.deed.Role.the-variants.{Setting as setting}
@@ -72,27 +72,27 @@ module _ (star : Bool) (names : List Text) (asked : Bool) where
 
   -- ---- over the whole table
 
-  pub found-most : rowOf star names asked ≤ 33
+  pub found-most : rowOf star names asked ≤ rowCount
   unfolding rowOf
   found-most = let n = rows-many in let m = most-in rows in omega arith
 
   module _ (row : ℕ) (is : row ≡ rowOf star names asked) where
     -- "-113 is raised exactly when no row .. spells the header"
-    pub found-none : 33 ≤ row → findRow star names asked rows ≡ refused 113
+    pub found-none : rowCount ≤ row → findRow star names asked rows ≡ refused 113
     unfolding rowOf
     found-none h = let n = rows-many in none-in rows (omega arith)
 
-    found : row < 33 → Is (findRow star names asked rows) rows row (setting row)
+    found : row < rowCount → Is (findRow star names asked rows) rows row (setting row)
     unfolding rowOf
     found h =
         let n = rows-many in
         let f = found-in rows (setting row) (omega arith) in
         subst (λ (i : ℕ). Is (findRow star names asked rows) rows i (setting row)) (sym is) f
 
-    pub found-role : row < 33 → findRow star names asked rows ≡ passed (roleAt row)
+    pub found-role : row < rowCount → findRow star names asked rows ≡ passed (roleAt row)
     unfolding roleAt
     found-role h = found h .0
 
-    pub found-form : row < 33 → hasForm asked (roleAt row) ≡ true
+    pub found-form : row < rowCount → hasForm asked (roleAt row) ≡ true
     unfolding roleAt
     found-form h = found h .1

@@ -14,19 +14,21 @@ use borrow.Author.Tests.{leb-true, ne-eqb}
 use Rattle.registers.specs.Text.{Text, if_then_else_}
 use Rattle.registers.specs.Check.{Checked, refused, passed, _>>=_, _>>_, check}
 use Rattle.registers.specs.Errors.{numberOf}
-use Rattle.registers.specs.Rounding.{rounded, fitted}
-use Rattle.registers.specs.Settings.{Kind, bool, words, number, kindOf, lowest, highest, within, conflict}
+use Rattle.registers.specs.Rounding.{rounded, fitted, sideIn, roundedIn}
+use Rattle.registers.specs.Settings.{count, Kind, bool, words, number, kindOf, lowest, highest, within, conflict, accepted}
 use Rattle.registers.specs.Status.{widest}
 use Rattle.registers.specs.declared.error.Error.{Error}
 use Rattle.registers.specs.declared.number.Decimal.{Decimal}
 use Rattle.registers.specs.declared.rounding.Fit.{Fit}
 use Rattle.registers.specs.declared.rounding.Fit.the-variants.{Within, Outside}
+use Rattle.registers.specs.declared.rounding.Rounded.{Rounded}
+use Rattle.registers.specs.declared.rounding.Side.{Side}
 use Rattle.registers.specs.declared.settings.Settings.{Settings}
 use Rattle.registers.specs.declared.status.Register.{Register}
 use Rattle.registers.specs.declared.status.Register.the-variants.{Ese, Sre, Enable, Ntr, Ptr}
 use Rattle.registers.proofs.rounding.Laws.{rounded-once}
-use Rattle.interpreter.specs.Parameter.{Given, Word, Figure, parameter, wordsOf, takesNumbers, asksLimits, limitWords, limitAt, limitGiven, valueGiven, least, greatest, settingDeed, limitDeed, registerDeed, deedOf}
-use Rattle.interpreter.specs.ParameterParts.{meantGiven, fitIn, putFit, storeTo, registerTo, partsOf}
+use Rattle.interpreter.specs.Parameter.{Given, Word, Figure, parameter, wordsOf, takesNumbers, asksLimits, limitWords, limitAt, limitGiven, valueGiven, sideGiven, least, greatest, settingDeed, limitDeed, registerDeed, deedOf}
+use Rattle.interpreter.specs.ParameterParts.{meantGiven, fitIn, roundedTo, putFit, storeTo, registerTo, partsOf}
 use Rattle.interpreter.specs.declared.deed.Deed.the-variants.{Change, Query}
 use Rattle.interpreter.specs.declared.deed.Change.the-variants.{Put, Store}
 use Rattle.interpreter.specs.declared.deed.Query.the-variants.{Limit, Value}
@@ -60,21 +62,24 @@ module _ {m : Checked Given} {p : Parameter} (is : meantGiven p ≡ m) where
 
 -- ---- checks 7 and 8 on a value of a setting
 
-pub fitted-in : (k : ℕ) (s : Settings) (i : ℕ) (d : Decimal) → fitted k (lowest i) (highest s i) d ≡ fitIn s i (rounded k d)
-unfolding fitted fitIn within
-fitted-in k s i d = refl
+pub rounded-in : (k : ℕ) (s : Settings) (i : ℕ) (d : Decimal)
+    → roundedIn k (lowest i) (highest s i) d ≡ roundedTo s i (rounded k d) (sideIn k d)
+unfolding roundedIn fitted fitIn within
+rounded-in k s i d = refl
 
 pub fit-within : (s : Settings) (i : ℕ) (v : ℤ) → within s i v ≡ true → Within v ≡ fitIn s i v
 unfolding fitIn if_then_else_
 fit-within s i v e = rw e
 
-fit-put : (s : Settings) (i : ℕ) (v : ℤ)
-    → (check 222 (within s i v) >> check 221 (not (conflict s i v)) >> passed (Change (Put i v))) ≡ putFit s i false (fitIn s i v)
+fit-put : (s : Settings) (i : ℕ) (v : ℤ) (x : Side)
+    → (check 222 (within s i v) >> check 222 (accepted s x) >> check 221 (not (conflict s i v)) >> passed (Change (Put i v x)))
+    ≡ putFit s i false (fitIn s i v) x
 unfolding fitIn putFit if_then_else_ check _>>_
-fit-put s i v = go (within s i v)
+fit-put s i v x = go (within s i v)
   where
     go : (w : Bool)
-        → (check 222 w >> check 221 (not (conflict s i v)) >> passed (Change (Put i v))) ≡ putFit s i false (if w then Within v else Outside)
+        → (check 222 w >> check 222 (accepted s x) >> check 221 (not (conflict s i v)) >> passed (Change (Put i v x)))
+        ≡ putFit s i false (if w then Within v else Outside) x
     go true = refl
     go false = refl
 
@@ -101,15 +106,15 @@ module _ (x : Register) (d : Decimal) {f : Fit} (is : f ≡ fitted 1 (pos 0) (po
       let h = rounded-once 1 (pos 0) (pos (widest x)) d .within z (sym is ∙ told) in
       small-natural x z (h .1) (h .2)
 
-  pub store-within : (z : ℤ) → f ≡ Within z → passed (Change (Store x (natAbs z))) ≡ storeTo x (rounded 1 d)
+  pub store-within : (z : ℤ) → f ≡ Within z → (side : Side) → passed (Change (Store x (natAbs z) side)) ≡ storeTo x (rounded 1 d) side
   unfolding storeTo check _>>_
-  store-within z told =
+  store-within z told side =
       let h = rounded-once 1 (pos 0) (pos (widest x)) d .within z (sym is ∙ told) in
       rw (← h .0, h .1, h .2)
 
-  pub store-outside : f ≡ Outside → refused 222 ≡ storeTo x (rounded 1 d)
+  pub store-outside : f ≡ Outside → (side : Side) → refused 222 ≡ storeTo x (rounded 1 d) side
   unfolding storeTo check _>>_
-  store-outside told = rw (rounded-once 1 (pos 0) (pos (widest x)) d .outside (sym is ∙ told))
+  store-outside told side = rw (rounded-once 1 (pos 0) (pos (widest x)) d .outside (sym is ∙ told))
 
 -- ---- checks 5 to 8 on a setting
 
@@ -120,9 +125,10 @@ value-asked s i true h = refl
 value-asked s i false h = absurd (omega arith)
 
 -- with one, where one may be: what a parameter gives is asked for, or is set
-pub setting-is : (s : Settings) (i : ℕ) → i < 16 → (asked : Bool) (t : Text) → 1 ≤ greatest (Setting i) asked
+pub setting-is : (s : Settings) (i : ℕ) → i < count → (asked : Bool) (t : Text) → 1 ≤ greatest (Setting i) asked
     → deedOf s (Setting i) asked (t ∷ [])
-    ≡ (parameter (wordsOf (kindOf i)) (takesNumbers (kindOf i) && not asked) t >>= λ g. putFit s i asked (fitIn s i (valueGiven s i (kindOf i) g)))
+    ≡ (parameter (wordsOf (kindOf i)) (takesNumbers (kindOf i) && not asked) t >>= λ g.
+    putFit s i asked (fitIn s i (valueGiven s i (kindOf i) g)) (sideGiven (kindOf i) g))
 unfolding deedOf greatest if_then_else_ settingDeed limitDeed valueGiven putFit _>>=_
 setting-is s i h false t one =
     rw (and-right (takesNumbers (kindOf i))) (go (parameter (wordsOf (kindOf i)) (takesNumbers (kindOf i)) t))
@@ -134,21 +140,22 @@ setting-is s i h false t one =
     go : (m : Checked Given)
         → (m >>= λ g.
         let v = valueGiven s i (kindOf i) g in
-        check 222 (within s i v) >> check 221 (not (conflict s i v)) >> passed (Change (Put i v)))
-        ≡ (m >>= λ g. putFit s i false (fitIn s i (valueGiven s i (kindOf i) g)))
+        let x = sideGiven (kindOf i) g in
+        check 222 (within s i v) >> check 222 (accepted s x) >> check 221 (not (conflict s i v)) >> passed (Change (Put i v x)))
+        ≡ (m >>= λ g. putFit s i false (fitIn s i (valueGiven s i (kindOf i) g)) (sideGiven (kindOf i) g))
     go (refused n) = refl
-    go (passed g) = fit-put s i (valueGiven s i (kindOf i) g)
+    go (passed g) = fit-put s i (valueGiven s i (kindOf i) g) (sideGiven (kindOf i) g)
 setting-is s i h true t one = kinded (kindOf i) one
   where
     found : (m : Checked Given) → parameter limitWords false t ≡ m → (k : ℕ) (low high : ℤ)
         → (m >>= λ g. passed (Query (Limit i (limitGiven s i g))))
-        ≡ (m >>= λ g. putFit s i true (fitIn s i (valueGiven s i (number k low high) g)))
+        ≡ (m >>= λ g. putFit s i true (fitIn s i (valueGiven s i (number k low high) g)) (sideGiven (number k low high) g))
     found (refused n) e k low high = refl
     found (passed (Word n)) e k low high = rw (← fit-within s i (limitAt s i n) (limit-within s i h n))
     found (passed (Figure d)) e k low high = absurd (asked-word limitWords t d e)
 
     kinded : (k : Kind) → 1 ≤ asksLimits k
-        → limitDeed s i t ≡ (parameter (wordsOf k) (takesNumbers k && false) t >>= λ g. putFit s i true (fitIn s i (valueGiven s i k g)))
+        → limitDeed s i t ≡ (parameter (wordsOf k) (takesNumbers k && false) t >>= λ g. putFit s i true (fitIn s i (valueGiven s i k g)) (sideGiven k g))
     kinded bool h = absurd (omega arith)
     kinded (words ws) h = absurd (omega arith)
     kinded (number k low high) h = found (parameter limitWords false t) refl k low high
@@ -160,7 +167,7 @@ module _ (x : Register) (t : Text) where
   unfolding registerTo registerDeed _>>=_
   register-refused e = rw e
 
-  pub register-figure : {d : Decimal} → parameter [] true t ≡ passed (Figure d) → storeTo x (rounded 1 d) ≡ registerTo x false t
+  pub register-figure : {d : Decimal} → parameter [] true t ≡ passed (Figure d) → storeTo x (rounded 1 d) (sideIn 1 d) ≡ registerTo x false t
   unfolding registerTo registerDeed storeTo _>>=_
   register-figure e = rw e
 

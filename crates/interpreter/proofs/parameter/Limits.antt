@@ -10,7 +10,7 @@ use lib.Signed.{leZ}
 use borrow.Author.Tests.{eqb-true, le-leb}
 use Rattle.registers.specs.Text.{if_then_else_}
 use Rattle.registers.specs.Rounding.{switchedOn}
-use Rattle.registers.specs.Settings.{Kind, bool, words, number, table, settingAt, kindOf, lowestOf, highestOf, lowest, highest, within, voltage, wideRange, twelveVolts}
+use Rattle.registers.specs.Settings.{count, Kind, bool, words, number, table, settingAt, kindOf, lowestOf, highestOf, lowest, highest, within, voltage, wideRange, twelveVolts}
 use Rattle.registers.specs.declared.number.Decimal.{Decimal}
 use Rattle.registers.specs.declared.settings.Settings.{Settings}
 use Rattle.registers.proofs.Tests.{below-at, and-true}
@@ -30,13 +30,13 @@ plain-highest s i h = go (eqb i voltage) refl
     go true e = absurd (false≢true (sym (rw (eqb-true i voltage e) at h)))
     go false e = refl
 
-low-high : (s : Settings) (i : ℕ) → i < 16 → leZ (lowest i) (highest s i) ≡ true
+low-high : (s : Settings) (i : ℕ) → i < count → leZ (lowest i) (highest s i) ≡ true
 unfolding lowest highest if_then_else_ settingAt table
 low-high s i h = go (wideRange s)
   where
     go : (w : Bool) → leZ (lowestOf (kindOf i)) (if eqb i voltage && not w then twelveVolts else highestOf (kindOf i)) ≡ true
-    go true = below-at 16 (λ k. leZ (lowestOf (kindOf k)) (if eqb k voltage && not true then twelveVolts else highestOf (kindOf k))) refl i h
-    go false = below-at 16 (λ k. leZ (lowestOf (kindOf k)) (if eqb k voltage && not false then twelveVolts else highestOf (kindOf k))) refl i h
+    go true = below-at count (λ k. leZ (lowestOf (kindOf k)) (if eqb k voltage && not true then twelveVolts else highestOf (kindOf k))) refl i h
+    go false = below-at count (λ k. leZ (lowestOf (kindOf k)) (if eqb k voltage && not false then twelveVolts else highestOf (kindOf k))) refl i h
 
 module _ (s : Settings) (i : ℕ) where
   -- a place in the list of a row's words
@@ -64,12 +64,12 @@ module _ (s : Settings) (i : ℕ) where
       go (words ws) h = le-leb 0 (pred (length ws)) (omega arith)
       go (number m low high) h = absurd (false≢true (sym h))
 
-  pub limit-within : i < 16 → (n : ℕ) → within s i (limitAt s i n) ≡ true
+  pub limit-within : i < count → (n : ℕ) → within s i (limitAt s i n) ≡ true
   unfolding within
   limit-within h zero = and-true (same-le (lowest i)) (low-high s i h)
   limit-within h (suc n) = and-true (low-high s i h) (same-le (highest s i))
 
-  pub word-within : i < 16 → (n : ℕ) → n < length (wordsOf (kindOf i)) → within s i (valueGiven s i (kindOf i) (Word n)) ≡ true
+  pub word-within : i < count → (n : ℕ) → n < length (wordsOf (kindOf i)) → within s i (valueGiven s i (kindOf i) (Word n)) ≡ true
   unfolding valueGiven
   word-within h n l = go (kindOf i) refl
     where

@@ -12,33 +12,35 @@ use types.Run.{OneOf, miss}
 use denote.Enum.Declared.{tagOf}
 use borrow.Author.Tests.{leb-true, ltb-true, ltb-false}
 use Rattle.registers.specs.Text.{if_then_else_}
-use Rattle.registers.specs.Rounding.{switchedOn, rounded}
-use Rattle.registers.specs.Settings.{Kind, bool, words, number, table, settingAt, kindOf, valuesIn, highest}
+use Rattle.registers.specs.Rounding.{switchedOn, rounded, sideIn}
+use Rattle.registers.specs.Settings.{count, Kind, bool, words, number, table, settingAt, kindOf, valuesIn, highest}
 use Rattle.registers.specs.declared.number.Decimal.{Decimal}
+use Rattle.registers.specs.declared.rounding.Side.{Side}
+use Rattle.registers.specs.declared.rounding.Side.the-variants.{On}
 use Rattle.registers.specs.declared.settings.Settings.{Settings}
 use Rattle.registers.specs.declared.settings.Values.{Values}
 use Rattle.registers.specs.declared.settings.Values.the-variants.{Bool as BoolValue, Word as WordValue, Tenths, Whole}
 use Rattle.registers.proofs.Tests.{below-at}
 use Rattle.registers.proofs.settings.Laws.{behind-is}
 use Rattle.registers.proofs.settings.Values as values
-use Rattle.interpreter.specs.RowsParts.{wordList}
-use Rattle.interpreter.specs.Parameter.{Word, Figure, least, greatest, asksLimits, takesNumbers, wordsOf, limitAt, valueGiven}
+use Rattle.interpreter.specs.RowsParts.{headerWords, wordCount, wordList}
+use Rattle.interpreter.specs.Parameter.{Word, Figure, least, greatest, asksLimits, takesNumbers, wordsOf, limitAt, valueGiven, sideGiven}
 use Rattle.interpreter.specs.ParameterParts.{TakesOf, isNumber}
 use Rattle.interpreter.specs.declared.deed.Role.{Role}
 use Rattle.interpreter.specs.declared.deed.Role.the-variants.{Setting, Register, Order, Question}
 use Rattle.interpreter.proofs.deed.Laws.{listed, agree}
 use Rattle.interpreter.proofs.deed.Role as roles
 
--- ---- what two functions say of every row, by computing both for all sixteen
+-- ---- what two functions say of every row, by computing both for all settings
 
 -- a row behind the table counts as a bool
-kinds-agree : {A : Type 0} (f g : Kind → A) → listed 16 (λ i. f (kindOf i)) ≡ listed 16 (λ i. g (kindOf i)) → f bool ≡ g bool
+kinds-agree : {A : Type 0} (f g : Kind → A) → listed count (λ i. f (kindOf i)) ≡ listed count (λ i. g (kindOf i)) → f bool ≡ g bool
     → (i : ℕ) → f (kindOf i) ≡ g (kindOf i)
-kinds-agree f g e b i = go (ltb i 16) refl
+kinds-agree f g e b i = go (ltb i count) refl
   where
-    go : (t : Bool) → ltb i 16 ≡ t → f (kindOf i) ≡ g (kindOf i)
-    go true q = agree 16 (λ k. f (kindOf k)) (λ k. g (kindOf k)) e i (ltb-true i 16 q)
-    go false q = rw (behind-is i (ltb-false i 16 q)) b
+    go : (t : Bool) → ltb i count ≡ t → f (kindOf i) ≡ g (kindOf i)
+    go true q = agree count (λ k. f (kindOf k)) (λ k. g (kindOf k)) e i (ltb-true i count q)
+    go false q = rw (behind-is i (ltb-false i count q)) b
 
 -- ---- by the sort of a row's values
 
@@ -55,6 +57,17 @@ pub figure-in : (i : ℕ) {v told : Values} → told ≡ v → told ≡ valuesIn
 unfolding listed settingAt table if_then_else_ valueGiven
 figure-in i is of s d =
     ap (figureIn d) (sym is ∙ of) ∙ kinds-agree (λ k. figureIn d (valuesIn k)) (λ k. valueGiven s i k (Figure d)) refl refl i
+
+-- and which side of the step a number is on
+abbrev pub sideOf : Decimal → Values → Side
+sideOf d BoolValue = On
+sideOf d WordValue = On
+sideOf d Tenths = sideIn 10 d
+sideOf d Whole = sideIn 1 d
+
+pub side-of : (i : ℕ) {v told : Values} → told ≡ v → told ≡ valuesIn (kindOf i) → (d : Decimal) → sideOf d v ≡ sideGiven (kindOf i) (Figure d)
+unfolding listed settingAt table if_then_else_
+side-of i is of d = ap (sideOf d) (sym is ∙ of) ∙ kinds-agree (λ k. sideOf d (valuesIn k)) (λ k. sideGiven k (Figure d)) refl refl i
 
 abbrev pub numberIn : Values → Bool
 numberIn BoolValue = false
@@ -113,6 +126,12 @@ module _ (s : Settings) (i n : ℕ) where
   word-other (words ws) e = refl
   word-other (number m low high) e = absurd (false≢true (sym e))
 
+-- and are on the step
+pub word-on : (k : Kind) (n : ℕ) → On ≡ sideGiven k (Word n)
+word-on bool n = refl
+word-on (words ws) n = refl
+word-on (number m low high) n = refl
+
 pub limit-other : (s : Settings) (i n : ℕ) → (n ≡ 0 → ⊥) → highest s i ≡ limitAt s i n
 limit-other s i zero h = absurd (h refl)
 limit-other s i (suc n) h = refl
@@ -120,26 +139,26 @@ limit-other s i (suc n) h = refl
 -- ---- the code's tables of words
 
 abbrev firstWords : List ℕ
-firstWords = 6 ∷ 6 ∷ 6 ∷ 0 ∷ 8 ∷ 3 ∷ 8 ∷ 8 ∷ 5 ∷ 5 ∷ 8 ∷ 8 ∷ 8 ∷ 8 ∷ 8 ∷ 6 ∷ []
+firstWords = 6 ∷ 6 ∷ 6 ∷ 0 ∷ 8 ∷ 3 ∷ 8 ∷ 8 ∷ 5 ∷ 5 ∷ 8 ∷ 8 ∷ 8 ∷ 8 ∷ 8 ∷ 6 ∷ 6 ∷ []
 
 abbrev wordCounts : List ℕ
-wordCounts = 2 ∷ 2 ∷ 2 ∷ 3 ∷ 2 ∷ 2 ∷ 2 ∷ 2 ∷ 2 ∷ 2 ∷ 2 ∷ 2 ∷ 2 ∷ 2 ∷ 2 ∷ 2 ∷ []
+wordCounts = 2 ∷ 2 ∷ 2 ∷ 3 ∷ 2 ∷ 2 ∷ 2 ∷ 2 ∷ 2 ∷ 2 ∷ 2 ∷ 2 ∷ 2 ∷ 2 ∷ 2 ∷ 2 ∷ 2 ∷ []
 
-pub setting-takes : (i : ℕ) → i < 16
+pub setting-takes : (i : ℕ) → i < count
     → TakesOf (wordsOf (kindOf i)) (takesNumbers (kindOf i))
-    (record { first = 42 + getD firstWords i 0; count = getD wordCounts i 0; numbers = leb 6 (getD firstWords i 0) })
+    (record { first = headerWords + getD firstWords i 0; count = getD wordCounts i 0; numbers = leb 6 (getD firstWords i 0) })
 unfolding listed wordList settingAt table
 setting-takes i h =
     record {
-      words = agree 16 (λ k. take (getD wordCounts k 0) (drop (42 + getD firstWords k 0) wordList)) (λ k. wordsOf (kindOf k)) refl i h;
-      numbers = agree 16 (λ k. leb 6 (getD firstWords k 0)) (λ k. takesNumbers (kindOf k)) refl i h;
-      room = leb-true (42 + getD firstWords i 0 + getD wordCounts i 0) 52
-          (below-at 16 (λ k. leb (42 + getD firstWords k 0 + getD wordCounts k 0) 52) refl i h);
+      words = agree count (λ k. take (getD wordCounts k 0) (drop (headerWords + getD firstWords k 0) wordList)) (λ k. wordsOf (kindOf k)) refl i h;
+      numbers = agree count (λ k. leb 6 (getD firstWords k 0)) (λ k. takesNumbers (kindOf k)) refl i h;
+      room = leb-true (headerWords + getD firstWords i 0 + getD wordCounts i 0) wordCount
+          (below-at count (λ k. leb (headerWords + getD firstWords k 0 + getD wordCounts k 0) wordCount) refl i h);
     }
 
-pub words-few : (i : ℕ) → i < 16 → length (wordsOf (kindOf i)) ≤ 52
+pub words-few : (i : ℕ) → i < count → length (wordsOf (kindOf i)) ≤ wordCount
 unfolding settingAt table
-words-few i h = leb-true (length (wordsOf (kindOf i))) 52 (below-at 16 (λ k. leb (length (wordsOf (kindOf k))) 52) refl i h)
+words-few i h = leb-true (length (wordsOf (kindOf i))) wordCount (below-at count (λ k. leb (length (wordsOf (kindOf k))) wordCount) refl i h)
 
 -- ---- check 4: a number's query may have one parameter; what sets takes as many as it may have, and a query does without
 

@@ -16,7 +16,7 @@ use Rattle.registers.specs.Words.{shortForm, longForm, matches}
 use Rattle.registers.specs.Number.{number, sign, point}
 use Rattle.registers.specs.declared.number.Decimal.{Decimal}
 use Rattle.registers.proofs.Tests.{and-both, and-true}
-use Rattle.interpreter.specs.RowsParts.{wordList, wordAt}
+use Rattle.interpreter.specs.RowsParts.{wordCount, wordList, wordAt}
 use Rattle.interpreter.specs.Parameter.{Given, Word, Figure, findWord, parameter}
 use Rattle.interpreter.specs.ParameterParts.{aWord, aFigure}
 use Rattle.interpreter.proofs.Lists.{every-at}
@@ -25,7 +25,7 @@ use Rattle.interpreter.proofs.Lists.{every-at}
 abbrev from : ℕ → ℕ → List String
 from at count = take count (drop at wordList)
 
-from-length : (at count : ℕ) → at + count ≤ 52 → length (from at count) ≡ count
+from-length : (at count : ℕ) → at + count ≤ wordCount → length (from at count) ≡ count
 unfolding wordList
 from-length at count room = simp (length-take, length-drop) (omega arith)
 
@@ -59,7 +59,7 @@ spelled-in (b ∷ t) (x ∷ l) e h =
     let q = and-both (wordByte x) (every wordByte l) h in
     and-true (capital-in b (rw (eqb-true (capital b) x (p .0)) (q .0))) (spelled-in t l (p .1) (q .1))
 
-word-bytes : (i : ℕ) (t : Text) → i < 52 → matches (wordAt i) t ≡ true → every wordByte t ≡ true
+word-bytes : (i : ℕ) (t : Text) → i < wordCount → matches (wordAt i) t ≡ true → every wordByte t ≡ true
 unfolding wordAt wordList matches
 word-bytes i t h e = go (same (map capital t) (shortForm w)) refl e
   where
@@ -76,7 +76,7 @@ word-bytes i t h e = go (same (map capital t) (shortForm w)) refl e
 -- ---- the search: what it finds is what is found from the n-th word on
 
 pub record Searching (at count : ℕ) (t : Text) (n : ℕ) : Type 0 where
-  pub room : at + count ≤ 52
+  pub room : at + count ≤ wordCount
   pub left : findWord n (drop n (from at count)) t ≡ findWord 0 (from at count) t
 
 module _ {at count : ℕ} {t : Text} {n : ℕ} (w : Searching at count t n) where

@@ -12,6 +12,7 @@ use borrow.Author.Tests.{ne-eqb, lt-ltb, le-ltb, leb-true, leb-false}
 use Rattle.registers.specs.Text.{Text, if_then_else_, empty}
 use Rattle.registers.specs.Check.{refused, passed, _>>=_, _>>_, check}
 use Rattle.registers.specs.Status.{Registers, most, registersOf, troubleOf, raisedIn, registerSet, widest}
+use Rattle.registers.specs.declared.rounding.Side.{Side}
 use Rattle.registers.specs.declared.settings.Settings.{Settings}
 use Rattle.registers.specs.declared.status.Status.{Status}
 use Rattle.registers.specs.declared.status.Register.{Register}
@@ -42,9 +43,9 @@ use Rattle.interpreter.proofs.deed.Query as asked
 
 pub same-settings : (x : changes.Change) → OneOf (0 ∷ 3 ∷ []) (tagOf orders.the-type x) → (s : Settings) → s ≡ settingsChanged x s
 same-settings noChange h s = refl
-same-settings (Put i v) h s = absurd (miss (0 ∷ 3 ∷ []) 1 tt h)
+same-settings (Put i v side) h s = absurd (miss (0 ∷ 3 ∷ []) 1 tt h)
 same-settings Reset h s = absurd (miss (0 ∷ 3 ∷ []) 2 tt h)
-same-settings (Store x n) h s = refl
+same-settings (Store x n side) h s = refl
 
 pub no-change : (d : Deed) → OneOf (1 ∷ 2 ∷ 3 ∷ 4 ∷ []) (tagOf deeds.the-type d) → (s : Settings) → s ≡ settingsLeft d s
 no-change (Change x) h s = absurd (miss (1 ∷ 2 ∷ 3 ∷ 4 ∷ []) 0 tt h)
@@ -58,9 +59,9 @@ no-change (Inquire q) h s = refl
 module _ (s : Status) (k : s .queued ≤ most) where
   pub same-status : (x : changes.Change) → OneOf (0 ∷ 1 ∷ 2 ∷ []) (tagOf orders.the-type x) → StatusLeft (Change x) s s
   same-status noChange h = record { registers = λ _ _. refl; trouble = refl; queued = k }
-  same-status (Put i v) h = record { registers = λ _ _. refl; trouble = refl; queued = k }
+  same-status (Put i v side) h = record { registers = λ _ _. refl; trouble = refl; queued = k }
   same-status Reset h = record { registers = λ _ _. refl; trouble = refl; queued = k }
-  same-status (Store x n) h = absurd (miss (0 ∷ 1 ∷ 2 ∷ []) 3 tt h)
+  same-status (Store x n side) h = absurd (miss (0 ∷ 1 ∷ 2 ∷ []) 3 tt h)
 
   pub only-asked : (q : queries.Query) → OneOf (0 ∷ 1 ∷ 2 ∷ 3 ∷ 4 ∷ 5 ∷ 6 ∷ []) (tagOf asked.the-type q) → StatusLeft (Query q) s s
   only-asked Identity h = record { registers = λ _ _. refl; trouble = refl; queued = k }
@@ -72,10 +73,10 @@ module _ (s : Status) (k : s .queued ≤ most) where
   only-asked Condition h = record { registers = λ _ _. refl; trouble = refl; queued = k }
   only-asked OperationEvents h = absurd (miss (0 ∷ 1 ∷ 2 ∷ 3 ∷ 4 ∷ 5 ∷ 6 ∷ []) 7 tt h)
 
-pub stored-left : (x : Register) (n : ℕ) (s : Status) → s .queued ≤ most → StatusLeft (Change (Store x n)) s (registerSet x n s)
-stored-left x n s k = go (leb n (widest x)) refl
+pub stored-left : (x : Register) (n : ℕ) (side : Side) (s : Status) → s .queued ≤ most → StatusLeft (Change (Store x n side)) s (registerSet x n s)
+stored-left x n side s k = go (leb n (widest x)) refl
   where
-    go : (b : Bool) → leb n (widest x) ≡ b → StatusLeft (Change (Store x n)) s (registerSet x n s)
+    go : (b : Bool) → leb n (widest x) ≡ b → StatusLeft (Change (Store x n side)) s (registerSet x n s)
     go true e = rw (set-yes s n x (leb-true n (widest x) e)) (record { registers = λ _ _. refl; trouble = refl; queued = k })
     go false e =
         let h = leb-false n (widest x) e in
@@ -87,9 +88,9 @@ changed-is : (x : changes.Change) (s : Settings) (r : Registers) (a : Text)
     → changed x (coreOf s r a) ≡ coreOf (settingsChanged x s) (registersChanged x r) a
 unfolding changed
 changed-is noChange s r a = refl
-changed-is (Put i v) s r a = refl
+changed-is (Put i v side) s r a = refl
 changed-is Reset s r a = refl
-changed-is (Store x n) s r a = refl
+changed-is (Store x n side) s r a = refl
 
 -- a query sees nothing of the answers so far
 record Apart (q : queries.Query) : Type 0 where

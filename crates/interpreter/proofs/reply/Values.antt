@@ -15,7 +15,7 @@ use mir.Facts.{toZ-ofZ}
 use borrow.Author.Tests.{ltb-true, ltb-false}
 use Rattle.registers.specs.Text.{Text, if_then_else_}
 use Rattle.registers.specs.Answer.{decimal, tenths, signedText}
-use Rattle.registers.specs.Settings.{Kind, bool, words, number, kindOf, answerOf, valuesIn, wordText}
+use Rattle.registers.specs.Settings.{count, Kind, bool, words, number, kindOf, answerOf, valuesIn, wordText}
 use Rattle.registers.specs.declared.settings.Values.{Values}
 use Rattle.registers.specs.declared.settings.Values.the-variants.{Bool as BoolValue, Word, Tenths, Whole}
 use Rattle.registers.proofs.settings.Laws.{behind-is}
@@ -65,13 +65,13 @@ module _ (k : Kind) {z : ℤ} (h : SFits w32 z) {told : Values} (is : told ≡ v
       whole Whole h = refl
 
 -- a row whose values are words is one of the table: behind it rows count as bools
-pub word-row : (i : ℕ) {told : Values} → told ≡ valuesIn (kindOf i) → told ≡ Word → i < 16
-word-row i is e = go (ltb i 16) refl
+pub word-row : (i : ℕ) {told : Values} → told ≡ valuesIn (kindOf i) → told ≡ Word → i < count
+word-row i is e = go (ltb i count) refl
   where
-    go : (t : Bool) → ltb i 16 ≡ t → i < 16
-    go true q = ltb-true i 16 q
+    go : (t : Bool) → ltb i count ≡ t → i < count
+    go true q = ltb-true i count q
     go false q =
-        let k : valuesIn (kindOf i) ≡ BoolValue = rw (behind-is i (ltb-false i 16 q)) in
+        let k : valuesIn (kindOf i) ≡ BoolValue = rw (behind-is i (ltb-false i count q)) in
         let z : _≡_ {A = ℕ} 0 1 = cc in
         absurd (omega arith)
 

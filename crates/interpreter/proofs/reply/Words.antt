@@ -17,7 +17,7 @@ use Rattle.registers.specs.Words.{shortForm, longForm}
 use Rattle.registers.specs.Settings.{wordText}
 use Rattle.registers.proofs.Tests.{and-both}
 use Rattle.interpreter.specs.ParameterParts.{takenWords}
-use Rattle.interpreter.specs.RowsParts.{wordList, wordAt, wordRow, wordTableOf, wordTable, rowTable, commandTable}
+use Rattle.interpreter.specs.RowsParts.{wordCount, wordList, wordAt, wordRow, wordTableOf, wordTable, rowTable, commandTable}
 use Rattle.interpreter.specs.DeedsParts.{textOf, RepliesWith}
 use Rattle.interpreter.specs.declared.parameter.Takes.{Takes}
 use Rattle.interpreter.specs.declared.reply.Reply.the-variants.{Word}
@@ -41,7 +41,7 @@ all-tidy : every tidy wordList ≡ true
 unfolding wordList wordRow shortForm longForm bytes small capital if_then_else_ same
 all-tidy = refl
 
-module _ (i : ℕ) (k : i < 52) where
+module _ (i : ℕ) (k : i < wordCount) where
   abbrev short : Text
   short = shortForm (wordAt i)
 

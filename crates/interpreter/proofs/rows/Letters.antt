@@ -14,7 +14,7 @@ use Rattle.registers.specs.Text.{Text, if_then_else_, capital, empty, first, sa
 use Rattle.registers.specs.Words.{shortForm, longForm, matches}
 use Rattle.registers.proofs.Tests.{and-both}
 use Rattle.registers.proofs.text.Laws.{first-at}
-use Rattle.interpreter.specs.RowsParts.{wordAt, agreed, wordCell, formLength}
+use Rattle.interpreter.specs.RowsParts.{wordCount, wordAt, agreed, wordCell, formLength}
 use Rattle.interpreter.proofs.rows.Words.{forms, short-cell, long-cell, short-is, short-small, long-at}
 
 pub agreed-most : (t l : Text) → (agreed t l ≤ length t) × (agreed t l ≤ length l)
@@ -71,7 +71,7 @@ module _ (p : ℕ → Bool) (kept : (b : ℕ) → p b ≡ false → p (capital b
       go true q ih = form-more b bs l k h e q ih
       go false q ih = form-none (b ∷ bs) l k h (rw q) (stops b bs l q e)
 
-  pub word-is : (t : Text) (w : ℕ) → w < 52 → every p (longForm (wordAt w)) ≡ true
+  pub word-is : (t : Text) (w : ℕ) → w < wordCount → every p (longForm (wordAt w)) ≡ true
       → let n = agreed t (longForm (wordAt w)) in
       matches (wordAt w) (start p t) ≡ (formLength w n && empty (start p (drop n t)))
   unfolding matches formLength
@@ -94,11 +94,11 @@ module _ (p : ℕ → Bool) (kept : (b : ℕ) → p b ≡ false → p (capital b
 
 -- so many first bytes of the text are the word's letters, and the rest is to be compared
 pub record Agreeing (t : Text) (w n : ℕ) : Type 0 where
-  pub word : w < 52
+  pub word : w < wordCount
   pub most : wordCell w 1 ≤ 14
   pub all : n + agreed (drop n t) (drop n (longForm (wordAt w))) ≡ agreed t (longForm (wordAt w))
 
-pub agreeing-none : (t : Text) (w : ℕ) → w < 52 → Agreeing t w 0
+pub agreeing-none : (t : Text) (w : ℕ) → w < wordCount → Agreeing t w 0
 agreeing-none t w h = record { word = h; most = forms w h .2; all = omega arith }
 
 module _ {t : Text} {w n : ℕ} (s : Agreeing t w n) where
@@ -131,7 +131,7 @@ module _ {t : Text} {w n : ℕ} (s : Agreeing t w n) where
   pub agreeing-full : wordCell w 1 ≤ n → n ≡ agreed t letters
   agreeing-full l = let c = long-cell w (s .word) in let m = agreed-most t letters .1 in let r = s .all in omega arith
 
-pub first-miss : (t : Text) (w : ℕ) (h : w < 52) → 0 < length t → (capital (first t) ≡ wordCell w 2 → ⊥) → 0 ≡ agreed t (longForm (wordAt w))
+pub first-miss : (t : Text) (w : ℕ) (h : w < wordCount) → 0 < length t → (capital (first t) ≡ wordCell w 2 → ⊥) → 0 ≡ agreed t (longForm (wordAt w))
 first-miss t w h l ne =
     let f = forms w h in
     agreeing-miss (agreeing-none t w h) l (omega arith) (λ e. ne (ap capital (first-at t 0) ∙ e))

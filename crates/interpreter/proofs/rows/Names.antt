@@ -13,7 +13,7 @@ use Rattle.registers.specs.Words.{longForm, matches}
 use Rattle.registers.proofs.Tests.{and-fails}
 use Rattle.registers.proofs.text.Laws.{first-at, rest-at, start-more, start-stop, start-end, end-drop}
 use Rattle.interpreter.specs.Cuts.{joinFirst}
-use Rattle.interpreter.specs.RowsParts.{wordAt, named, inName, agreed, wordCell, formLength, WordTaken}
+use Rattle.interpreter.specs.RowsParts.{wordCount, wordAt, named, inName, agreed, wordCell, formLength, WordTaken}
 use Rattle.interpreter.specs.declared.rows.Walk.the-variants.{To, Missed}
 use Rattle.interpreter.proofs.Lists.{rest-is}
 use Rattle.interpreter.proofs.rows.Greedy.{same-eq}
@@ -41,7 +41,7 @@ unfolding capital small if_then_else_
 colon-kept b q = let e = eqb-true b 58 (not-false _ q) in rw e
 
 -- a name that ends where it agrees no longer has just the bytes that agree
-name-length : (t : Text) (w : ℕ) → w < 52
+name-length : (t : Text) (w : ℕ) → w < wordCount
     → let n = agreed t (longForm (wordAt w)) in
     start inName (drop n t) ≡ [] → length (start inName t) ≡ n
 name-length t w h e =
@@ -52,21 +52,21 @@ name-length t w h e =
     let f : same (map capital name) (take n long) ≡ true = form-is inName colon-kept t long n m (long-plain w h) ∙ rw (e, eq-eqb n n refl) in
     sym (length-map name capital) ∙ ap length (same-eq (map capital name) (take n long) f) ∙ length-take-le n long m
 
-length-none : (w : ℕ) → w < 52 → formLength w 0 ≡ false
+length-none : (w : ℕ) → w < wordCount → formLength w 0 ≡ false
 unfolding formLength
 length-none w h = let f = forms w h in rw (ne-eqb 0 (wordCell w 0) (λ e. omega arith), ne-eqb 0 (wordCell w 1) (λ e. omega arith))
 
 -- a name is there, and so many bytes of it are the word's letters
 pub record Compared (t : Text) (at w n : ℕ) : Type 0 where
-  pub word : w < 52
+  pub word : w < wordCount
   pub some : at < length t
   pub is : n ≡ agreed (drop at t) (longForm (wordAt w))
 
-spelled : (t : Text) (at w n : ℕ) → w < 52 → n ≡ agreed (drop at t) (longForm (wordAt w))
+spelled : (t : Text) (at w n : ℕ) → w < wordCount → n ≡ agreed (drop at t) (longForm (wordAt w))
     → matches (wordAt w) (start inName (drop at t)) ≡ (formLength w n && empty (start inName (drop (at + n) t)))
 spelled t at w n h is = word-is inName colon-kept (drop at t) w h (long-plain w h) ∙ rw (sym is, drop-drop n at t)
 
-module _ (t : Text) (at w : ℕ) (h : w < 52) where
+module _ (t : Text) (at w : ℕ) (h : w < wordCount) where
   none-here : 0 ≡ agreed (drop at t) (longForm (wordAt w)) → WordTaken w t at Missed
   none-here e = spelled t at w 0 h e ∙ rw (length-none w h)
 

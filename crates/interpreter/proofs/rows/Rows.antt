@@ -16,7 +16,7 @@ use Rattle.registers.specs.Settings.{table}
 use Rattle.registers.proofs.Tests.{and-assoc}
 use Rattle.interpreter.specs.Header.{spells}
 use Rattle.interpreter.specs.Rows.{Row, plain, rows, settingRows, otherRows, fitsRow, hasForm, sameBool}
-use Rattle.interpreter.specs.RowsParts.{wordList, wordAt, placeIn, nodeByte, formByte, shared, Following, following, rowRow, rowTableOf, rowTable, greedy, nodeOf, wordIn, rowCell, formBit, formed}
+use Rattle.interpreter.specs.RowsParts.{rowBytes, wordCount, rowCount, wordList, wordAt, placeIn, nodeByte, formByte, shared, Following, following, rowRow, rowTableOf, rowTable, greedy, nodeOf, wordIn, rowCell, formBit, formed}
 use Rattle.interpreter.specs.declared.deed.Role.the-variants.{Setting as setting}
 use Rattle.interpreter.proofs.Lists.{every-at, map-at, getD-map, cell-at, table-length}
 use Rattle.interpreter.proofs.rows.Greedy.{clear, rows-clear, greedy-spells}
@@ -45,7 +45,7 @@ startBefore f = take (sharedIn f) (f .before)
 
 -- a node's byte names a word
 abbrev known : Node → Bool
-known x = ltb (wordIn (nodeByte x)) 52
+known x = ltb (wordIn (nodeByte x)) wordCount
 
 abbrev allKnown : Row → Bool
 allKnown r = every known (r .nodes)
@@ -63,11 +63,11 @@ bitSet star asked r = not (eqb (bitAnd (formByte r) (formBit star asked)) 0)
 abbrev has : Bool → Bool → Row → Bool
 has star asked r = sameBool star (r .star) && hasForm asked (r .role)
 
-pub rows-many : length rows ≡ 33
+pub rows-many : length rows ≡ rowCount
 unfolding rows settingRows otherRows table
 rows-many = refl
 
-chain-many : length chain ≡ 33
+chain-many : length chain ≡ rowCount
 unfolding rows settingRows otherRows table following
 chain-many = refl
 
@@ -99,7 +99,7 @@ forms-back true false = refl
 forms-back false true = refl
 forms-back false false = refl
 
-pub table-long : length rowTable ≡ 264
+pub table-long : length rowTable ≡ rowBytes
 unfolding rowTable rowTableOf
 table-long =
     let n = chain-many in
@@ -131,7 +131,7 @@ follow-at nodes (x ∷ []) (suc r) d h = absurd (omega arith)
 follow-at nodes (x ∷ y ∷ rs) (suc zero) d h = refl
 follow-at nodes (x ∷ y ∷ rs) (suc (suc r)) d h = follow-at (x .nodes) (y ∷ rs) (suc r) d (omega arith)
 
-module _ (r : ℕ) (h : r < 33) where
+module _ (r : ℕ) (h : r < rowCount) where
   abbrev nodes : List Node
   nodes = rowAt r .nodes
 
@@ -194,10 +194,10 @@ module _ (r : ℕ) (h : r < 33) where
         ∙ List·getD-append (map nodeByte nodes) (replicate (5 - length nodes) 0) 0 j (omega arith)
         ∙ getD-map nodeByte nodes j (must "") 0 l)
 
-    pub node-known : wordIn (rowCell r (j + 3)) < 52
+    pub node-known : wordIn (rowCell r (j + 3)) < wordCount
     node-known =
         rw node-cell
-        (ltb-true (wordIn (nodeByte node)) 52 (every-at known nodes j (must "") (every-at allKnown rows r none nodes-known within) l))
+        (ltb-true (wordIn (nodeByte node)) wordCount (every-at known nodes j (must "") (every-at allKnown rows r none nodes-known within) l))
 
     node-is : nodeOf (rowCell r (j + 3)) ≡ node
     node-is =

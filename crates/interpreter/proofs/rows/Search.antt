@@ -12,7 +12,7 @@ use Rattle.registers.specs.Text.{Text, if_then_else_}
 use Rattle.registers.specs.Words.{Node}
 use Rattle.registers.proofs.Tests.{and-fails}
 use Rattle.interpreter.specs.Rows.{rows, fitsRow}
-use Rattle.interpreter.specs.RowsParts.{firstFit, rowOf, named, greedy, nodeOf, rowCell, formBit, formed, Walked}
+use Rattle.interpreter.specs.RowsParts.{rowCount, firstFit, rowOf, named, greedy, nodeOf, rowCell, formBit, formed, Walked}
 use Rattle.interpreter.specs.declared.rows.Walk.{Walk}
 use Rattle.interpreter.specs.declared.rows.Walk.the-variants.{To, Missed}
 use Rattle.interpreter.proofs.rows.Rows.{rows-many, none, rowAt, nodesBefore, count-cell, shared-most, shared-nodes, nodes-fit, nodes-up, fits-is}
@@ -22,7 +22,7 @@ use Rattle.interpreter.proofs.rows.Names.{named-cons}
 
 -- no row before this one fits
 pub record Seeking (star : Bool) (names : List Text) (asked : Bool) (r : ℕ) : Type 0 where
-  pub most : r ≤ 33
+  pub most : r ≤ rowCount
   pub left : firstFit (fitsRow star names asked) (drop r rows) + r ≡ rowOf star names asked
 
 module _ {star : Bool} {names : List Text} {asked : Bool} where
@@ -30,7 +30,7 @@ module _ {star : Bool} {names : List Text} {asked : Bool} where
   unfolding rowOf
   seek-start = record { most = omega arith; left = add-zero _ }
 
-  seek-end : {r : ℕ} → Seeking star names asked r → 33 ≤ r → 33 ≡ rowOf star names asked
+  seek-end : {r : ℕ} → Seeking star names asked r → rowCount ≤ r → rowCount ≡ rowOf star names asked
   unfolding firstFit
   seek-end {r} s h =
       let n = rows-many in
@@ -38,7 +38,7 @@ module _ {star : Bool} {names : List Text} {asked : Bool} where
       let e : 0 + r ≡ rowOf star names asked = rw (drop-of-length-le rows l) at (s .left) in
       omega arith
 
-  module _ {r : ℕ} (s : Seeking star names asked r) (h : r < 33) where
+  module _ {r : ℕ} (s : Seeking star names asked r) (h : r < rowCount) where
     within : r < length rows
     within = let n = rows-many in omega arith
 
@@ -85,13 +85,13 @@ module _ {star asked : Bool} {t : Text} where
   pub search-start : Searching star asked t 0 0 8
   search-start = record { seek = seek-start; stopped = untried (omega arith) (omega arith) }
 
-  pub search-end : {r at j : ℕ} → Searching star asked t r at j → 33 ≤ r → 33 ≡ rowOf star (named t) asked
+  pub search-end : {r at j : ℕ} → Searching star asked t r at j → rowCount ≤ r → rowCount ≡ rowOf star (named t) asked
   search-end s h = seek-end (s .seek) h
 
   search-on : (r : ℕ) {at j : ℕ} → Seeking star (named t) asked (r + 1) → Stopped t (rowAt r .nodes) at j → Searching star asked t (r + 1) at j
   search-on r {at} {j} s p = record { seek = s; stopped = subst (λ (i : ℕ). Stopped t (nodesBefore i) at j) (sym (add-one r)) p }
 
-  module _ {r at j : ℕ} (h : r < 33) (s : Searching star asked t r at j) where
+  module _ {r at j : ℕ} (h : r < rowCount) (s : Searching star asked t r at j) where
     -- the nodes that the row shares with the row before lead to where they led there
     alike : (i : ℕ) → i ≤ rowCell r 2 → (more : List Node)
         → greedy (take i (rowAt r .nodes) ++ more) (named t) ≡ greedy (take i (nodesBefore r) ++ more) (named t)
@@ -116,14 +116,14 @@ module _ {star asked : Bool} {t : Text} where
 
 -- the first j of the row's n nodes are taken or left out, and the names go on at a place
 pub record Trying (star asked : Bool) (t : Text) (n row at j : ℕ) : Type 0 where
-  pub known : row < 33
+  pub known : row < rowCount
   pub seek : Seeking star (named t) asked row
   pub form : formed row (formBit star asked) ≡ true
   pub count : n ≡ length (rowAt row .nodes)
   pub within : at ≤ length t
   pub on : (more : List Node) → greedy (take j (rowAt row .nodes) ++ more) (named t) ≡ greedy more (named (drop at t))
 
-module _ {star asked : Bool} {t : Text} {row at j : ℕ} (h : row < 33) (s : Searching star asked t row at j)
+module _ {star asked : Bool} {t : Text} {row at j : ℕ} (h : row < rowCount) (s : Searching star asked t row at j)
     (f : formed row (formBit star asked) ≡ true) {n : ℕ} (e : n ≡ rowCell row 1) where
   begin : {at j : ℕ} → at ≤ length t → ((more : List Node) → greedy (take j (rowAt row .nodes) ++ more) (named t) ≡ greedy more (named (drop at t)))
       → Trying star asked t n row at j

@@ -10,7 +10,7 @@ use borrow.Author.Tests.{eqb-true, eqb-false, le-leb, lt-leb}
 use Rattle.registers.specs.Text.{Text, if_then_else_, every, start}
 use Rattle.registers.specs.Words.{longForm, matches}
 use Rattle.registers.proofs.text.Laws.{empty-at}
-use Rattle.interpreter.specs.RowsParts.{wordAt, agreed, formLength}
+use Rattle.interpreter.specs.RowsParts.{wordCount, wordAt, agreed, formLength}
 use Rattle.interpreter.proofs.rows.Words.{forms}
 use Rattle.interpreter.proofs.rows.Letters.{agreed-most, word-is}
 
@@ -26,7 +26,7 @@ every-any : (l : Text) → every any l ≡ true
 every-any [] = refl
 every-any (x ∷ l) = every-any l
 
-module _ (t : Text) (w n : ℕ) (h : w < 52) (is : n ≡ agreed t (longForm (wordAt w))) where
+module _ (t : Text) (w n : ℕ) (h : w < wordCount) (is : n ≡ agreed t (longForm (wordAt w))) where
   whole-is : matches (wordAt w) t ≡ (formLength w n && leb (length t) n)
   whole-is =
       ap (matches (wordAt w)) (sym (start-any t))

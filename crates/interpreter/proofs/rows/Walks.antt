@@ -8,7 +8,7 @@ use lib.ListN.{length, drop}
 use borrow.Author.Tests.{lt-ltb, le-ltb}
 use Rattle.registers.specs.Text.{Text, if_then_else_, start}
 use Rattle.registers.specs.Words.{Node, must, may, matches}
-use Rattle.interpreter.specs.RowsParts.{wordAt, named, inName, greedy, WordTaken, nodeOf, wordIn, Walked}
+use Rattle.interpreter.specs.RowsParts.{wordCount, wordAt, named, inName, greedy, WordTaken, nodeOf, wordIn, Walked}
 use Rattle.interpreter.specs.declared.rows.Walk.{Walk}
 use Rattle.interpreter.specs.declared.rows.Walk.the-variants.{To, Missed}
 use Rattle.interpreter.proofs.rows.Names.{named-cons}
@@ -28,12 +28,12 @@ unfolding greedy if_then_else_
 takes w t at next m e nodes = (rw (e, m), rw (e, m))
 
 -- a node's word is one of the table, whether or not it may be left out
-module _ (node : ℕ) (k : wordIn node < 52) where
-  pub must-known : node < 128 → node < 52
+module _ (node : ℕ) (k : wordIn node < wordCount) where
+  pub must-known : node < 128 → node < wordCount
   unfolding wordIn if_then_else_
   must-known h = rw (lt-ltb node 128 h) at k
 
-  pub may-known : 128 ≤ node → node - 128 < 52
+  pub may-known : 128 ≤ node → node - 128 < wordCount
   unfolding wordIn if_then_else_
   may-known h = rw (le-ltb node 128 h) at k
 

@@ -10,7 +10,7 @@ use lib.ListN.{length, getD, take, drop, length-append, length-take, length-repl
 use borrow.Author.Tests.{eqb-true, ltb-true}
 use Rattle.registers.specs.Text.{Text, if_then_else_, bytes, small, capital, same, every}
 use Rattle.registers.specs.Words.{shortForm, longForm}
-use Rattle.interpreter.specs.RowsParts.{wordList, wordAt, wordRow, wordTableOf, wordTable, inName, wordCell}
+use Rattle.interpreter.specs.RowsParts.{wordBytes, wordCount, wordList, wordAt, wordRow, wordTableOf, wordTable, inName, wordCell}
 use Rattle.interpreter.proofs.Lists.{every-at, cell-at, table-length}
 use Rattle.interpreter.proofs.rows.Greedy.{same-eq}
 
@@ -44,18 +44,18 @@ letters-plain : every plain wordList ≡ true
 unfolding wordList longForm bytes small capital if_then_else_
 letters-plain = refl
 
-words-many : length wordList ≡ 52
+words-many : length wordList ≡ wordCount
 unfolding wordList
 words-many = refl
 
-pub words-long : length wordTable ≡ 832
+pub words-long : length wordTable ≡ wordBytes
 unfolding wordTable wordTableOf
 words-long =
     let n = words-many in
     let e = table-length wordRow 16 wordTableOf refl (λ x xs. refl) wordList rows-wide in
     omega arith
 
-module _ (w : ℕ) (h : w < 52) where
+module _ (w : ℕ) (h : w < wordCount) where
   abbrev short : Text
   short = shortForm (wordAt w)
 

@@ -13,7 +13,7 @@ use Rattle.registers.specs.Text.{Text}
 use Rattle.registers.specs.Check.{refused, passed}
 use Rattle.registers.specs.Errors.{known, queueable}
 use Rattle.registers.specs.Number.{number, remains}
-use Rattle.registers.specs.Settings.{table}
+use Rattle.registers.specs.Settings.{count, table}
 use Rattle.registers.specs.Status.{widest}
 use Rattle.registers.specs.declared.settings.Settings.{Settings}
 use Rattle.registers.specs.declared.status.Register.{Register}
@@ -63,14 +63,15 @@ parameter-known ws numbers t =
 -- ---- and what is accepted is allowed
 
 module _ (s : Settings) where
-  setting-allowed : (i : ℕ) → i < 16 → (t : Text) → Holds (Allowed s) (settingDeed s i t)
+  setting-allowed : (i : ℕ) → i < count → (t : Text) → Holds (Allowed s) (settingDeed s i t)
   unfolding settingDeed known queueable
   setting-allowed i h t =
       hold-bind Any (Allowed s) _ _ (parameter-known _ _ t) (λ g _.
       hold-check (Allowed s) 222 _ _ refl (λ w.
-      hold-check (Allowed s) 221 _ _ refl (λ c. passes (h, w, not-true _ c))))
+      hold-check (Allowed s) 222 _ _ refl (λ x.
+      hold-check (Allowed s) 221 _ _ refl (λ c. passes (h, w, not-true _ c, x)))))
 
-  limit-allowed : (i : ℕ) → i < 16 → (t : Text) → Holds (Allowed s) (limitDeed s i t)
+  limit-allowed : (i : ℕ) → i < count → (t : Text) → Holds (Allowed s) (limitDeed s i t)
   unfolding limitDeed
   limit-allowed i h t = hold-bind Any (Allowed s) _ _ (parameter-known _ _ t) (λ g _. passes h)
 
@@ -84,10 +85,10 @@ register-allowed s r t =
     hold-bind Any (Allowed s) _ _ (parameter-known _ _ t) (λ g _.
     hold-check (Allowed s) 222 _ _ refl (λ w. passes (in-width (registerGiven g) (widest r) w)))
 
--- ---- the rows: each setting is one of the sixteen, and each deed of a row's own is allowed
+-- ---- the rows: each setting is one of the seventeen, and each deed of a row's own is allowed
 
 abbrev Proper : Settings → Role → Type 0
-Proper s (setting i) = i < 16
+Proper s (setting i) = i < count
 Proper s (register r) = Unit {0}
 Proper s (Order d) = Allowed s d
 Proper s (Question d) = Allowed s d

@@ -11,7 +11,7 @@ use Rattle.registers.specs.Check.{Checked, refused, check, _>>=_, _>>_}
 use Rattle.registers.specs.declared.settings.Settings.{Settings}
 use Rattle.interpreter.specs.Parameter.{parameters, least, greatest, deedOf}
 use Rattle.interpreter.specs.ParameterParts.{CountedIn}
-use Rattle.interpreter.specs.RowsParts.{roleAt}
+use Rattle.interpreter.specs.RowsParts.{rowCount, roleAt}
 use Rattle.interpreter.specs.UnitParts.{roleFound, decided}
 use Rattle.interpreter.specs.declared.deed.Deed.{Deed}
 use Rattle.interpreter.specs.declared.deed.Role.{Role}
@@ -26,11 +26,11 @@ module _ (s : Settings) (row : ℕ) (asked : Bool) (t : Text) (n : Counted) (is 
   unfolding decided check _>>_
   has-empty e = rw (sym (is .full) ∙ e)
 
-  pub not-found : n .full ≡ true → row ≡ 33 → decided s row asked t ≡ refused 113
+  pub not-found : n .full ≡ true → row ≡ rowCount → decided s row asked t ≡ refused 113
   unfolding decided roleFound check _>>_ _>>=_ if_then_else_
-  not-found e h = rw (sym (is .full) ∙ e, le-ltb row 33 (omega arith))
+  not-found e h = rw (sym (is .full) ∙ e, le-ltb row rowCount (omega arith))
 
-  pub found : n .full ≡ true → row < 33 → (r : Role) → r ≡ roleAt row
+  pub found : n .full ≡ true → row < rowCount → (r : Role) → r ≡ roleAt row
       → decided s row asked t ≡ checked s r asked (n .parts) (parameters t)
   unfolding decided roleFound check _>>_ _>>=_ if_then_else_
-  found e h r at = rw (sym (is .full) ∙ e, lt-ltb row 33 h, is .parts, at)
+  found e h r at = rw (sym (is .full) ∙ e, lt-ltb row rowCount h, is .parts, at)

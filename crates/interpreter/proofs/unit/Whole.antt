@@ -13,7 +13,7 @@ use Rattle.registers.proofs.text.Laws.{end-drop, end-within}
 use Rattle.interpreter.specs.Cuts.{trim}
 use Rattle.interpreter.specs.Header.{Header, header, isCommon, fullNames}
 use Rattle.interpreter.specs.HeaderParts.{closed, FoundRow, LookedUp}
-use Rattle.interpreter.specs.RowsParts.{named}
+use Rattle.interpreter.specs.RowsParts.{rowCount, named}
 use Rattle.interpreter.specs.Parameter.{parameters, least, greatest, deedOf}
 use Rattle.interpreter.specs.Unit.{Read, headerText, parameterText, readUnit}
 use Rattle.interpreter.specs.ParameterParts.{meantDeed}
@@ -109,7 +109,7 @@ bad-header s path u buffer ok t e k q = rw (ok, ap header (sym e) ∙ rw q at k)
 
 -- what the checks behind the header leave of a unit
 pub record Headed (s : Settings) (path u : Text) (row used : ℕ) (asked : Bool) (buffer : Text) : Type 0 where
-  pub within : row ≤ 33
+  pub within : row ≤ rowCount
   pub is : readUnit s (named path) u
       ≡ (decided s row asked (parameterText u) >>= λ d. passed (record { deed = d; path = named (take used buffer) }))
   pub shut : closed (take used buffer) ≡ true

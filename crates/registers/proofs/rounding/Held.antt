@@ -1,5 +1,5 @@
 -- A rounded value held at a bound, with its sign in 64 bits: limits of 32 bits cannot tell it from the value itself.
-use mathlib.Core.Path.{_≡_, refl, sym, _∙_}
+use mathlib.Core.Path.{_≡_, refl, ap, sym, _∙_}
 use mathlib.Core.Bool.{Bool, true, false, _&&_, and-false}
 use Prim.Native.Nat.{ℕ, zero, suc, _+_, _*_, _^_, min, _≤_}
 use native.Mathlib.Omega.{arith}
@@ -11,11 +11,15 @@ use mir.Val.{SFits, toZ, ofZ}
 use mir.Facts.{toZ-pos, toZ-ofZ, sfits-widen, and-yes}
 use borrow.Author.Tests.{leb-true, leb-false, lt-leb, ne-eqb}
 use Rattle.registers.specs.Text.{if_then_else_}
-use Rattle.registers.specs.Rounding.{nearest, signed, sizeIn, rounded, fitted}
-use Rattle.registers.specs.RoundingParts.{beyond, heldIn}
+use Rattle.registers.specs.Rounding.{nearest, signed, sizeIn, rounded, fitted, turned, sideIn, roundedIn}
+use Rattle.registers.specs.RoundingParts.{beyond, heldOver, heldIn}
 use Rattle.registers.specs.declared.number.Decimal.{Decimal}
 use Rattle.registers.specs.declared.rounding.Fit.{Fit}
 use Rattle.registers.specs.declared.rounding.Fit.the-variants.{Within, Outside}
+use Rattle.registers.specs.declared.rounding.Rounded.{Rounded}
+use Rattle.registers.specs.declared.rounding.Side.{Side}
+use Rattle.registers.specs.declared.rounding.Sized.{Sized}
+use Rattle.registers.specs.declared.rounding.Stepped.{Stepped}
 use Rattle.registers.proofs.rounding.Tens.{times-tens}
 
 -- ---- a size with its sign
@@ -25,14 +29,25 @@ signed-fits true zero h = record { sfits = omega arith }
 signed-fits true (suc n) h = record { sfits = omega arith }
 signed-fits false n h = record { sfits = omega arith }
 
-pub held-fits : (k : ℕ) (d : Decimal) → SFits w64 (heldIn k d)
+pub held-fits : (k : ℕ) (d : Decimal) → SFits w64 (heldIn k d .value)
 unfolding heldIn
 held-fits k d = signed-fits (d .minus) (min beyond (sizeIn k d)) (omega arith)
 
-pub held-size : (tens : ℕ) (d : Decimal) (n : ℕ) → n ≡ min beyond (nearest (d .digits * 10 ^ (d .up + tens)) (10 ^ d .down))
-    → heldIn (10 ^ tens) d ≡ signed (d .minus) n
-unfolding heldIn sizeIn
-held-size tens d n e = rw (e, times-tens (d .digits) (d .up) tens)
+pub sized-small : (num den : ℕ) (r : Sized) → r ≡ heldOver num den → r .size ≤ beyond
+unfolding heldOver
+sized-small num den r e = rw e (omega arith)
+
+abbrev pub stepped : ℤ → Side → Stepped
+stepped z x = record { value = z; side = x }
+
+module _ (tens : ℕ) (d : Decimal) (r : Sized) (is : r ≡ heldOver (d .digits * 10 ^ (d .up + tens)) (10 ^ d .down)) where
+  pub held-minus : d .minus ≡ true → stepped (signed true (r .size)) (turned true (r .side)) ≡ heldIn (10 ^ tens) d
+  unfolding heldIn heldOver sizeIn sideIn
+  held-minus e = rw (is, times-tens (d .digits) (d .up) tens, e)
+
+  pub held-plus : d .minus ≡ false → stepped (pos (r .size)) (r .side) ≡ heldIn (10 ^ tens) d
+  unfolding heldIn heldOver sizeIn sideIn
+  held-plus e = rw (is, times-tens (d .digits) (d .up) tens, e)
 
 pub minus-bits : (n : ℕ) → n ≤ beyond → pos 0 -ℤ toZ w64 n ≡ signed true n
 minus-bits n h = rw (toZ-pos w64 {n = n} (omega arith)) (+ℤ-idl (negℤ (pos n)))
@@ -65,12 +80,15 @@ far low high l h true zero k = absurd (omega arith)
 far (pos a) high l h true (suc n) k = refl
 far (negsuc a) high l h true (suc n) k = rw (lt-leb n a (omega arith))
 
+abbrev outcome : Fit → Side → Rounded
+outcome f x = record { fit = f; side = x }
+
 -- so a held value is within such limits exactly where the value itself is, and is then that value
-module _ (k : ℕ) (d : Decimal) (low high : ℤ) (l : SFits w32 low) (h : SFits w32 high) (v : ℤ) (is : v ≡ heldIn k d) where
+module _ (k : ℕ) (d : Decimal) (low high : ℤ) (l : SFits w32 low) (h : SFits w32 high) (r : Stepped) (is : r ≡ heldIn k d) where
   chosen : ℤ → Fit
   chosen z = if inside low high z then Within z else Outside
 
-  fitted-held : fitted k low high d ≡ chosen v
+  fitted-held : fitted k low high d ≡ chosen (r .value)
   unfolding fitted rounded heldIn if_then_else_ chosen
   fitted-held = rw is (go (sizeIn k d) (leb (sizeIn k d) beyond) refl)
     where
@@ -81,18 +99,23 @@ module _ (k : ℕ) (d : Decimal) (low high : ℤ) (l : SFits w32 low) (h : SFits
           let z : min beyond n ≡ beyond = omega arith in
           rw (z, far low high l h (d .minus) n (omega arith), far low high l h (d .minus) beyond (omega arith))
 
-  pub fit-yes : inside low high v ≡ true → Within v ≡ fitted k low high d
-  unfolding if_then_else_ chosen
-  fit-yes e = sym (fitted-held ∙ rw e)
+  -- and its side is the value's
+  side-held : r .side ≡ sideIn k d
+  unfolding heldIn
+  side-held = ap (λ (x : Stepped). x .side) is
 
-  pub fit-no : inside low high v ≡ false → Outside ≡ fitted k low high d
-  unfolding if_then_else_ chosen
-  fit-no e = sym (fitted-held ∙ rw e)
+  pub fit-yes : inside low high (r .value) ≡ true → outcome (Within (r .value)) (r .side) ≡ roundedIn k low high d
+  unfolding roundedIn if_then_else_ chosen
+  fit-yes e = rw (side-held, fitted-held, e)
+
+  pub fit-no : inside low high (r .value) ≡ false → outcome Outside (r .side) ≡ roundedIn k low high d
+  unfolding roundedIn if_then_else_ chosen
+  fit-no e = rw (side-held, fitted-held, e)
 
 -- a size is held at zero exactly where it is zero: for a bool
-pub held-zero : (d : Decimal) (n : ℕ) → n ≡ min beyond (nearest (d .digits * 10 ^ d .up) (10 ^ d .down)) → eqb n 0 ≡ eqb (sizeIn 1 d) 0
-unfolding sizeIn
-held-zero d n e =
+pub held-zero : (d : Decimal) (r : Sized) → r ≡ heldOver (d .digits * 10 ^ d .up) (10 ^ d .down) → eqb (r .size) 0 ≡ eqb (sizeIn 1 d) 0
+unfolding sizeIn heldOver
+held-zero d r e =
     let one : d .digits * 10 ^ d .up * 1 ≡ d .digits * 10 ^ d .up = omega arith in
     rw (e, one) (go (nearest (d .digits * 10 ^ d .up) (10 ^ d .down)))
   where

@@ -1,10 +1,9 @@
--- Rounding over powers of ten, held at a bound: what the two loops keep, and what they leave.
+-- Rounding over powers of ten, held at a bound: what raising keeps and leaves, and a power of ten over another.
 use mathlib.Core.Path.{_≡_, refl, ap, sym, _∙_}
 use mathlib.Core.Bool.{Bool, false, _&&_, and-true}
-use Prim.Native.Nat.{ℕ, suc, _+_, _-_, _*_, _/_, _%_, _^_, min, _≤_, _<_}
-use native.Mathlib.Numerals.{add-one}
+use Prim.Native.Nat.{ℕ, suc, _+_, _-_, _*_, _^_, min, _≤_, _<_}
 use native.Mathlib.Omega.{arith}
-use native.Mathlib.Nat.{pow-suc, mul-div-mul-left, mul-div-mul-right, div-div-eq-div-mul, add-mul-div-right, one-le-pow, mul-le-mul-right, mul-assoc}
+use native.Mathlib.Nat.{pow-suc, mul-div-mul-right, one-le-pow, mul-le-mul-right, mul-assoc}
 use lib.Dec.{ltb}
 use lib.Pow.{pow-add}
 use borrow.Author.Tests.{ltb-false, lt-ltb}
@@ -15,7 +14,7 @@ use Rattle.registers.proofs.rounding.Laws.{nearest-only}
 pub ten-positive : (n : ℕ) → 0 < 10 ^ n
 ten-positive n = one-le-pow n 10 (omega arith)
 
-ten-times : (i : ℕ) → 0 < i → 10 ^ i ≡ 10 * 10 ^ (i - 1)
+pub ten-times : (i : ℕ) → 0 < i → 10 ^ i ≡ 10 * 10 ^ (i - 1)
 ten-times i h = let e : i ≡ suc (i - 1) = omega arith in ap (λ (n : ℕ). 10 ^ n) e ∙ pow-suc 10 (i - 1) ∙ omega arith
 
 -- ---- raising
@@ -32,29 +31,6 @@ raise-end y i e h =
 
 pub raise-beyond : (y i : ℕ) → beyond ≤ y → beyond ≡ min beyond (y * 10 ^ i)
 raise-beyond y i h = let p = ten-positive i in let m = mul-le-mul-right (10 ^ i) h in omega arith
-
--- ---- lowering
-
-pub lower-turn : (y i : ℕ) → 0 < i → y / 10 / 10 ^ (i - 1) ≡ y / 10 ^ i
-lower-turn y i h = rw (ten-times i h) (div-div-eq-div-mul y 10 (10 ^ (i - 1)))
-
--- only the last digit that is cut off decides
-nearest-tens : (x n : ℕ) → nearest x (10 ^ (n + 1)) ≡ (x / 10 ^ n + 5) / 10
-unfolding nearest
-nearest-tens x n =
-    let q = 10 ^ n in
-    let p = ten-positive n in
-    let s = pow-suc 10 n in
-    let num : 2 * x + 10 ^ suc n ≡ 2 * (x + 5 * q) = omega arith in
-    let den : 2 * 10 ^ suc n ≡ 2 * (q * 10) = omega arith in
-    let halve = mul-div-mul-left {m = 2} (x + 5 * q) (q * 10) (omega arith) in
-    rw (add-one n, num, den, halve, ← div-div-eq-div-mul (x + 5 * q) q 10, add-mul-div-right x 5 p)
-
-pub lower-end : (x n y i : ℕ) → i ≤ 0 → y / 10 ^ i ≡ x / 10 ^ n → y / 10 + (y % 10 + 5) / 10 ≡ nearest x (10 ^ (n + 1))
-lower-end x n y i h e =
-    let z : i ≡ 0 = omega arith in
-    let k : y / 1 ≡ x / 10 ^ n = rw z at e in
-    rw (nearest-tens x n, ← k) (omega arith)
 
 -- ---- a power of ten over another
 

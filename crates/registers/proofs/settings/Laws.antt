@@ -31,29 +31,29 @@ getD-any (x ∷ l) (suc i) d e h = getD-any l i d e (omega arith)
 -- the code's tables of limits
 abbrev lowTable : List ℤ
 lowTable =
-    pos 0 ∷ pos 0 ∷ pos 0 ∷ pos 0 ∷ pos 0 ∷ pos 0 ∷ pos 400 ∷ pos 1 ∷ pos 0 ∷ pos 0 ∷ pos 1 ∷ pos 1 ∷ pos 5 ∷ negsuc 79 ∷ pos 0 ∷ pos 0 ∷ []
+    pos 0 ∷ pos 0 ∷ pos 0 ∷ pos 0 ∷ pos 0 ∷ pos 0 ∷ pos 400 ∷ pos 1 ∷ pos 0 ∷ pos 0 ∷ pos 1 ∷ pos 1 ∷ pos 5 ∷ negsuc 79 ∷ pos 0 ∷ pos 0 ∷ pos 0 ∷ []
 
 abbrev highTable : List ℤ
 highTable =
-    pos 1 ∷ pos 1 ∷ pos 1 ∷ pos 2 ∷ pos 240 ∷ pos 1 ∷ pos 5500 ∷ pos 20 ∷ pos 1 ∷ pos 1 ∷ pos 10 ∷ pos 10 ∷ pos 80 ∷ negsuc 4 ∷ pos 99 ∷ pos 1 ∷ []
+    pos 1 ∷ pos 1 ∷ pos 1 ∷ pos 2 ∷ pos 240 ∷ pos 1 ∷ pos 5500 ∷ pos 20 ∷ pos 1 ∷ pos 1 ∷ pos 10 ∷ pos 10 ∷ pos 80 ∷ negsuc 4 ∷ pos 99 ∷ pos 1 ∷ pos 1 ∷ []
 
 low-at : (i : ℕ) → getD lowTable i (pos 0) ≡ lowestOf (kindOf i)
 unfolding table settingAt
 low-at i = List·getD-map (λ (x : Setting). lowestOf (x .kind)) table i behind
 
-high-at : (i : ℕ) → i < 16 → getD highTable i (pos 0) ≡ highestOf (kindOf i)
+high-at : (i : ℕ) → i < count → getD highTable i (pos 0) ≡ highestOf (kindOf i)
 unfolding table settingAt
 high-at i h = getD-any highTable i (pos 0) (pos 1) h ∙ List·getD-map (λ (x : Setting). highestOf (x .kind)) table i behind
 
 -- the code's kinds of values
-pub kind-at : (i : ℕ) → valuesFrom (getD (0 ∷ 0 ∷ 0 ∷ 1 ∷ 2 ∷ 1 ∷ 2 ∷ 2 ∷ 1 ∷ 1 ∷ 3 ∷ 3 ∷ 2 ∷ 2 ∷ 3 ∷ 0 ∷ []) i 0) ≡ valuesIn (kindOf i)
+pub kind-at : (i : ℕ) → valuesFrom (getD (0 ∷ 0 ∷ 0 ∷ 1 ∷ 2 ∷ 1 ∷ 2 ∷ 2 ∷ 1 ∷ 1 ∷ 3 ∷ 3 ∷ 2 ∷ 2 ∷ 3 ∷ 0 ∷ 0 ∷ []) i 0) ≡ valuesIn (kindOf i)
 unfolding table settingAt valuesFrom if_then_else_
 kind-at i =
-    sym (List·getD-map valuesFrom (0 ∷ 0 ∷ 0 ∷ 1 ∷ 2 ∷ 1 ∷ 2 ∷ 2 ∷ 1 ∷ 1 ∷ 3 ∷ 3 ∷ 2 ∷ 2 ∷ 3 ∷ 0 ∷ []) i 0)
+    sym (List·getD-map valuesFrom (0 ∷ 0 ∷ 0 ∷ 1 ∷ 2 ∷ 1 ∷ 2 ∷ 2 ∷ 1 ∷ 1 ∷ 3 ∷ 3 ∷ 2 ∷ 2 ∷ 3 ∷ 0 ∷ 0 ∷ []) i 0)
     ∙ List·getD-map (λ (x : Setting). valuesIn (x .kind)) table i behind
 
 -- a row behind the table
-pub behind-is : (i : ℕ) → 16 ≤ i → kindOf i ≡ bool
+pub behind-is : (i : ℕ) → count ≤ i → kindOf i ≡ bool
 unfolding table settingAt
 behind-is i h = ap (λ (x : Setting). x .kind) (List·getD-eq-default table behind h)
 
@@ -72,14 +72,14 @@ pub low-read : (i : ℕ) → toZ w32 (ofZ w32 (getD lowTable i (pos 0))) ≡ low
 unfolding lowest
 low-read i = toZ-ofZ (table-fits lowTable i refl) ∙ low-at i
 
-pub high-read : (i : ℕ) → i < 16 → toZ w32 (ofZ w32 (getD highTable i (pos 0))) ≡ highestOf (kindOf i)
+pub high-read : (i : ℕ) → i < count → toZ w32 (ofZ w32 (getD highTable i (pos 0))) ≡ highestOf (kindOf i)
 high-read i h = toZ-ofZ (table-fits highTable i refl) ∙ high-at i h
 
-pub low-behind : (i : ℕ) → 16 ≤ i → pos 0 ≡ lowest i
+pub low-behind : (i : ℕ) → count ≤ i → pos 0 ≡ lowest i
 unfolding lowest
 low-behind i h = rw (behind-is i h)
 
-pub high-behind : (i : ℕ) → 16 ≤ i → pos 1 ≡ highestOf (kindOf i)
+pub high-behind : (i : ℕ) → count ≤ i → pos 1 ≡ highestOf (kindOf i)
 high-behind i h = rw (behind-is i h)
 
 -- ---- the highest value, by the range
@@ -96,11 +96,11 @@ module _ (s : Settings) (i : ℕ) where
 -- ---- the limits come back from their bits
 
 high-fits : (i : ℕ) → SFits w32 (highestOf (kindOf i))
-high-fits i = go (ltb i 16) refl
+high-fits i = go (ltb i count) refl
   where
-    go : (t : Bool) → ltb i 16 ≡ t → SFits w32 (highestOf (kindOf i))
-    go true e = subst (λ (x : ℤ). SFits w32 x) (high-at i (ltb-true i 16 e)) (table-fits highTable i refl)
-    go false e = subst (λ (x : ℤ). SFits w32 x) (high-behind i (ltb-false i 16 e)) (record { sfits = omega arith })
+    go : (t : Bool) → ltb i count ≡ t → SFits w32 (highestOf (kindOf i))
+    go true e = subst (λ (x : ℤ). SFits w32 x) (high-at i (ltb-true i count e)) (table-fits highTable i refl)
+    go false e = subst (λ (x : ℤ). SFits w32 x) (high-behind i (ltb-false i count e)) (record { sfits = omega arith })
 
 pub low-back : (i : ℕ) → toZ w32 (ofZ w32 (lowest i)) ≡ lowest i
 unfolding lowest

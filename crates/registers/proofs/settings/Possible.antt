@@ -60,7 +60,7 @@ range-fits s v c t = go (leZ (pos 1) v) refl
         let low : ltZ twelveVolts (valueAt s voltage) ≡ false = rw (at-most-zero v e) at c in
         not-false _ (sym (ltZ-not twelveVolts (valueAt s voltage)) ∙ low)
 
--- each of the sixteen is within its limits
+-- each of the settings is within its limits
 pub Good : Settings → Type 0
 Good s = (j : ℕ) → j < count → within s j (valueAt s j) ≡ true
 

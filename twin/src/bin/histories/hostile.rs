@@ -6,7 +6,7 @@ use std::io;
 use twin::paper::{nodes, Use, HEADERS};
 
 use crate::dice::Dice;
-use crate::lines::{spell, Lines, Manner};
+use crate::lines::{spell, ten_thousandths, Lines, Manner};
 use crate::script::{Field, Script};
 
 pub fn write(script: &mut Script, count: usize) -> io::Result<()> {
@@ -202,7 +202,7 @@ fn nearly(dice: &mut Dice, word: &str) -> String {
     letters.into_iter().collect()
 }
 
-static NUMBER_HEADERS: [&str; 16] = [
+static NUMBER_HEADERS: [&str; 17] = [
     "VOLT",
     "FREQ",
     "CURR:LIM:RMS",
@@ -213,6 +213,7 @@ static NUMBER_HEADERS: [&str; 16] = [
     "DISP:BRIG",
     "OUTP",
     "SYST:KLOC",
+    "SYST:EXAM",
     "*ESE",
     "*SRE",
     "STAT:OPER:ENAB",
@@ -258,8 +259,10 @@ fn odd_number(dice: &mut Dice) -> Vec<u8> {
     ]);
     let zeros_before = "0".repeat(whole_zeros);
     let zeros_behind = "0".repeat(fraction_zeros);
-    format!("{header} {sign}{zeros_before}{whole}{point}{zeros_behind}{fraction}{exponent}{tail}")
-        .into_bytes()
+    let number =
+        format!("{sign}{zeros_before}{whole}{point}{zeros_behind}{fraction}{exponent}{tail}");
+    let lead = exam_or_not(dice, header);
+    format!("{lead}{header} {number}").into_bytes()
 }
 
 fn digits(dice: &mut Dice) -> String {
@@ -287,18 +290,19 @@ fn near_limit(dice: &mut Dice) -> Vec<u8> {
     let off = dice.pick(&[-501, -500, -499, -1, 0, 1, 499, 500, 501]);
     let off = if tenth { off } else { 10 * off };
     let limit: i64 = dice.pick(&[lowest, highest]);
-    let value = limit * 1000 + off;
-    let sign = if value < 0 { "-" } else { "" };
-    let size = value.abs();
-    let number = match dice.below(6) {
-        0 => format!("{value}E-4"),
-        1 => format!("{value}E-0000000004"),
-        2 => format!("{sign}.{size:012}e8"),
-        3 => format!("{sign}.{size:012}e+0000000008"),
-        4 => format!("{sign}0.000{size:09}E+05"),
-        _ => format!("{sign}{}.{:04}", size / 10_000, size % 10_000),
-    };
-    format!("{header} {number}").into_bytes()
+    let number = ten_thousandths(dice, limit * 1000 + off);
+    let lead = exam_or_not(dice, header);
+    format!("{lead}{header} {number}").into_bytes()
+}
+
+/// Units that switch exam mode on or off before a header, or nothing.
+fn exam_or_not(dice: &mut Dice, header: &str) -> String {
+    if !dice.chance(30) {
+        return String::new();
+    }
+    let exam = dice.pick(&["1", "1", "ON", "0.5", "0.4", "OFF", "1;*RST", "1;*CLS"]);
+    let colon = if header.starts_with('*') { "" } else { ":" };
+    format!("SYST:EXAM {exam};{colon}")
 }
 
 /// A query that would clear something if its answer fitted, which it mostly doesn't.
@@ -357,7 +361,7 @@ static REGISTERS: [&str; 8] = [
 ];
 
 /// The settings' limits, and the voltage's in both ranges.
-static SETTING_LIMITS: [(usize, i32, i32); 17] = [
+static SETTING_LIMITS: [(usize, i32, i32); 18] = [
     (0, 0, 1),
     (1, 0, 1),
     (2, 0, 1),
@@ -375,6 +379,7 @@ static SETTING_LIMITS: [(usize, i32, i32); 17] = [
     (13, -80, -5),
     (14, 0, 99),
     (15, 0, 1),
+    (16, 0, 1),
 ];
 
 /// A number that may stand in the record at any time, or just not.

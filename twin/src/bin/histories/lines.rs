@@ -1,14 +1,15 @@
 //! Command lines in all spellings.
 
-use twin::paper::{nodes, Printed, Use, HEADERS};
+use twin::paper::{nodes, Printed, Use, HEADERS, OF_01};
 
 use crate::dice::Dice;
 
 #[derive(Clone, Copy, PartialEq, Eq)]
 pub enum Manner {
-    /// As a script for the marking server has them: blanks only, and no voltage above 12.0.
+    /// As a script for the marking server has them: 01's headers and blanks only, and no voltage
+    /// above 12.0. The same seed makes the same lines at every request, for the speed comparison.
     Plain,
-    /// With every kind of white space and the odder forms.
+    /// With every kind of white space, the odder forms, and what the requests of 02 bring.
     Varied,
 }
 
@@ -188,9 +189,7 @@ impl Lines {
     fn choose(&self, dice: &mut Dice, path: &[&str]) -> (Vec<&'static str>, Printed) {
         let mut tries = 8;
         loop {
-            // The settings come twice as often as the rest.
-            let most = dice.pick(&[16, HEADERS.len()]);
-            let printed = HEADERS[dice.below(most)];
+            let printed = self.any_header(dice);
             let nodes = nodes(printed.1).into_iter();
             let kept = nodes.filter(|&(_, optional)| !optional || dice.chance(40));
             let written: Vec<&str> = kept.map(|(node, _)| node).collect();
@@ -199,6 +198,15 @@ impl Lines {
                 return (written, printed);
             }
         }
+    }
+
+    fn any_header(&self, dice: &mut Dice) -> Printed {
+        if self.manner == Manner::Varied && dice.chance(10) {
+            return dice.pick(&HEADERS[OF_01..]);
+        }
+        // The settings come twice as often as the rest.
+        let most = dice.pick(&[16, OF_01]);
+        HEADERS[dice.below(most)]
     }
 
     fn parameter(&self, dice: &mut Dice, printed: Printed, query: bool) -> Option<String> {
@@ -223,6 +231,9 @@ impl Lines {
                 } else {
                     highest
                 };
+                if self.manner == Manner::Varied && dice.chance(20) {
+                    return Some(off_step(dice, lowest, highest, tenth));
+                }
                 Some(number(dice, lowest, highest, tenth))
             }
             Use::Register(highest) => Some(number(dice, 0, i32::from(highest) * 10, false)),
@@ -306,5 +317,27 @@ fn number(dice: &mut Dice, lowest: i32, highest: i32, tenth: bool) -> String {
         4 if tenths >= 0 => format!("+{whole}.{rest}"),
         _ if rest == 0 => format!("{sign}{whole}"),
         _ => format!("{sign}{whole}.{rest}"),
+    }
+}
+
+/// A number within limits given in tenths, or just outside, off its step by up to a half of it.
+fn off_step(dice: &mut Dice, lowest: i32, highest: i32, tenth: bool) -> String {
+    let off = dice.pick(&[-500, -499, -1, 1, 499, 500]);
+    let step = if tenth { 1 } else { 10 };
+    let steps = i64::from(dice.between(lowest / step, highest / step));
+    ten_thousandths(dice, (steps * 1000 + off) * i64::from(step))
+}
+
+/// A number given in ten-thousandths, in one of its forms.
+pub fn ten_thousandths(dice: &mut Dice, value: i64) -> String {
+    let sign = if value < 0 { "-" } else { "" };
+    let size = value.abs();
+    match dice.below(6) {
+        0 => format!("{value}E-4"),
+        1 => format!("{value}E-0000000004"),
+        2 => format!("{sign}.{size:012}e8"),
+        3 => format!("{sign}.{size:012}e+0000000008"),
+        4 => format!("{sign}0.000{size:09}E+05"),
+        _ => format!("{sign}{}.{:04}", size / 10_000, size % 10_000),
     }
 }

@@ -54,10 +54,10 @@ returns-11 c = rw (c .match .keys11)
 returns-12 : tie.Need-returns-12
 unfolding if_then_else_
 returns-12 c =
-    let row = c .before .args .row in
+    let place = c .before .args .place in
     let none = c .match .rest in
-    rw (ne-eqb row 16 (none .0 .0 .0 .0 .0 .0 .0 .0 .0 .0 .1), ne-eqb row 17 (none .0 .0 .0 .0 .0 .0 .0 .0 .0 .1), ne-eqb row 18 (none .0 .0 .0 .0 .0 .0 .0 .0 .1), ne-eqb row 19 (none .0 .0 .0 .0 .0 .0 .0 .1), ne-eqb row 20 (none .0 .0 .0 .0 .0 .0 .1), ne-eqb row 21 (none .0 .0 .0 .0 .0 .1), ne-eqb row 22 (none .0 .0 .0 .0 .1), ne-eqb row 25 (none .0 .0 .0 .1), ne-eqb row 26 (none .0 .0 .1), ne-eqb row 27 (none .0 .1), ne-eqb row 28 (none .1))
-    at (deed-told row (c .before .pre))
+    rw (ne-eqb place 0 (none .0 .0 .0 .0 .0 .0 .0 .0 .0 .0 .1), ne-eqb place 1 (none .0 .0 .0 .0 .0 .0 .0 .0 .0 .1), ne-eqb place 2 (none .0 .0 .0 .0 .0 .0 .0 .0 .1), ne-eqb place 3 (none .0 .0 .0 .0 .0 .0 .0 .1), ne-eqb place 4 (none .0 .0 .0 .0 .0 .0 .1), ne-eqb place 5 (none .0 .0 .0 .0 .0 .1), ne-eqb place 6 (none .0 .0 .0 .0 .1), ne-eqb place 9 (none .0 .0 .0 .1), ne-eqb place 10 (none .0 .0 .1), ne-eqb place 11 (none .0 .1), ne-eqb place 12 (none .1))
+    at (deed-told place (c .before .pre))
 
 pub deed-of-spec : {M : Type 1} → statement M
 deed-of-spec =

@@ -9,13 +9,14 @@ use Rattle.registers.specs.Text.{if_then_else_}
 use Rattle.registers.specs.Check.{Checked, passed, _>>=_}
 use Rattle.registers.specs.Settings.{kindOf}
 use Rattle.registers.specs.declared.rounding.Fit.the-variants.{Within}
-use Rattle.interpreter.specs.Parameter.{Given, parameter, wordsOf, takesNumbers, valueGiven, deedOf}
+use Rattle.registers.specs.declared.rounding.Side.the-variants.{On}
+use Rattle.interpreter.specs.Parameter.{Given, parameter, wordsOf, takesNumbers, valueGiven, sideGiven, deedOf}
 use Rattle.interpreter.specs.ParameterParts.{meantGiven, fitIn, putFit, partsOf}
 use Rattle.interpreter.specs.declared.deed.Role.the-variants.{Setting}
 use Rattle.interpreter.specs.declared.parameter.Parameter.the-variants.{Word}
 use Rattle.interpreter.proofs.parameter.Deeds.{back, refused-by, word-by, figure-by, fit-within, value-asked, setting-is}
 use Rattle.interpreter.proofs.parameter.Limits.{word-within}
-use Rattle.interpreter.proofs.parameter.Sorts.{words-few}
+use Rattle.interpreter.proofs.parameter.Sorts.{word-on, words-few}
 use Rattle.interpreter.proofs.parameter.Words.{word-placed}
 use Rattle.interpreter.proofs.parameter.decide_setting.Statement.{statement}
 use Rattle.interpreter.proofs.parameter.decide_setting.Tie as tie
@@ -33,7 +34,9 @@ read-is p = let takes = p .before .setting-takes .ensures in rw (takes .words, t
 deed-is : (p : tie.After-read-parameter)
     → let a = entry p .args in
     deedOf (a .settings) (Setting (a .row)) (a .asked) (partsOf (a .parts) (a .text .now))
-    ≡ (given p >>= λ g. putFit (a .settings) (a .row) (a .asked) (fitIn (a .settings) (a .row) (valueGiven (a .settings) (a .row) (kindOf (a .row)) g)))
+    ≡ (given p >>= λ g.
+    putFit (a .settings) (a .row) (a .asked) (fitIn (a .settings) (a .row) (valueGiven (a .settings) (a .row) (kindOf (a .row)) g))
+    (sideGiven (kindOf (a .row)) g))
 unfolding if_then_else_
 deed-is p =
     let a = entry p .args in
@@ -44,6 +47,7 @@ deed-is p =
 carried : (p : tie.After-read-parameter) {g : Given} → given p ≡ passed g
     → let a = entry p .args in
     putFit (a .settings) (a .row) (a .asked) (fitIn (a .settings) (a .row) (valueGiven (a .settings) (a .row) (kindOf (a .row)) g))
+    (sideGiven (kindOf (a .row)) g)
     ≡ deedOf (a .settings) (Setting (a .row)) (a .asked) (partsOf (a .parts) (a .text .now))
 unfolding _>>=_
 carried p e = sym (deed-is p ∙ rw e)
@@ -97,11 +101,12 @@ returns-3 c =
     let a = entry p .args in
     let told = c .before .before .before .parameter2 .given in
     let value = c .before .word-value in
-    c .put .ensures
-    ∙ ap (λ z. putFit (a .settings) (a .row) (a .asked) (Within z)) (back (value .result) (value .ok) ∙ value .ensures)
-    ∙ ap (putFit (a .settings) (a .row) (a .asked))
+    rw (c .put .ensures)
+    (ap (λ z. putFit (a .settings) (a .row) (a .asked) (Within z) On) (back (value .result) (value .ok) ∙ value .ensures)
+    ∙ ap (λ f. putFit (a .settings) (a .row) (a .asked) f On)
     (fit-within (a .settings) (a .row) _ (word-within (a .settings) (a .row) (entry p .pre .0 .1) (told .0 .0) (placed p (told .1))))
-    ∙ carried p (word-by (read-is p) (told .1))
+    ∙ ap (putFit (a .settings) (a .row) (a .asked) _) (word-on (kindOf (a .row)) (told .0 .0))
+    ∙ carried p (word-by (read-is p) (told .1)))
 
 enum-known-parameter-3 : tie.Need-enum-known-parameter-3
 enum-known-parameter-3 c = c .match .keys3
@@ -116,7 +121,7 @@ returns-4 : tie.Need-returns-4
 returns-4 c =
     let p = c .before .before .before .before .before in
     let told = c .before .before .before .parameter3 .given in
-    c .put2 .ensures ∙ rw (c .before .figure-value .ensures) (carried p (figure-by (read-is p) (told .1)))
+    rw (c .put2 .ensures, c .before .figure-value .ensures) (carried p (figure-by (read-is p) (told .1)))
 
 pub decide-setting-spec : {M : Type 1} → statement M
 decide-setting-spec =

@@ -1,4 +1,5 @@
 use mathlib.Core.Path.{sym, _∙_}
+use borrow.Author.Tests.{not-true, not-false}
 use Rattle.registers.specs.Check.{_>>_, check}
 use Rattle.interpreter.specs.ParameterParts.{putFit}
 use Rattle.interpreter.proofs.parameter.Deeds.{back}
@@ -25,22 +26,35 @@ returns-2 c =
     let b = back (fit .0 .0) (c .before .before .known-told .given .0 .1) in
     rw (fit .1, c .before .if1 .taken, c .obey-query .ensures, b)
 
-conflicts-requires : tie.Need-conflicts-requires
-conflicts-requires c κs = tt
+accepts-requires : tie.Need-accepts-requires
+accepts-requires c κs = tt
 
 returns-3 : tie.Need-returns-3
 unfolding putFit check _>>_
 returns-3 c =
     let fit = c .before .before .before .before .fit .given in
-    let b = back (fit .0 .0) (c .before .before .before .known-told .given .0 .1) in
-    rw (fit .1, c .before .before .if1 .left, sym (rw b at (c .before .conflicts .ensures)) ∙ c .if2 .taken)
+    rw (fit .1, c .before .before .if1 .left, sym (c .before .accepts .ensures) ∙ not-true _ (c .if2 .taken))
+
+conflicts-requires : tie.Need-conflicts-requires
+conflicts-requires c κs = tt
 
 returns-4 : tie.Need-returns-4
 unfolding putFit check _>>_
 returns-4 c =
-    let fit = c .before .before .before .before .fit .given in
-    let b = back (fit .0 .0) (c .before .before .before .known-told .given .0 .1) in
-    rw (fit .1, c .before .before .if1 .left, sym (rw b at (c .before .conflicts .ensures)) ∙ c .if2 .left, b)
+    let e = c .before .before in
+    let fit = e .before .before .before .before .fit .given in
+    let b = back (fit .0 .0) (e .before .before .before .known-told .given .0 .1) in
+    let accepted = sym (e .before .accepts .ensures) ∙ not-false _ (e .if2 .left) in
+    rw (fit .1, e .before .before .if1 .left, accepted, sym (rw b at (c .before .conflicts .ensures)) ∙ c .if3 .taken)
+
+returns-5 : tie.Need-returns-5
+unfolding putFit check _>>_
+returns-5 c =
+    let e = c .before .before in
+    let fit = e .before .before .before .before .fit .given in
+    let b = back (fit .0 .0) (e .before .before .before .known-told .given .0 .1) in
+    let accepted = sym (e .before .accepts .ensures) ∙ not-false _ (e .if2 .left) in
+    rw (fit .1, e .before .before .if1 .left, accepted, sym (rw b at (c .before .conflicts .ensures)) ∙ c .if3 .left, b)
 
 pub put-spec : {M : Type 1} → statement M
 put-spec =
@@ -51,6 +65,8 @@ put-spec =
     enum-known-fit
     obey-query-requires
     returns-2
-    conflicts-requires
+    accepts-requires
     returns-3
-    returns-4)
+    conflicts-requires
+    returns-4
+    returns-5)

@@ -20,7 +20,7 @@ store-requires c κs = tt
 returns : tie.Need-returns
 returns c =
     let v = c .before .before .change .given .0 in
-    rw (c .before .before .before .before .before .deed .given .1, c .before .before .change .given .1, c .store .ensures) (stored-left (v .0) (v .1 .0) (c .before .before .before .before .before .before .before .args .status) (c .before .before .before .before .before .before .before .pre))
+    rw (c .before .before .before .before .before .deed .given .1, c .before .before .change .given .1, c .store .ensures) (stored-left (v .0) (v .1 .0) (v .1 .1 .0) (c .before .before .before .before .before .before .before .args .status) (c .before .before .before .before .before .before .before .pre))
 
 returns-2 : tie.Need-returns-2
 returns-2 c = rw (c .before .before .deed .given .1) (same-status (c .before .before .before .before .args .status) (c .before .before .before .before .pre) _ (c .match2 .keys2))

@@ -9,7 +9,7 @@ use Rattle.registers.specs.Words.{shortForm}
 use Rattle.registers.specs.Settings.{kindOf}
 use Rattle.registers.proofs.answer.Signs.{size-plus}
 use Rattle.interpreter.specs.Parameter.{wordsOf}
-use Rattle.interpreter.specs.RowsParts.{wordAt}
+use Rattle.interpreter.specs.RowsParts.{wordCount, wordAt}
 use Rattle.interpreter.specs.DeedsParts.{placeText, textOf}
 use Rattle.interpreter.proofs.rows.Table.{commands-long}
 use Rattle.interpreter.proofs.reply.Words.{word-said, place-none, place-word, not-minus}
@@ -29,7 +29,7 @@ entry e = e .before .before .before .before
 abbrev word : tie.Else1 → ℕ
 word e = e .before .before .setting-takes .result .first + natAbs (toZ w32 (ofZ w32 (entry e .args .value)))
 
-at-word : (e : tie.Else1) → (word e < 52) × (placeText (entry e .args .row) (entry e .args .value) ≡ shortForm (wordAt (word e)))
+at-word : (e : tie.Else1) → (word e < wordCount) × (placeText (entry e .args .row) (entry e .args .value) ≡ shortForm (wordAt (word e)))
 at-word e =
     let a = entry e .args in
     let takes = e .before .before .setting-takes in

@@ -5,6 +5,7 @@ use Rattle.interpreter.proofs.Lists.{fewer}
 use Rattle.interpreter.proofs.rows.Rows.{nodes-fit, node-known, unformed, is-formed}
 use Rattle.interpreter.proofs.rows.Search.{Searching, search-start, search-end, skip-shared, skip-unformed, Trying, try-start, try-resume, try-on, try-missed, try-left, try-done}
 use Rattle.interpreter.proofs.rows.find.Statement.{statement}
+use Rattle.interpreter.specs.RowsParts.{rowCount}
 use Rattle.interpreter.proofs.rows.find.Tie as tie
 
 abbrev Inv-loop : tie.InvT-loop
@@ -17,7 +18,7 @@ abbrev Inv-rows : tie.InvT-rows
 Inv-rows table text star asked bit at₀ passed₀ next₀ at passed next = Searching star asked text next at passed
 
 abbrev μ-rows : tie.MeasureT-rows
-μ-rows table text star asked bit at₀ passed₀ next₀ at passed next = 33 - next
+μ-rows table text star asked bit at₀ passed₀ next₀ at passed next = rowCount - next
 
 form-bit-requires : tie.Need-form-bit-requires Inv-loop μ-loop Inv-rows μ-rows
 form-bit-requires c κs = tt

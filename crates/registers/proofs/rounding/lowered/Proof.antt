@@ -1,18 +1,16 @@
-use mathlib.Core.Path.{_≡_, refl, _∙_}
-use Prim.Native.Nat.{_≤_, _/_, _^_}
 use native.Mathlib.Omega.{arith}
-use Rattle.registers.proofs.rounding.Tens.{lower-turn, lower-end}
+use Rattle.registers.proofs.rounding.Sides.{Lowering, lower-start, lower-turn, lower-small, lower-up, lower-on, lower-above}
 use Rattle.registers.proofs.rounding.lowered.Statement.{statement}
 use Rattle.registers.proofs.rounding.lowered.Tie as tie
 
 abbrev Inv-loop : tie.InvT-loop
-Inv-loop x n y₀ i₀ y i = (y ≤ x) × (y / 10 ^ i ≡ x / 10 ^ n)
+Inv-loop x n y₀ i₀ exact₀ y i exact = Lowering x n y i exact
 
 abbrev μ-loop : tie.MeasureT-loop
-μ-loop x n y₀ i₀ y i = i
+μ-loop x n y₀ i₀ exact₀ y i exact = i
 
 loop-holds : tie.Need-loop-holds Inv-loop μ-loop
-loop-holds c = (omega arith, refl)
+loop-holds c = lower-start (c .args .x) (c .args .n)
 
 sub-i : tie.Need-sub-i Inv-loop μ-loop
 sub-i c = omega arith
@@ -21,21 +19,19 @@ loop-less : tie.Need-loop-less Inv-loop μ-loop
 loop-less c = omega arith
 
 loop-again : tie.Need-loop-again Inv-loop μ-loop
-loop-again c =
-    let at = c .before .loop in
-    (omega arith, lower-turn (at .y) (at .i) (omega arith) ∙ at .inv .1)
+loop-again c = lower-turn (omega arith) (c .before .loop .inv)
 
-add-result : tie.Need-add-result Inv-loop μ-loop
-add-result c = omega arith
-
-add-result-2 : tie.Need-add-result-2 Inv-loop μ-loop
-add-result-2 c = omega arith
+add-t11 : tie.Need-add-t11 Inv-loop μ-loop
+add-t11 c = let s = lower-small (c .before .before .loop .inv) in omega arith
 
 returns : tie.Need-returns Inv-loop μ-loop
-returns c =
-    let a = c .before .before .args in
-    let at = c .before .loop in
-    lower-end (a .x) (a .n) (at .y) (at .i) (omega arith) (at .inv .1)
+returns c = lower-up (c .before .before .loop .inv) (omega arith) (c .if1 .taken)
+
+returns-2 : tie.Need-returns-2 Inv-loop μ-loop
+returns-2 c = lower-on (c .before .before .before .loop .inv) (omega arith) (omega arith) (c .if2 .taken)
+
+returns-3 : tie.Need-returns-3 Inv-loop μ-loop
+returns-3 c = lower-above (c .before .before .before .loop .inv) (omega arith) (omega arith) (c .if2 .left)
 
 pub lowered-spec : {M : Type 1} → statement M
 lowered-spec =
@@ -47,6 +43,7 @@ lowered-spec =
     sub-i
     loop-less
     loop-again
-    add-result
-    add-result-2
-    returns)
+    add-t11
+    returns
+    returns-2
+    returns-3)

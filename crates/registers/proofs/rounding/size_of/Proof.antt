@@ -1,8 +1,8 @@
-use mathlib.Core.Path.{_≡_, sym, ap, _∙_}
+use mathlib.Core.Path.{_≡_, ap, _∙_}
 use Prim.Native.Nat.{_*_, _^_, min}
 use native.Mathlib.Omega.{arith}
 use Rattle.registers.specs.RoundingParts.{beyond}
-use Rattle.registers.proofs.rounding.Tens.{nearest-up, nearest-down}
+use Rattle.registers.proofs.rounding.Sides.{held-up, held-down}
 use Rattle.registers.proofs.rounding.size_of.Statement.{statement}
 use Rattle.registers.proofs.rounding.size_of.Tie as tie
 
@@ -12,7 +12,7 @@ raised-requires c κs = tt
 returns : tie.Need-returns
 returns c =
     let a = c .before .before .args in
-    c .raised .ensures ∙ ap (min beyond) (sym (nearest-up (a .x) (a .up) (a .down) (omega arith)))
+    held-up (a .x) (a .up) (a .down) (c .raised .result) (omega arith) (c .raised .ensures)
 
 sub-lowered : tie.Need-sub-lowered
 sub-lowered c = omega arith
@@ -30,8 +30,8 @@ returns-2 : tie.Need-returns-2
 returns-2 c =
     let a = c .before .before .before .args in
     let l = c .before .lowered in
-    let same : l .result * 10 ^ 0 ≡ l .result = omega arith in
-    c .raised2 .ensures ∙ ap (min beyond) (same ∙ l .ensures ∙ nearest-down (a .x) (a .up) (a .down) (omega arith))
+    let same : l .result .size * 10 ^ 0 ≡ l .result .size = omega arith in
+    held-down (a .x) (a .up) (a .down) (c .raised2 .result) (l .result) (omega arith) (l .ensures) (c .raised2 .ensures ∙ ap (min beyond) same)
 
 pub size-of-spec : {M : Type 1} → statement M
 size-of-spec =

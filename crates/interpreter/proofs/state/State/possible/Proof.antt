@@ -1,6 +1,7 @@
 use borrow.Author.Needs.{length-unmapped}
 use Rattle.interpreter.specs.State.{possibleParts}
 use Rattle.interpreter.proofs.state.State.possible.Statement.{statement}
+use Rattle.registers.specs.Settings.{count}
 use Rattle.interpreter.proofs.state.State.possible.Tie as tie
 
 possible-requires : tie.Need-possible-requires
@@ -16,7 +17,7 @@ returns c =
     let g = c .before .before .before .before .good .0 .1 .1 in
     record {
       is = rw (c .before .before .before .possible .ensures, c .before .before .possible2 .ensures);
-      values = length-unmapped _ (s .settings .values) 16 (g .0 .1 .1 .0 .1 .0 .1);
+      values = length-unmapped _ (s .settings .values) count (g .0 .1 .1 .0 .1 .0 .1);
       errors = length-unmapped _ (s .status .errors) 16 (g .1 .0 .1 .1 .1 .1 .1 .1 .1 .0 .1 .0 .1);
       answer = length-unmapped _ (s .answer) 1024 (g .1 .1 .1 .1 .1 .0 .1 .0 .1);
     }

@@ -17,7 +17,7 @@ size-of-requires c κs = search needs
 
 returns : tie.Need-returns
 unfolding switchedOn
-returns c = let d = c .before .before .args .self in ap not (held-zero d (c .size-of .result) (c .size-of .ensures))
+returns c = let d = c .before .before .before .args .self in ap not (held-zero d (c .before .size-of .result) (c .before .size-of .ensures))
 
 pub switches-on-spec : {M : Type 1} → statement M
 switches-on-spec = tie.close (tie.spec cast-size-of size-of-requires returns)

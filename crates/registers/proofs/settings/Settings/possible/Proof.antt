@@ -6,7 +6,7 @@ use mir.Syntax.{w32}
 use mir.Facts.{toZ-ofZ}
 use borrow.Author.Tests.{not-true, not-false}
 use Rattle.registers.specs.Text.{below}
-use Rattle.registers.specs.Settings.{within, valueAt}
+use Rattle.registers.specs.Settings.{count, within, valueAt}
 use Rattle.registers.proofs.Tests.{below-more}
 use Rattle.registers.proofs.settings.Laws.{impossible, all-possible}
 use borrow.Author.Needs.{needs}
@@ -14,10 +14,10 @@ use Rattle.registers.proofs.settings.Settings.possible.Statement.{state
 use Rattle.registers.proofs.settings.Settings.possible.Tie as tie
 
 abbrev Inv-loop : tie.InvT-loop
-Inv-loop self values row₀ row = (row ≤ 16) × (values ≡ self .values) × (below row (λ i. within self i (valueAt self i)) ≡ true)
+Inv-loop self values row₀ row = (row ≤ count) × (values ≡ self .values) × (below row (λ i. within self i (valueAt self i)) ≡ true)
 
 abbrev μ-loop : tie.MeasureT-loop
-μ-loop self values row₀ row = 16 - row
+μ-loop self values row₀ row = count - row
 
 loop-holds : tie.Need-loop-holds Inv-loop μ-loop
 loop-holds c = (search needs, refl, refl)

@@ -4,7 +4,7 @@ use lib.Seq.{set-out}
 use mir.Syntax.{w32}
 use mir.Facts.{toZ-ofZ}
 use borrow.Author.Tests.{not-true, not-false}
-use Rattle.registers.specs.Settings.{within, stored}
+use Rattle.registers.specs.Settings.{count, within, stored}
 use Rattle.registers.proofs.Tests.{if-same}
 use Rattle.registers.proofs.settings.Laws.{stored-yes, stored-outside, stored-conflict}
 use native.Mathlib.Omega.{arith}
@@ -48,7 +48,7 @@ returns-4 : tie.Need-returns-4
 unfolding stored
 returns-4 c =
     let s = c .before .args .t1 in
-    let long : length (s .values) ≡ 16 = search needs in
+    let long : length (s .values) ≡ count = search needs in
     let out : set (s .values) (c .before .args .row) (c .before .args .value) ≡ s .values = set-out (s .values) (c .before .args .row) (c .before .args .value) (omega arith) in
     sym (if-same _ _ s (λ i. record { values = out i }))
 

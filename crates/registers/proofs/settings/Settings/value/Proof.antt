@@ -1,6 +1,7 @@
 use mathlib.Core.Path.{_≡_, sym}
 use lib.ListN.{length, List·getD-eq-default}
 use lib.IntN.{pos}
+use Rattle.registers.specs.Settings.{count}
 use native.Mathlib.Omega.{arith}
 use borrow.Author.Needs.{needs}
 use Rattle.registers.proofs.settings.Settings.value.Statement.{statement}
@@ -16,7 +17,7 @@ returns : tie.Need-returns
 returns c = search needs
 
 returns-2 : tie.Need-returns-2
-returns-2 c = sym (List·getD-eq-default (c .before .before .args .self .values) (pos 0) (let long : length (c .before .before .args .self .values) ≡ 16 = search needs in omega arith))
+returns-2 c = sym (List·getD-eq-default (c .before .before .args .self .values) (pos 0) (let long : length (c .before .before .args .self .values) ≡ count = search needs in omega arith))
 
 pub value-spec : {M : Type 1} → statement M
 value-spec = tie.close (tie.spec mul-result array-copy-out-result returns returns-2)
