@@ -1,8 +1,8 @@
-//! The error numbers that 01 raises, with their SCPI-99 texts.
+//! The error numbers that 01 and 02 raise, with their SCPI-99 texts.
 
 macro_rules! errors {
     ($($name:ident = $number:literal, $text:literal;)*) => {
-        /// An error of 01, by its number without the minus. The names are the texts of SCPI-99.
+        /// An error of 01 or 02, by its number without the minus. The names are the texts of SCPI-99.
         #[allow(clippy::enum_variant_names)]
         #[derive(Clone, Copy, Debug, PartialEq, Eq)]
         pub enum Error {
@@ -33,6 +33,7 @@ errors! {
     InvalidCharacterInNumber = 121, "Invalid character in number";
     ExponentTooLarge = 123, "Exponent too large";
     TooManyDigits = 124, "Too many digits";
+    InvalidSuffix = 131, "Invalid suffix";
     SuffixNotAllowed = 138, "Suffix not allowed";
     InvalidCharacterData = 141, "Invalid character data";
     SettingsConflict = 221, "Settings conflict";

@@ -25,6 +25,30 @@ impl Step {
     }
 }
 
+/// What a row's numbers measure, and so which suffixes they may carry (02, #101).
+#[derive(Clone, Copy, Debug, PartialEq, Eq)]
+pub enum Quantity {
+    Voltage,
+    Current,
+    Frequency,
+    Time,
+}
+
+/// A suffix in capitals, and the power of ten that it stands for.
+type Suffix = (&'static str, i64);
+
+impl Quantity {
+    /// M is milli, but MHZ is mega (IEEE 488.2).
+    fn suffixes(self) -> &'static [Suffix] {
+        match self {
+            Quantity::Voltage => &[("V", 0), ("MV", -3)],
+            Quantity::Current => &[("A", 0), ("MA", -3)],
+            Quantity::Frequency => &[("HZ", 0), ("KHZ", 3), ("MHZ", 6)],
+            Quantity::Time => &[("S", 0)],
+        }
+    }
+}
+
 /// An exact decimal value: `digits` times ten to the `power`, below zero if `negative`.
 #[derive(Clone, Copy, Debug, PartialEq, Eq)]
 pub struct Decimal {
@@ -93,16 +117,12 @@ fn scale_down(digits: u64, power: u64) -> (u64, Ordering) {
     }
 }
 
-/// 01, check 6, over the whole text of a parameter.
-pub fn read(text: &[u8]) -> Result<Decimal, Error> {
+/// 01, check 6, over the whole text of a parameter, on a row that carries this quantity or none.
+pub fn read(text: &[u8], quantity: Option<Quantity>) -> Result<Decimal, Error> {
     let (negative, text) = read_sign(text);
     let (mantissa, text) = read_mantissa(text).ok_or(Error::InvalidCharacterInNumber)?;
     let (exponent, text) = read_exponent(text);
-    match skip_white_space(text).first() {
-        None => {}
-        Some(byte) if byte.is_ascii_alphabetic() => return Err(Error::SuffixNotAllowed),
-        Some(_) => return Err(Error::InvalidCharacterInNumber),
-    }
+    let scale = read_suffix(skip_white_space(text), quantity)?;
     if mantissa.significant > MOST_DIGITS {
         return Err(Error::TooManyDigits);
     }
@@ -112,7 +132,7 @@ pub fn read(text: &[u8]) -> Result<Decimal, Error> {
     Ok(Decimal {
         negative,
         digits: mantissa.digits,
-        power: exponent.value() - mantissa.decimals as i64,
+        power: exponent.value() - mantissa.decimals as i64 + scale,
     })
 }
 
@@ -204,6 +224,20 @@ fn read_exponent(text: &[u8]) -> (Exponent, &[u8]) {
     (Exponent { negative, size }, &digits[length..])
 }
 
+/// The power of ten that all of the text behind a number stands for.
+fn read_suffix(text: &[u8], quantity: Option<Quantity>) -> Result<i64, Error> {
+    match (text.first(), quantity) {
+        (None, _) => Ok(0),
+        (Some(byte), _) if !byte.is_ascii_alphabetic() => Err(Error::InvalidCharacterInNumber),
+        (Some(_), None) => Err(Error::SuffixNotAllowed),
+        (Some(_), Some(quantity)) => {
+            let mut suffixes = quantity.suffixes().iter();
+            let meant = suffixes.find(|(name, _)| name.as_bytes().eq_ignore_ascii_case(text));
+            meant.map(|&(_, power)| power).ok_or(Error::InvalidSuffix)
+        }
+    }
+}
+
 /// A number written for an answer: plain, or with one decimal for step 0.1.
 pub struct Written {
     bytes: [u8; Written::LONGEST],
@@ -278,7 +312,27 @@ mod tests {
             (&small, Step::Tenth, 0, Greater),
         ];
         for (text, step, steps, side) in values {
-            let rounded = read(text.as_bytes()).unwrap().in_steps(step);
+            let rounded = read(text.as_bytes(), None).unwrap().in_steps(step);
+            assert_eq!(rounded, Rounded { steps, side }, "{text}");
+        }
+    }
+
+    #[test]
+    fn the_side_of_the_exact_scaled_value() {
+        use Ordering::{Equal, Greater, Less};
+        let values = [
+            ("5100 MV", Quantity::Voltage, 51, Equal),
+            ("5050mv", Quantity::Voltage, 51, Less),
+            ("-449 MA", Quantity::Current, -4, Less),
+            ("-450 MA", Quantity::Current, -5, Greater),
+            ("0.0601 KHZ", Quantity::Frequency, 601, Equal),
+            ("0.06014kHz", Quantity::Frequency, 601, Greater),
+            ("1E-6 mhz", Quantity::Frequency, 10, Equal),
+            ("1E-9MV", Quantity::Voltage, 0, Greater),
+        ];
+        for (text, quantity, steps, side) in values {
+            let value = read(text.as_bytes(), Some(quantity)).unwrap();
+            let rounded = value.in_steps(Step::Tenth);
             assert_eq!(rounded, Rounded { steps, side }, "{text}");
         }
     }

@@ -89,6 +89,17 @@ pub static HEADERS: [Printed; 33] = [
     (Some(16), "SYSTem:EXAM", Use::Bool),
 ];
 
+/// The suffixes that a setting's numbers take (02, #101), each with its power of ten.
+pub fn suffixes(place: usize) -> &'static [(&'static str, i32)] {
+    match place {
+        4 => &[("V", 0), ("MV", -3)],
+        6 => &[("HZ", 0), ("KHZ", 3), ("MHZ", 6)],
+        7 | 12 | 13 => &[("A", 0), ("MA", -3)],
+        10 | 11 => &[("S", 0)],
+        _ => &[],
+    }
+}
+
 /// The nodes of a printed header, each with the mark whether it may be left out.
 pub fn nodes(printed: &str) -> Vec<(&str, bool)> {
     let mut nodes = Vec::new();

@@ -1,7 +1,7 @@
 //! The settings: 01's sixteen in the order of its table, then exam mode (02, #107). Numbers are
 //! counted in steps.
 
-use crate::number::Step;
+use crate::number::{Quantity, Step};
 use crate::text::Word;
 
 pub const SETTINGS: usize = 17;
@@ -32,7 +32,7 @@ pub enum Setting {
 pub enum Values {
     Bool,
     Words(&'static [Word]),
-    Number(Step),
+    Number(Step, Option<Quantity>),
 }
 
 struct Row {
@@ -71,31 +71,37 @@ const fn word_row(words: &'static [Word], reset: i32) -> Row {
     }
 }
 
-const fn number_row(step: Step, lowest: i32, highest: i32, reset: i32) -> Row {
+const fn number_row(values: Values, lowest: i32, highest: i32, reset: i32) -> Row {
     Row {
-        values: Values::Number(step),
+        values,
         lowest,
         highest,
         reset,
     }
 }
 
+const VOLTS: Values = Values::Number(Step::Tenth, Some(Quantity::Voltage));
+const AMPERES: Values = Values::Number(Step::Tenth, Some(Quantity::Current));
+const HERTZ: Values = Values::Number(Step::Tenth, Some(Quantity::Frequency));
+const SECONDS: Values = Values::Number(Step::One, Some(Quantity::Time));
+const BARE: Values = Values::Number(Step::One, None);
+
 static ROWS: [Row; SETTINGS] = [
     bool_row(0),
     bool_row(0),
     bool_row(1),
     word_row(&MONITOR_MODES, 2),
-    number_row(Step::Tenth, 0, 240, 0),
+    number_row(VOLTS, 0, 240, 0),
     word_row(&RANGES, R12V),
-    number_row(Step::Tenth, 400, 5500, 500),
-    number_row(Step::Tenth, 1, 20, 10),
+    number_row(HERTZ, 400, 5500, 500),
+    number_row(AMPERES, 1, 20, 10),
     word_row(&LIMIT_MODES, 1),
     word_row(&LIMIT_MODES, 1),
-    number_row(Step::One, 1, 10, 1),
-    number_row(Step::One, 1, 10, 1),
-    number_row(Step::Tenth, 5, 80, 40),
-    number_row(Step::Tenth, -80, -5, -40),
-    number_row(Step::One, 0, 99, 50),
+    number_row(SECONDS, 1, 10, 1),
+    number_row(SECONDS, 1, 10, 1),
+    number_row(AMPERES, 5, 80, 40),
+    number_row(AMPERES, -80, -5, -40),
+    number_row(BARE, 0, 99, 50),
     bool_row(0),
     bool_row(0),
 ];

@@ -5,7 +5,7 @@ use std::cmp::Ordering;
 use crate::answer::Answer;
 use crate::error::Error;
 use crate::header::{self, Place, Register, Row};
-use crate::number::{self, Rounded, Step, Written};
+use crate::number::{self, Quantity, Rounded, Step, Written};
 use crate::settings::{Setting, Settings, Values, R12V};
 use crate::status::{Status, FIFTEEN_BITS};
 use crate::text::{
@@ -102,7 +102,9 @@ impl Instrument {
         let value = match setting.values() {
             Values::Bool => read_bool(parameter)?,
             Values::Words(words) => read_word(words, parameter)?,
-            Values::Number(step) => self.read_number(setting, *step, parameter)?,
+            &Values::Number(step, quantity) => {
+                self.read_number(setting, step, quantity, parameter)?
+            }
         };
         if setting == Setting::VoltageRange
             && value == R12V
@@ -114,11 +116,17 @@ impl Instrument {
         Ok(())
     }
 
-    fn read_number(&self, setting: Setting, step: Step, parameter: &[u8]) -> Result<i32, Error> {
+    fn read_number(
+        &self,
+        setting: Setting,
+        step: Step,
+        quantity: Option<Quantity>,
+        parameter: &[u8],
+    ) -> Result<i32, Error> {
         match Parameter::read(parameter)? {
             Parameter::Word(spelling) => self.limit(setting, spelling),
             Parameter::Number(text) => {
-                let rounded = number::read(text)?.in_steps(step);
+                let rounded = number::read(text, quantity)?.in_steps(step);
                 if self.settings.exam_is_on() && rounded.side != Ordering::Equal {
                     return Err(Error::DataOutOfRange);
                 }
@@ -148,7 +156,8 @@ impl Instrument {
             Register::EventStatusEnable | Register::ServiceRequestEnable => 255,
             _ => i32::from(FIFTEEN_BITS),
         };
-        let value = within(0, highest, number::read(text)?.in_steps(Step::One))? as u16;
+        let rounded = number::read(text, None)?.in_steps(Step::One);
+        let value = within(0, highest, rounded)? as u16;
         match register {
             Register::EventStatusEnable => self.status.ese = value,
             Register::ServiceRequestEnable => self.status.enable_service_request(value),
@@ -216,7 +225,7 @@ impl Instrument {
     fn answer_setting(&mut self, setting: Setting, parameters: &Parameters) -> Result<(), Error> {
         let present = self.settings.get(setting);
         match setting.values() {
-            Values::Number(step) => {
+            Values::Number(step, _) => {
                 let value = match parameters.at_most_one()? {
                     None => present,
                     Some(parameter) => match Parameter::read(parameter)? {
@@ -317,7 +326,7 @@ fn read_bool(parameter: &[u8]) -> Result<i32, Error> {
         Parameter::Word(spelling) if OFF.is_spelled(spelling) => Ok(0),
         Parameter::Word(_) => Err(Error::InvalidCharacterData),
         Parameter::Number(text) => {
-            let rounded = number::read(text)?.in_steps(Step::One);
+            let rounded = number::read(text, None)?.in_steps(Step::One);
             Ok(i32::from(rounded.steps != 0))
         }
     }

@@ -4,10 +4,10 @@
 mod bench;
 
 use bench::*;
-use twin::paper::{nodes, Use, HEADERS};
+use twin::paper::{nodes, suffixes, Use, HEADERS};
 use twin::{State, SETTINGS};
 
-static UNITS: [&str; 69] = [
+static UNITS: [&str; 71] = [
     "VOLT 5",
     "VOLT 12.04",
     "VOLT 12.05",
@@ -72,6 +72,8 @@ static UNITS: [&str; 69] = [
     " ",
     "FOO",
     "VOLT 5V",
+    "VOLT 5A",
+    "FREQ 0.06 KHZ",
     "VOLT",
     "VOLT 1,2",
     "VOLT 1E10",
@@ -265,10 +267,13 @@ struct NumberText {
     whole: String,
     fraction: String,
     exponent: i32,
+    /// White space and a suffix, or nothing, and the power of ten it stands for.
+    suffix: String,
+    scale: i32,
 }
 
 impl NumberText {
-    fn random(dice: &mut Dice) -> NumberText {
+    fn random(dice: &mut Dice, place: usize) -> NumberText {
         let digits = |dice: &mut Dice, most: usize| -> String {
             let count = dice.below(most + 1);
             (0..count)
@@ -279,6 +284,12 @@ impl NumberText {
         let whole = zeros + &digits(dice, 6);
         let zeros = "0".repeat(*dice.pick(&[0, 0, 0, 1, 5, 13, 200]));
         let fraction = zeros + &digits(dice, 8);
+        let suffixes = suffixes(place);
+        let (suffix, scale) = match dice.below(2 * suffixes.len() + 1) {
+            number if number < suffixes.len() => suffixes[number],
+            _ => ("", 0),
+        };
+        let blank = dice.pick(&["", " ", "\t\r", "\0"]).to_string();
         NumberText {
             sign: ["", "", "-", "+"][dice.below(4)],
             whole: if whole.is_empty() && fraction.is_empty() {
@@ -288,6 +299,8 @@ impl NumberText {
             },
             fraction,
             exponent: dice.below(25) as i32 - 12,
+            suffix: blank + &mixed_case(dice, suffix),
+            scale,
         }
     }
 
@@ -297,8 +310,10 @@ impl NumberText {
             whole,
             fraction,
             exponent,
+            suffix,
+            ..
         } = self;
-        format!("{sign}{whole}.{fraction}E{exponent}")
+        format!("{sign}{whole}.{fraction}E{exponent}{suffix}")
     }
 
     /// In steps, or the error of checks 6 and 7, where exam mode may forbid what is off the step.
@@ -310,7 +325,7 @@ impl NumberText {
         if self.exponent.abs() > 9 {
             return Err(123);
         }
-        let shift = self.exponent + decimals - self.fraction.len() as i32;
+        let shift = self.exponent + self.scale + decimals - self.fraction.len() as i32;
         let mut digits = "0".repeat(400) + &digits;
         let mut up = 0;
         if shift >= 0 {
@@ -331,6 +346,16 @@ impl NumberText {
     }
 }
 
+fn mixed_case(dice: &mut Dice, text: &str) -> String {
+    let letters = text.chars();
+    letters
+        .map(|letter| match dice.below(2) {
+            0 => letter.to_ascii_lowercase(),
+            _ => letter,
+        })
+        .collect()
+}
+
 #[test]
 fn numbers_are_exact() {
     let rows = [
@@ -338,14 +363,15 @@ fn numbers_are_exact() {
         ("FREQ", FREQUENCY, 1, 400, 5500),
         ("CURR:LIM:PEAK:LOW", LOW, 1, -80, -5),
         ("CURR:LIM:PEAK:HIGH", HIGH, 1, 5, 80),
+        ("CURR:LIM:RMS:TIME", RMS_TIME, 0, 1, 10),
         ("DISP:BRIG", BRIGHTNESS, 0, 0, 99),
     ];
     let mut dice = Dice(3);
     let mut accepted = 0;
     let mut accepted_in_exam = 0;
     for _ in 0..60_000 {
-        let number = NumberText::random(&mut dice);
         let &(header, place, decimals, lowest, highest) = dice.pick(&rows);
+        let number = NumberText::random(&mut dice, place);
         let line = format!("{header} {}", number.text());
         match number.expected(decimals, lowest, highest, false) {
             Ok(value) => {

@@ -114,8 +114,8 @@ mod lines_and_units {
     #[test]
     fn numbers_that_the_queue_may_hold() {
         let allowed = [
-            101, 102, 104, 108, 109, 113, 121, 123, 124, 138, 141, 221, 222, 350, 363, 410, 420,
-            430,
+            101, 102, 104, 108, 109, 113, 121, 123, 124, 131, 138, 141, 221, 222, 350, 363, 410,
+            420, 430,
         ];
         for number in 0..=u16::MAX {
             let mut state = State::power_up();
@@ -261,11 +261,13 @@ mod parameters_and_numbers {
 
     #[test]
     fn number_forms() {
-        let with_suffix = ["1E", "1E+", "5 E3", "5E 3", "0x10", "1E5E5", "1E10V"];
+        let with_suffix = ["1E", "1E+", "5 E3", "5E 3", "0x10", "1E5E5", "1E10X"];
         for number in with_suffix {
-            refused(format!("VOLT {number}"), 138);
+            refused(format!("VOLT {number}"), 131);
             refused(format!("OUTP {number}"), 138);
         }
+        refused("OUTP 1E10V", 138);
+        refused("VOLT 1E10V", 123);
         let invalid = [
             "1 2", "1.2.3", "1_0", "5%", "+", "-", ".", "--5", "- 5", "+V", ".E5",
         ];
@@ -428,6 +430,7 @@ mod answers_status_queue {
             (121, "Invalid character in number"),
             (123, "Exponent too large"),
             (124, "Too many digits"),
+            (131, "Invalid suffix"),
             (138, "Suffix not allowed"),
             (141, "Invalid character data"),
             (221, "Settings conflict"),

@@ -4,6 +4,125 @@ mod bench;
 
 use bench::*;
 
+/// #101: unit suffixes, exactly scaled before the value is rounded.
+mod unit_suffixes {
+    use super::*;
+    use twin::paper::{suffixes, Use, HEADERS};
+
+    #[test]
+    fn the_pupils_line() {
+        sets("VOLT 5000 MV", VOLTAGE, 50);
+        sets("VOLT 5V", VOLTAGE, 50);
+    }
+
+    #[test]
+    fn each_on_the_rows_that_carry_its_quantity() {
+        let numbers = [
+            ("VOLT", VOLTAGE, "7.3 V", 73),
+            ("VOLT", VOLTAGE, "7300 MV", 73),
+            ("FREQ", FREQUENCY, "60 HZ", 600),
+            ("FREQ", FREQUENCY, "0.06 KHZ", 600),
+            ("FREQ", FREQUENCY, "0.00006 MHZ", 600),
+            ("FREQ", FREQUENCY, "0.0001 MHZ", 1000),
+            ("CURR:LIM:RMS", RMS, "1.5 A", 15),
+            ("CURR:LIM:RMS", RMS, "1500 MA", 15),
+            ("CURR:LIM:PEAK:HIGH", HIGH, "3 A", 30),
+            ("CURR:LIM:PEAK:HIGH", HIGH, "3E3 MA", 30),
+            ("CURR:LIM:PEAK:LOW", LOW, "-3 A", -30),
+            ("CURR:LIM:PEAK:LOW", LOW, "-3000 MA", -30),
+            ("CURR:LIM:RMS:TIME", RMS_TIME, "7 S", 7),
+            ("CURR:LIM:PEAK:TIME", 11, "7 S", 7),
+        ];
+        for (header, place, number, value) in numbers {
+            sets(format!("{header} {number}"), place, value);
+            sets(format!("{header} {}", number.to_lowercase()), place, value);
+            for blank in ["", "\t", "\0", "\r", " \r\x1F "] {
+                let number = number.replace(' ', blank);
+                sets(format!("{header} {number} "), place, value);
+            }
+        }
+        sets("FREQ 0.00006 mHz", FREQUENCY, 600);
+    }
+
+    #[test]
+    fn every_other_suffix_is_refused() {
+        let names = [
+            "V", "MV", "A", "MA", "HZ", "KHZ", "MHZ", "S", "MS", "KV", "UV", "K", "M", "OHM", "VV",
+            "V2", "V_", "V%", "V V", "E", "MAX", "MIN",
+        ];
+        for (place, header, takes) in HEADERS {
+            let quantity = place.map_or(&[][..], suffixes);
+            let header = header.replace(['[', ']'], "");
+            for name in names {
+                let line = format!("{header} 5{name}");
+                match takes {
+                    Use::Number(..) if quantity.iter().any(|suffix| suffix.0 == name) => {
+                        assert!(!after(line).errors().contains(&131));
+                    }
+                    Use::Number(..) if !quantity.is_empty() => refused(line, 131),
+                    Use::Number(..) | Use::Bool | Use::Register(_) => refused(line, 138),
+                    _ => {}
+                }
+            }
+        }
+    }
+
+    #[test]
+    fn examples_of_the_readings() {
+        refused("VOLT 5V2", 131);
+        refused("VOLT 5E", 131);
+        refused("VOLT 5A", 131);
+        refused("CURR:LIM:RMS:TIME 1500 MS", 131);
+        refused("VOLT 5_V", 121);
+        refused("DISP:BRIG 5V", 138);
+        refused("OUTP 5V", 138);
+        refused("*ESE 5V", 138);
+        refused("VOLT MAX V", 141);
+        refused("VOLT? 5V", 104);
+    }
+
+    #[test]
+    fn judged_before_digits_and_exponent() {
+        refused("VOLT 1234567890123 X", 131);
+        refused("VOLT 1E10 X", 131);
+        refused("DISP:BRIG 1E10 V", 138);
+        // The number as written counts, not the scaled one.
+        refused("VOLT 1234567890123 V", 124);
+        refused("VOLT 1E10 MV", 123);
+        refused("VOLT 1E-10 MV", 123);
+        sets("VOLT 3;VOLT 1E-9 MV", VOLTAGE, 0);
+        refused("VOLT 999999999999E9 MV", 222);
+        refused("FREQ 999999999999E9 MHZ", 222);
+        refused("FREQ 0E9 MHZ", 222);
+    }
+
+    #[test]
+    fn the_exact_scaled_value_is_rounded() {
+        sets("VOLT 7250 MV", VOLTAGE, 73);
+        sets("VOLT 7249.99999 MV", VOLTAGE, 72);
+        sets("VOLT 12049 MV", VOLTAGE, 120);
+        refused("VOLT 12050 MV", 222);
+        sets("CURR:LIM:PEAK:LOW -450 MA", LOW, -5);
+        refused("CURR:LIM:PEAK:LOW -449 MA", 222);
+        sets("CURR:LIM:RMS 50 MA", RMS, 1);
+        refused("CURR:LIM:RMS 49 MA", 222);
+        sets("FREQ 0.05 KHZ;FREQ 0.06005 KHZ", FREQUENCY, 601);
+        sets("FREQ 0.0000600499 MHZ", FREQUENCY, 600);
+        sets("CURR:LIM:RMS:TIME 1.5 S", RMS_TIME, 2);
+        refused("CURR:LIM:RMS:TIME 0.49 S", 222);
+    }
+
+    #[test]
+    fn in_exam_mode() {
+        refused_after("SYST:EXAM 1", ":VOLT 5050 MV", 222);
+        refused_after("SYST:EXAM 1", ":FREQ 0.06014 KHZ", 222);
+        refused_after("SYST:EXAM 1", ":CURR:LIM:RMS:TIME 1.5 S", 222);
+        answers("SYST:EXAM 1;:VOLT 5100 MV;VOLT?", "5.1");
+        answers("SYST:EXAM 1;:FREQ 0.0601 KHZ;FREQ?", "60.1");
+        answers("SYST:EXAM 1;:VOLT 5.1000;VOLT?", "5.1");
+    }
+}
+
 /// #102: a bool's number is rounded before it is compared with zero.
 mod zero_point_four_is_off {
     use super::*;

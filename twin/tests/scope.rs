@@ -45,7 +45,7 @@ fn other_lines_to_try() {
 
     sets("VOLT 0.00001E6", VOLTAGE, 100);
     refused("VOLT 1E10", 123);
-    refused("VOLT 5V", 138);
+    sets("VOLT 5V", VOLTAGE, 50);
     refused("VOLT ON", 141);
     refused("VOLT 1,2", 108);
     refused("VOLT", 109);
@@ -228,7 +228,8 @@ fn order_of_checks() {
     refused("*RST? 1", 113);
     refused("VOLT #,5", 108);
     refused("VOLT:RANG 1E99V", 104);
-    refused("VOLT 1234567890123E99V", 138);
+    refused("VOLT 1234567890123E99A", 131);
+    refused("DISP:BRIG 1234567890123E99V", 138);
     refused("VOLT 1234567890123E99_", 121);
     refused("VOLT 1234567890123E99", 124);
     refused("VOLT 30E99", 123);

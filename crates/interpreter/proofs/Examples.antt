@@ -3,7 +3,8 @@ use mathlib.Core.Path.{refl}
 use Rattle.registers.specs.Text.{if_then_else_, bytes, same, white, printable, digit, letter, wordByte, small, capital}
 use Rattle.registers.specs.Check.{_>>=_, _>>_, check}
 use Rattle.registers.specs.Words.{shortForm, longForm, matches}
-use Rattle.registers.specs.Number.{afterSign, fractionOf, afterFraction, exponentOf, afterExponent, lowering, written, numeralFrom, decimalOf, valueOf, remains, number}
+use Rattle.registers.specs.Number.{afterSign, fractionOf, afterFraction, exponentOf, afterExponent, lowering, written, numeralFrom, decimalOf, valueOf, scaled, number}
+use Rattle.registers.specs.Suffix.{suffixes, noSuffix, powerIn, remains}
 use Rattle.registers.specs.Rounding.{switchedOn, nearest, sizeIn, rounded, sizeSide, sideIn}
 use Rattle.registers.specs.Answer.{inPlaces, decimal, tenths}
 use Rattle.registers.specs.Errors.{eventBit}
@@ -12,7 +13,7 @@ use Rattle.registers.specs.Status.{raised, summary, statusByte, storedIn, regis
 use Rattle.interpreter.specs.Cuts.{cutAt, trimEnd, trim}
 use Rattle.interpreter.specs.Header.{name, placed, header, spells}
 use Rattle.interpreter.specs.Rows.{settingRows, otherRows, rows, fitsRow, findRow}
-use Rattle.interpreter.specs.Parameter.{parameters, least, greatest, findWord, parameter, valueGiven, settingDeed, registerDeed, deedOf}
+use Rattle.interpreter.specs.Parameter.{parameters, least, greatest, findWord, parameter, valueGiven, settingDeed, limitDeed, registerDeed, deedOf}
 use Rattle.interpreter.specs.Unit.{readUnit}
 use Rattle.interpreter.specs.Box.{powerUp}
 use Rattle.interpreter.specs.Deeds.{changed, replyTo, inquiryReply, joined, fitsAnswer, reply, perform}
@@ -22,11 +23,11 @@ use Rattle.interpreter.specs.Examples.{examples, outcome, ran, allSet, e
 
 pub all-hold : AllHold
 unfolding if_then_else_ bytes same white printable digit letter wordByte small capital _>>=_ _>>_ check shortForm longForm matches
-    afterSign fractionOf afterFraction exponentOf afterExponent lowering written numeralFrom decimalOf valueOf remains number
+    afterSign fractionOf afterFraction exponentOf afterExponent lowering written numeralFrom decimalOf valueOf scaled suffixes noSuffix powerIn remains number
     switchedOn nearest sizeIn rounded sizeSide sideIn inPlaces decimal tenths eventBit
     table settingAt atReset wideRange lowest highest within conflict examined accepted answerOf raised summary statusByte storedIn registerIn atStart
     cutAt trimEnd trim name placed header spells settingRows otherRows rows fitsRow findRow
-    parameters least greatest findWord parameter valueGiven settingDeed registerDeed deedOf readUnit powerUp
+    parameters least greatest findWord parameter valueGiven settingDeed limitDeed registerDeed deedOf readUnit powerUp
     changed replyTo inquiryReply joined fitsAnswer reply perform
     attempt refuse runUnits interrupted finished unitsOf runLine endLine held byte piece happens
     examples outcome ran allSet expected

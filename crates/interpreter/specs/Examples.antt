@@ -1,5 +1,5 @@
--- 01's "Lines to try" that are marked P, and lines of exam mode (02, #107), as one table: each is run from power-up and compared with
--- what it must leave.
+-- 01's "Lines to try" that are marked P, and lines of exam mode (02, #107) and with suffixes (02, #101), as one table: each is
+-- run from power-up and compared with what it must leave.
 use mathlib.Core.Path.{_≡_}
 use mathlib.Core.List.{List, [], _∷_, _++_, map}
 use Prim.Native.Nat.{ℕ}
@@ -48,6 +48,23 @@ examples =
     -- it counts from the next unit on, and *RST ends it
     ∷ example "VOLT 5.05;:SYST:EXAM 1;:VOLT 6.05" "" (222 ∷ []) ((4, pos 51) ∷ (16, pos 1) ∷ [])
     ∷ example "SYST:EXAM 1;*RST;:VOLT 5.05;:SYST:EXAM?" "0\n" [] ((4, pos 51) ∷ [])
+    -- suffixes (02, #101): 01's `VOLT 5V` now sets 5.0
+    ∷ example "VOLT 5V;FREQ 0.06 KHZ;FREQ?" "60.0\n" [] ((4, pos 50) ∷ (6, pos 600) ∷ [])
+    ∷ example "VOLT 5000 MV;FREQ 6E-5 MHZ" "" [] ((4, pos 50) ∷ (6, pos 600) ∷ [])
+    ∷ example "volt 5e3mv;:curr:lim:rms:time 2 s" "" [] ((4, pos 50) ∷ (10, pos 2) ∷ [])
+    ∷ example "CURR:LIM:PEAK:LOW -450 MA" "" [] ((13, minus 5) ∷ [])
+    ∷ example "VOLT 5A" "" (131 ∷ []) []
+    ∷ example "CURR:LIM:RMS:TIME 1500 MS" "" (131 ∷ []) []
+    ∷ example "DISP:BRIG 5S" "" (138 ∷ []) []
+    ∷ example "OUTP 5V" "" (138 ∷ []) []
+    ∷ example "*ESE 5V" "" (138 ∷ []) []
+    ∷ example "VOLT 5_V" "" (121 ∷ []) []
+    ∷ example "VOLT 1E10MV" "" (123 ∷ []) []
+    ∷ example "VOLT MAX V" "" (141 ∷ []) []
+    ∷ example "VOLT? 5V" "" (104 ∷ []) []
+    -- the scaled value is what exam mode holds to the step
+    ∷ example "SYST:EXAM 1\nVOLT 5050 MV" "" (222 ∷ []) ((16, pos 1) ∷ [])
+    ∷ example "SYST:EXAM 1\nVOLT 5100 MV;:FREQ 0.0601 KHZ" "" [] ((4, pos 51) ∷ (6, pos 601) ∷ (16, pos 1) ∷ [])
     ∷ []
 
 -- what is compared: the answer, the queue, and every setting

@@ -11,13 +11,15 @@ use Rattle.registers.specs.Check.{Checked, refused, passed, _>>=_, _>>_, check}
 use Rattle.registers.specs.Words.{matches}
 use Rattle.registers.specs.Number.{number as readNumber, sign, point}
 use Rattle.registers.specs.Rounding.{switchedOn, rounded, sideIn}
-use Rattle.registers.specs.Settings.{Kind, bool, words, number, kindOf, lowest, highest, within, conflict, accepted}
+use Rattle.registers.specs.Settings.{Kind, bool, words, number, kindOf, quantityOf, lowest, highest, within, conflict, accepted}
 use Rattle.registers.specs.Status.{widest}
 use Rattle.registers.specs.declared.number.Decimal.{Decimal}
 use Rattle.registers.specs.declared.rounding.Side.{Side}
 use Rattle.registers.specs.declared.rounding.Side.the-variants.{On}
 use Rattle.registers.specs.declared.settings.Settings.{Settings}
 use Rattle.registers.specs.declared.status.Register.{Register}
+use Rattle.registers.specs.declared.suffix.Quantity.{Quantity}
+use Rattle.registers.specs.declared.suffix.Quantity.the-variants.{Nothing}
 use Rattle.interpreter.specs.Cuts.{cutAt, trim}
 use Rattle.interpreter.specs.declared.deed.Deed.{Deed}
 use Rattle.interpreter.specs.declared.deed.Deed.the-variants.{Change, Query}
@@ -63,11 +65,11 @@ findWord i (w ∷ ws) t = if matches w t then passed (Word i) else findWord (suc
 
 -- "First byte a letter: a word .. Digit, sign or point: a number; -104 if the row takes words only, or in any query. Any
 -- other first byte: -104"
-unfoldable pub parameter : List String → Bool → Text → Checked Given
-parameter ws numbers t =
+unfoldable pub parameter : List String → Bool → Quantity → Text → Checked Given
+parameter ws numbers q t =
     if letter (first t) then check 141 (every wordByte t) >> findWord 0 ws t
     else (if digit (first t) || sign (first t) || point (first t)
-    then (check 104 numbers >> readNumber t >>= λ d. passed (Figure d))
+    then (check 104 numbers >> readNumber q t >>= λ d. passed (Figure d))
     else refused 104)
 
 -- "Number rows also take MINimum and MAXimum, in the query too"
@@ -112,7 +114,7 @@ sideGiven (number k low high) (Figure d) = sideIn k d
 -- with the limits' -222 stands that of exam mode
 unfoldable pub settingDeed : Settings → ℕ → Text → Checked Deed
 settingDeed s i t =
-    parameter (wordsOf (kindOf i)) (takesNumbers (kindOf i)) t >>= λ g.
+    parameter (wordsOf (kindOf i)) (takesNumbers (kindOf i)) (quantityOf i) t >>= λ g.
     let v = valueGiven s i (kindOf i) g in
     let x = sideGiven (kindOf i) g in
     check 222 (within s i v) >> check 222 (accepted s x) >> check 221 (not (conflict s i v)) >> passed (Change (Put i v x))
@@ -123,9 +125,9 @@ limitGiven s i (Word n) = limitAt s i n
 limitGiven s i (Figure d) = pos 0
 
 unfoldable pub limitDeed : Settings → ℕ → Text → Checked Deed
-limitDeed s i t = parameter limitWords false t >>= λ g. passed (Query (Limit i (limitGiven s i g)))
+limitDeed s i t = parameter limitWords false (quantityOf i) t >>= λ g. passed (Query (Limit i (limitGiven s i g)))
 
--- "Numbers here use step 1 and no MIN or MAX"; a word was refused by check 5
+-- "Numbers here use step 1 and no MIN or MAX", and measure nothing; a word was refused by check 5
 abbrev pub registerGiven : Given → ℤ
 registerGiven (Word n) = pos n
 registerGiven (Figure d) = rounded 1 d
@@ -136,7 +138,7 @@ registerSide (Figure d) = sideIn 1 d
 
 unfoldable pub registerDeed : Register → Text → Checked Deed
 registerDeed r t =
-    parameter [] true t >>= λ g.
+    parameter [] true Nothing t >>= λ g.
     let v = registerGiven g in
     check 222 (leZ (pos 0) v && leZ v (pos (widest r))) >> passed (Change (Store r (natAbs v) (registerSide g)))
 

@@ -20,6 +20,7 @@ use Rattle.registers.specs.declared.rounding.Rounded.{Rounded}
 use Rattle.registers.specs.declared.rounding.Side.{Side}
 use Rattle.registers.specs.declared.settings.Settings.{Settings}
 use Rattle.registers.specs.declared.status.Register.{Register}
+use Rattle.registers.specs.declared.suffix.Quantity.{Quantity}
 use Rattle.interpreter.specs.RowsParts.{wordCount, wordList}
 use Rattle.interpreter.specs.Parameter.{Given, Word, Figure, parameters, findWord, registerDeed}
 use Rattle.interpreter.specs.declared.deed.Deed.{Deed}
@@ -53,17 +54,18 @@ pub record CountedIn (t : Text) (r : Counted) : Type 0 where
 abbrev pub takenWords : Takes → List String
 takenWords x = take (x .count) (drop (x .first) wordList)
 
-pub record TakesOf (ws : List String) (also : Bool) (r : Takes) : Type 0 where
+pub record TakesOf (ws : List String) (also : Bool) (q : Quantity) (r : Takes) : Type 0 where
   pub words : takenWords r ≡ ws
   pub numbers : r .numbers ≡ also
+  pub quantity : r .quantity ≡ q
   pub room : r .first + r .count ≤ wordCount
 
 -- check 5 on a word, and check 6
 unfoldable pub aWord : List String → Text → Checked Given
 aWord ws t = check 141 (every wordByte t) >> findWord 0 ws t
 
-unfoldable pub aFigure : Text → Checked Given
-aFigure t = readNumber t >>= λ d. passed (Figure d)
+unfoldable pub aFigure : Quantity → Text → Checked Given
+aFigure q t = readNumber q t >>= λ d. passed (Figure d)
 
 -- a setting's values are numbers
 abbrev pub isNumber : Kind → Bool

@@ -15,12 +15,13 @@ use registers::rounding::Side;
 use registers::settings::Settings;
 use registers::settings::Values;
 use registers::status::Register;
+use registers::suffix::Quantity;
 use registers::text;
 ghost use mathlib.Core.Path.{_≡_};
 ghost use mathlib.Core.Bool.{true, not, _&&_};
 ghost use Prim.Native.Nat.{_+_, _≤_, _<_};
 ghost use Rattle.registers.specs.Rounding.{rounded, sideIn};
-ghost use Rattle.registers.specs.Settings.{count, kindOf};
+ghost use Rattle.registers.specs.Settings.{count, kindOf, quantityOf};
 ghost use Rattle.interpreter.specs.RowsParts.{wordCount, commandTable};
 ghost use Rattle.interpreter.specs.Parameter.{Word, Figure, parameter, wordsOf, takesNumbers, least, greatest, valueGiven, sideGiven, deedOf};
 ghost use Rattle.interpreter.specs.ParameterParts.{meantGiven, meantDeed, CountedIn, takenWords, TakesOf, aWord, isNumber, roundedTo, putFit, storeTo, registerTo, partsOf};
@@ -44,11 +45,12 @@ pub(crate) struct Counted {
     pub(crate) full: bool,
 }
 
-// What may be given: words that stand together in the table, and numbers or not.
+// What may be given: words that stand together in the table, and numbers of a quantity or none.
 pub(crate) struct Takes {
     pub(crate) first: usize,
     pub(crate) count: usize,
     pub(crate) numbers: bool,
+    pub(crate) quantity: Quantity,
 }
 
 // Where the parameters' words begin in the table of words: behind those of the headers.
@@ -94,7 +96,7 @@ pub(crate) fn count(text: &[u8]) -> Counted
 // What a setting takes.
 pub(crate) fn setting_takes(row: usize) -> Takes
     requires { ⌜ row < count ⌝ }
-    ensures { λ r. ⌜ TakesOf (wordsOf (kindOf row)) (takesNumbers (kindOf row)) r ⌝ }
+    ensures { λ r. ⌜ TakesOf (wordsOf (kindOf row)) (takesNumbers (kindOf row)) (quantityOf row) r ⌝ }
 {
     let firsts = FIRST_WORDS;
     let counts = WORD_COUNTS;
@@ -103,6 +105,7 @@ pub(crate) fn setting_takes(row: usize) -> Takes
         first: HEADER_WORDS + first,
         count: counts[row] as usize,
         numbers: 6 <= first,
+        quantity: Settings::quantity_of(row),
     }
 }
 
@@ -127,7 +130,7 @@ fn find_word(table: &[u8], takes: Takes, text: &[u8]) -> Parameter
 // Checks 5 and 6. A digit, a sign or a point starts a number, and no query takes one.
 fn read_parameter(table: &[u8], takes: Takes, asked: bool, text: &[u8]) -> Parameter
     requires { ⌜ (now table ≡ commandTable) × (takes .first + takes .count ≤ wordCount) ⌝ }
-    ensures { λ r. ⌜ meantGiven r ≡ parameter (takenWords takes) (takes .numbers && not asked) (now (text .entry)) ⌝ }
+    ensures { λ r. ⌜ meantGiven r ≡ parameter (takenWords takes) (takes .numbers && not asked) (takes .quantity) (now (text .entry)) ⌝ }
 {
     let b = text::byte_at(text, 0);
     if text::is_letter(b) {
@@ -137,7 +140,8 @@ fn read_parameter(table: &[u8], takes: Takes, asked: bool, text: &[u8]) -> Param
     if !(takes.numbers & !asked & starts) {
         return Parameter::Refused(Error::DataType);
     }
-    let reading = number::read(text);
+    let quantity = takes.quantity;
+    let reading = number::read(text, quantity);
     match reading {
         Reading::Refused(e) => return Parameter::Refused(e),
         Reading::Number(d) => return Parameter::Figure(d),
@@ -297,6 +301,7 @@ pub(crate) fn decide_register(
         first: 0,
         count: 0,
         numbers: true,
+        quantity: Quantity::Nothing,
     };
     let parameter = read_parameter(table, takes, false, text);
     match parameter {

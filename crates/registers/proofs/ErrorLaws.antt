@@ -6,7 +6,7 @@ use lib.Dec.{eqb}
 use Rattle.registers.specs.Text.{if_then_else_}
 use Rattle.registers.specs.Errors.{numberOf}
 use Rattle.registers.specs.declared.error.Error.{Error}
-use Rattle.registers.specs.declared.error.Error.the-variants.{InvalidCharacter, Syntax, DataType, ParameterNotAllowed, MissingParameter, UndefinedHeader, InvalidCharacterInNumber, ExponentTooLarge, TooManyDigits, SuffixNotAllowed, InvalidCharacterData, SettingsConflict, DataOutOfRange, InputBufferOverrun, QueryInterrupted, QueryUnterminated, QueryDeadlocked}
+use Rattle.registers.specs.declared.error.Error.the-variants.{InvalidCharacter, Syntax, DataType, ParameterNotAllowed, MissingParameter, UndefinedHeader, InvalidCharacterInNumber, ExponentTooLarge, TooManyDigits, InvalidSuffix, SuffixNotAllowed, InvalidCharacterData, SettingsConflict, DataOutOfRange, InputBufferOverrun, QueryInterrupted, QueryUnterminated, QueryDeadlocked}
 
 errors : List Error
 errors =
@@ -19,6 +19,7 @@ errors =
     ∷ InvalidCharacterInNumber
     ∷ ExponentTooLarge
     ∷ TooManyDigits
+    ∷ InvalidSuffix
     ∷ SuffixNotAllowed
     ∷ InvalidCharacterData
     ∷ SettingsConflict
@@ -46,6 +47,7 @@ back UndefinedHeader = refl
 back InvalidCharacterInNumber = refl
 back ExponentTooLarge = refl
 back TooManyDigits = refl
+back InvalidSuffix = refl
 back SuffixNotAllowed = refl
 back InvalidCharacterData = refl
 back SettingsConflict = refl

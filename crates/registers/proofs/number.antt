@@ -1,3 +1,4 @@
 pub mod Numerals
 pub mod Laws
+pub mod Scaling
 pub mod Whole

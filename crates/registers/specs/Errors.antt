@@ -9,7 +9,7 @@ use lib.Dec.{ltb, eqb}
 use Rattle.registers.specs.Text.{Text, if_then_else_, bytes}
 use Rattle.registers.specs.Answer.{decimal}
 use Rattle.registers.specs.declared.error.Error.{Error}
-use Rattle.registers.specs.declared.error.Error.the-variants.{InvalidCharacter, Syntax, DataType, ParameterNotAllowed, MissingParameter, UndefinedHeader, InvalidCharacterInNumber, ExponentTooLarge, TooManyDigits, SuffixNotAllowed, InvalidCharacterData, SettingsConflict, DataOutOfRange, InputBufferOverrun, QueryInterrupted, QueryUnterminated, QueryDeadlocked}
+use Rattle.registers.specs.declared.error.Error.the-variants.{InvalidCharacter, Syntax, DataType, ParameterNotAllowed, MissingParameter, UndefinedHeader, InvalidCharacterInNumber, ExponentTooLarge, TooManyDigits, InvalidSuffix, SuffixNotAllowed, InvalidCharacterData, SettingsConflict, DataOutOfRange, InputBufferOverrun, QueryInterrupted, QueryUnterminated, QueryDeadlocked}
 
 -- 01's number for each error that can be raised
 abbrev pub numberOf : Error → ℕ
@@ -22,6 +22,7 @@ numberOf UndefinedHeader = 113
 numberOf InvalidCharacterInNumber = 121
 numberOf ExponentTooLarge = 123
 numberOf TooManyDigits = 124
+numberOf InvalidSuffix = 131
 numberOf SuffixNotAllowed = 138
 numberOf InvalidCharacterData = 141
 numberOf SettingsConflict = 221
@@ -52,6 +53,7 @@ messages =
     ∷ (121, "Invalid character in number")
     ∷ (123, "Exponent too large")
     ∷ (124, "Too many digits")
+    ∷ (131, "Invalid suffix")
     ∷ (138, "Suffix not allowed")
     ∷ (141, "Invalid character data")
     ∷ (221, "Settings conflict")
@@ -75,7 +77,7 @@ errorText n =
 
 -- the numbers that 01 puts into the queue: refusal 4 speaks of "a number this paper never puts there"
 unfoldable pub queueable : List ℕ
-queueable = 101 ∷ 102 ∷ 104 ∷ 108 ∷ 109 ∷ 113 ∷ 121 ∷ 123 ∷ 124 ∷ 138 ∷ 141 ∷ 221 ∷ 222 ∷ 350 ∷ 363 ∷ 410 ∷ 420 ∷ 430 ∷ []
+queueable = 101 ∷ 102 ∷ 104 ∷ 108 ∷ 109 ∷ 113 ∷ 121 ∷ 123 ∷ 124 ∷ 131 ∷ 138 ∷ 141 ∷ 221 ∷ 222 ∷ 350 ∷ 363 ∷ 410 ∷ 420 ∷ 430 ∷ []
 
 -- a number is in a list
 abbrev pub among : ℕ → List ℕ → Bool

@@ -15,9 +15,10 @@ use Rattle.registers.specs.Check.{Checked, refused, passed, _>>=_, _>>_,
 use Rattle.registers.specs.Words.{Node, must, may, shortForm}
 use Rattle.registers.specs.Answer.{inPlaces, decimal, tenths, over}
 use Rattle.registers.specs.Errors.{numberOf, eventBit, messages, messageIn, errorText, queueable, known}
-use Rattle.registers.specs.Number.{afterSign, fractionOf, afterFraction, exponentOf, afterExponent, lowering, written, numeralFrom, decimalOf, valueOf, remains, number}
+use Rattle.registers.specs.Number.{afterSign, fractionOf, afterFraction, exponentOf, afterExponent, lowering, written, numeralFrom, decimalOf, valueOf, scaled, number}
+use Rattle.registers.specs.Suffix.{suffixes, noSuffix, powerIn, remains}
 use Rattle.registers.specs.Rounding.{nearest, sizeIn, rounded, fitted, sizeSide, sideIn, switchedOn}
-use Rattle.registers.specs.Settings.{Kind, bool, words, number as steps, Setting, minus, table, settingAt, kindOf, valueAt, atReset, wideRange, lowest, highest, within, conflict, examined, accepted, stored, answerOf}
+use Rattle.registers.specs.Settings.{Kind, bool, words, number as steps, Setting, minus, table, settingAt, kindOf, quantityOf, valueAt, atReset, wideRange, lowest, highest, within, conflict, examined, accepted, stored, answerOf}
 use Rattle.registers.specs.Group.{rises, falls, eventsAfter, conditionIs, eventRead, possibleGroup}
 use Rattle.registers.specs.Status.{registersOf, troubleOf, withoutBit6, storedIn, registerIn, summary, statusByte, possibleRegisters, possibleTrouble, possibleStatus, withTrouble, raisedIn, clearedIn, eventsIn, operationRead, withRegisters, oldestReadIn, reportedIn, registerSet, atStart}
 use Rattle.registers.specs.declared.error.Error.{Error}
@@ -31,6 +32,8 @@ use Rattle.registers.specs.declared.settings.Settings.{Settings}
 use Rattle.registers.specs.declared.status.Register.{Register}
 use Rattle.registers.specs.declared.status.Register.the-variants.{Ese, Sre, Enable, Ntr, Ptr}
 use Rattle.registers.specs.declared.status.Status.{Status}
+use Rattle.registers.specs.declared.suffix.Quantity.{Quantity}
+use Rattle.registers.specs.declared.suffix.Quantity.the-variants.{Nothing}
 
 -- ---- the kinds of examples
 
@@ -47,13 +50,14 @@ data Step : Type 0 where
 
 data Example : Type 0 where
   value : String → Bool → ℕ → ℕ → ℕ → Example  -- a number: is its sign a minus, its digits, its powers of ten up and down
-  wrong : ℕ → List String → Example  -- an error, and texts that check 6 refuses by it
+  wrong : ℕ → List String → Example  -- an error, and texts that check 6 refuses by it for a row without a quantity
   switch : String → Bool → Example  -- a number given for a bool: is it on
   rounds : String → ℕ → ℤ → ℤ → Fit → Example  -- a number, how many steps make one, the limits in steps, and what check 7 says
   rests : String → ℕ → Side → Example  -- a number, how many steps make one, and how the exact value stands to the rounded one
   exams : String → ℤ → Side → Bool → Example  -- a header and the value stored for it at *RST: does a number on that side then pass
   sets : String → String → String → Example  -- a header, a number given for it at *RST, and what the header then answers
   outside : String → String → Example  -- a header, and a number given for it at *RST: -222
+  refuses : String → ℕ → List String → Example  -- a header, an error, and texts that check 6 refuses by it
   limits : String → String → String → String → Example  -- a header's lowest, highest and own value at *RST, as answers
   answers : List (String × ℤ) → String → String → Example  -- values stored by header from *RST on, and what a header then answers
   lays : String → String → String → Example  -- a text, a lent tail, and that tail with the text in it
@@ -97,6 +101,30 @@ examples =
     -- something behind the number, or no number
     ∷ wrong 138 ("5V" ∷ "1E" ∷ "1E+" ∷ "5 E3" ∷ "5E 3" ∷ "0x10" ∷ "1E5E5" ∷ "1E10V" ∷ [])
     ∷ wrong 121 ("1 2" ∷ "1.2.3" ∷ "1_0" ∷ "5%" ∷ "+" ∷ "-" ∷ "." ∷ "--5" ∷ "- 5" ∷ "+V" ∷ ".E5" ∷ [])
+    -- suffixes, in any letter case, with or without white space before: the whole of what remains, exactly scaled
+    ∷ sets "VOLT" "5V" "5.0"
+    ∷ sets "VOLT" "5000 MV" "5.0"
+    ∷ sets "VOLT" "5e3mv" "5.0"
+    ∷ sets "VOLT" "7250mV" "7.3"
+    ∷ sets "VOLT" "7249.9 Mv" "7.2"
+    ∷ outside "VOLT" "12050 MV"
+    ∷ sets "FREQ" "60HZ" "60.0"
+    ∷ sets "FREQ" "0.06 KHZ" "60.0"
+    ∷ sets "FREQ" "6E-5 MHZ" "60.0"
+    ∷ outside "FREQ" "60 MHZ"
+    ∷ sets "CURR:LIM:RMS" "1.5A" "1.5"
+    ∷ sets "CURR:LIM:PEAK:HIGH" "750ma" "0.8"
+    ∷ sets "CURR:LIM:PEAK:LOW" "-450 MA" "-0.5"
+    ∷ outside "CURR:LIM:PEAK:LOW" "-449.9 MA"
+    ∷ sets "CURR:LIM:RMS:TIME" "2.5 s" "3"
+    ∷ sets "CURR:LIM:PEAK:TIME" "2S" "2"
+    ∷ refuses "VOLT" 131 ("5A" ∷ "5V2" ∷ "5E" ∷ "5 V V" ∷ "5KV" ∷ "5VM" ∷ "1E10A" ∷ "5VOLT" ∷ [])
+    ∷ refuses "FREQ" 131 ("60V" ∷ "60H" ∷ "60MHZZ" ∷ "60 GHZ" ∷ [])
+    ∷ refuses "CURR:LIM:RMS:TIME" 131 ("1500 MS" ∷ "1KS" ∷ [])
+    ∷ refuses "DISP:BRIG" 138 ("5S" ∷ "5V" ∷ [])
+    ∷ refuses "VOLT" 121 ("5_V" ∷ "5 _V" ∷ "V" ∷ "5%" ∷ [])
+    ∷ refuses "VOLT" 124 ("1234567890123 MV" ∷ "1234567890123E10 MV" ∷ [])
+    ∷ refuses "VOLT" 123 ("1E10MV" ∷ "1E-10 V" ∷ [])
     -- a bool: rounded to a whole number first, "zero is off, any other is on"
     ∷ switch "0.4" false
     ∷ switch "0.5" true
@@ -289,8 +317,8 @@ row : String → ℕ
 row header = rowIn table (code ":" ∷ bytes header)
 
 -- checks 6 and 7 on a number
-fit : ℕ → ℤ → ℤ → String → Checked Fit
-fit k low high t = number (bytes t) >>= λ d. passed (fitted k low high d)
+fit : Quantity → ℕ → ℤ → ℤ → String → Checked Fit
+fit q k low high t = number q (bytes t) >>= λ d. passed (fitted k low high d)
 
 -- on a number given for a row
 stepsOf : Kind → ℕ
@@ -299,7 +327,7 @@ stepsOf (words ws) = 1
 stepsOf (steps k low high) = k
 
 given : ℕ → String → Checked Fit
-given i t = fit (stepsOf (kindOf i)) (lowest i) (highest atReset i) t
+given i t = fit (quantityOf i) (stepsOf (kindOf i)) (lowest i) (highest atReset i) t
 
 answered : ℕ → String → ℤ → Bool
 answered i answer v = same (answerOf (kindOf i) v) (bytes answer)
@@ -328,14 +356,15 @@ stepsFrom s (x ∷ xs) = stepsFrom (step x s) xs
 
 holds : Example → Bool
 holds (value t m n up down) =
-    passes (λ (d : Decimal). alike (d .minus) m && (eqb (d .digits) n && (eqb (d .up) up && eqb (d .down) down))) (number (bytes t))
-holds (wrong n ts) = every (λ (t : String). fails n (number (bytes t))) ts
-holds (switch t on) = passes (λ (d : Decimal). alike (switchedOn d) on) (number (bytes t))
-holds (rounds t k low high r) = passes (sameFit r) (fit k low high t)
-holds (rests t k x) = passes (λ (d : Decimal). sameSide (sideIn k d) x) (number (bytes t))
+    passes (λ (d : Decimal). alike (d .minus) m && (eqb (d .digits) n && (eqb (d .up) up && eqb (d .down) down))) (number Nothing (bytes t))
+holds (wrong n ts) = every (λ (t : String). fails n (number Nothing (bytes t))) ts
+holds (switch t on) = passes (λ (d : Decimal). alike (switchedOn d) on) (number Nothing (bytes t))
+holds (rounds t k low high r) = passes (sameFit r) (fit Nothing k low high t)
+holds (rests t k x) = passes (λ (d : Decimal). sameSide (sideIn k d) x) (number Nothing (bytes t))
 holds (exams h v x on) = alike (accepted (stored (row h) v atReset) x) on
 holds (sets h t answer) = passes (answeredFit (row h) answer) (given (row h) t)
 holds (outside h t) = passes (sameFit Outside) (given (row h) t)
+holds (refuses h n ts) = every (λ (t : String). fails n (given (row h) t)) ts
 holds (limits h low high reset) =
     answered (row h) low (lowest (row h))
     && (answered (row h) high (highest atReset (row h)) && answered (row h) reset (valueAt atReset (row h)))
@@ -353,7 +382,7 @@ all-hold : T (every holds examples)
 unfolding examples passes fails alike sameFit sameSide fit stepsOf shortest rowIn row given answered answeredFit storedAll step stepsFrom holds
     if_then_else_ bytes white digit small letter capital same _>>=_ _>>_ check shortForm inPlaces decimal tenths over
     eventBit messages messageIn errorText queueable known
-    afterSign fractionOf afterFraction exponentOf afterExponent lowering written numeralFrom decimalOf valueOf remains number switchedOn
+    afterSign fractionOf afterFraction exponentOf afterExponent lowering written numeralFrom decimalOf valueOf scaled suffixes noSuffix powerIn remains number switchedOn
     nearest sizeIn rounded fitted sizeSide sideIn
     table settingAt atReset wideRange lowest highest within conflict examined accepted stored answerOf
     rises falls eventsAfter conditionIs eventRead possibleGroup

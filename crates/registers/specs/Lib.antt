@@ -8,6 +8,8 @@ pub mod Answer
 pub mod AnswerParts
 pub mod Errors
 pub mod ErrorParts
+pub mod Suffix
+pub mod SuffixParts
 pub mod Number
 pub mod NumberParts
 pub mod Rounding

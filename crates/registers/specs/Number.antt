@@ -1,17 +1,19 @@
--- Check 6: a number as it is written, its exact decimal value, and the four refusals in their order. And what a number means for
--- a bool ("The sixteen settings").
+-- Check 6: a number as it is written, its exact decimal value, scaled by its suffix, and the refusals in their order.
 use mathlib.Core.Bool.{Bool, not, _&&_, _||_}
 use mathlib.Core.List.{[], _∷_, _++_}
 use Prim.Native.Nat.{ℕ, _+_, _-_, _*_}
 use Prim.Native.Char.{code}
 use lib.Dec.{leb, eqb}
 use lib.ListN.{length}
-use Rattle.registers.specs.Text.{Text, if_then_else_, digit, letter, white, capital, empty, first, rest, start, after}
-use Rattle.registers.specs.Check.{Checked, refused, passed, _>>_, check}
+use Rattle.registers.specs.Text.{Text, if_then_else_, digit, white, capital, empty, first, rest, start, after}
+use Rattle.registers.specs.Check.{Checked, refused, passed, _>>=_, _>>_, check}
 use Rattle.registers.specs.Errors.{numberOf}
+use Rattle.registers.specs.Suffix.{remains}
 use Rattle.registers.specs.declared.number.Decimal.{Decimal}
 use Rattle.registers.specs.declared.number.Reading.{Reading}
 use Rattle.registers.specs.declared.number.Reading.the-variants.{Refused, Number}
+use Rattle.registers.specs.declared.suffix.Power.{Power}
+use Rattle.registers.specs.declared.suffix.Quantity.{Quantity}
 
 -- ---- "optional sign, digits with an optional point, and as an option `E` or `e`, optional sign, at least one digit"
 
@@ -90,6 +92,10 @@ decimalOf minus digits places lowers exponent =
 unfoldable pub valueOf : Written → Decimal
 valueOf w = decimalOf (w .minus) (numeral (w .whole ++ w .fraction)) (length (w .fraction)) (w .lowers) (numeral (w .exponent))
 
+-- "The exact scaled value": times a power of ten
+unfoldable pub scaled : Power → Decimal → Decimal
+scaled p d = record { minus = d .minus; digits = d .digits; up = d .up + p .up; down = d .down + p .down }
+
 -- ---- check 6
 
 -- "-124 for more than 12 mantissa digits after leading zeros"
@@ -100,19 +106,15 @@ mostDigits = 12
 abbrev pub mostExponent : ℕ
 mostExponent = 9
 
--- "if more remains, -138 where it begins with a letter, else -121"
-unfoldable pub remains : Text → Checked (Unit {0})
-remains t = if letter (first t) then refused 138 else check 121 (empty t)
-
--- check 6: the value of a parameter, or the first of its refusals; "also if there is no such start"
-unfoldable pub number : Text → Checked Decimal
-number t =
+-- check 6: the value of a parameter for a row of some quantity, or the first of its refusals; "also if there is no such start"
+unfoldable pub number : Quantity → Text → Checked Decimal
+number q t =
     let w = written t in
     check 121 (not (empty (w .whole ++ w .fraction)))
-    >> remains (after white (w .remainder))
-    >> check 124 (leb (length (after (eqb (code "0")) (w .whole ++ w .fraction))) mostDigits)
+    >> remains q (after white (w .remainder)) >>= λ p.
+    check 124 (leb (length (after (eqb (code "0")) (w .whole ++ w .fraction))) mostDigits)
     >> check 123 (leb (numeral (w .exponent)) mostExponent)
-    >> passed (valueOf w)
+    >> passed (scaled p (valueOf w))
 
 -- ---- what the reader's answer means
 

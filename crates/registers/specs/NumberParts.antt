@@ -6,12 +6,13 @@ use Prim.Native.Nat.{ℕ, _+_, _≤_, min}
 use lib.Dec.{leb, ltb}
 use lib.ListN.{length, drop}
 use Rattle.registers.specs.Text.{Text, digit, start, after}
-use Rattle.registers.specs.Number.{decimalOf, numeralFrom, numeral, fractionOf, afterFraction, exponentOf, afterExponent, lowering}
+use Rattle.registers.specs.Number.{decimalOf, scaled, numeralFrom, numeral, fractionOf, afterFraction, exponentOf, afterExponent, lowering}
 use Rattle.registers.specs.Check.{Checked, passed, _>>_, check}
 use Rattle.registers.specs.declared.number.Decimal.{Decimal}
 use Rattle.registers.specs.declared.number.Digits.{Digits}
 use Rattle.registers.specs.declared.number.Mantissa.{Mantissa}
 use Rattle.registers.specs.declared.number.Exponent.{Exponent}
+use Rattle.registers.specs.declared.suffix.Power.{Power}
 
 -- digits are counted up to this, which has thirteen of them
 abbrev pub held : ℕ
@@ -44,8 +45,8 @@ pub record ExponentRead (t : Text) (at : ℕ) (r : Exponent) : Type 0 where
   pub within : r .end ≤ length t
 
 -- the last of check 6, of what was read
-unfoldable pub valueRead : Bool → Mantissa → Exponent → Checked Decimal
-valueRead minus m x =
+unfoldable pub valueRead : Bool → Mantissa → Exponent → Power → Checked Decimal
+valueRead minus m x p =
     check 124 (ltb (m .value) held)
     >> check 123 (leb (x .size) 9)
-    >> passed (decimalOf minus (m .value) (m .places) (x .lowers) (x .size))
+    >> passed (scaled p (decimalOf minus (m .value) (m .places) (x .lowers) (x .size)))

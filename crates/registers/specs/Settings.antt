@@ -14,6 +14,8 @@ use Rattle.registers.specs.Answer.{decimal, tenths, signedText}
 use Rattle.registers.specs.Words.{Node, must, may, shortForm}
 use Rattle.registers.specs.declared.rounding.Side.{Side}
 use Rattle.registers.specs.declared.rounding.Side.the-variants.{On, Below, Above}
+use Rattle.registers.specs.declared.suffix.Quantity.{Quantity}
+use Rattle.registers.specs.declared.suffix.Quantity.the-variants.{Nothing, Volt, Ampere, Hertz, Second}
 use Rattle.registers.specs.declared.settings.Settings.{Settings}
 use Rattle.registers.specs.declared.settings.Values.{Values}
 use Rattle.registers.specs.declared.settings.Values.the-variants.{Bool as BoolValue, Word, Tenths, Whole}
@@ -28,10 +30,11 @@ pub data Kind : Type 0 where
 pub record Setting : Type 0 where
   pub nodes : List Node
   pub kind : Kind
+  pub quantity : Quantity  -- what its numbers measure (02, #101)
   pub reset : ℤ
 
-abbrev pub row : List Node → Kind → ℤ → Setting
-row nodes kind reset = record { nodes = nodes; kind = kind; reset = reset }
+abbrev pub row : List Node → Kind → Quantity → ℤ → Setting
+row nodes kind quantity reset = record { nodes = nodes; kind = kind; quantity = quantity; reset = reset }
 
 abbrev pub minus : ℕ → ℤ
 minus n = negℤ (pos n)
@@ -43,23 +46,23 @@ underLimit nodes = may "SOURce" ∷ must "CURRent" ∷ must "LIMit" ∷ nodes
 -- "The sixteen settings", in 01's order, and behind them the one that 02 adds
 unfoldable pub table : List Setting
 table =
-    row (must "OUTPut" ∷ may "STATe" ∷ []) bool (pos 0)
-    ∷ row (must "OUTPut" ∷ must "PON" ∷ []) bool (pos 0)
-    ∷ row (must "OUTPut" ∷ must "RELay" ∷ []) bool (pos 1)
-    ∷ row (must "OUTPut" ∷ must "MONitor" ∷ must "MODE" ∷ []) (words ("CURRent" ∷ "SCURrent" ∷ "VOLTage" ∷ [])) (pos 2)
-    ∷ row (may "SOURce" ∷ must "VOLTage" ∷ may "LEVel" ∷ may "IMMediate" ∷ may "AMPLitude" ∷ []) (number 10 (pos 0) (pos 240)) (pos 0)
-    ∷ row (may "SOURce" ∷ must "VOLTage" ∷ must "RANGe" ∷ []) (words ("R12V" ∷ "R24V" ∷ [])) (pos 0)
-    ∷ row (may "SOURce" ∷ must "FREQuency" ∷ []) (number 10 (pos 400) (pos 5500)) (pos 500)
-    ∷ row (underLimit (must "RMS" ∷ may "AMPLitude" ∷ [])) (number 10 (pos 1) (pos 20)) (pos 10)
-    ∷ row (underLimit (must "RMS" ∷ must "MODE" ∷ [])) (words ("CONTinuous" ∷ "OFF" ∷ [])) (pos 1)
-    ∷ row (underLimit (must "PEAK" ∷ must "MODE" ∷ [])) (words ("CONTinuous" ∷ "OFF" ∷ [])) (pos 1)
-    ∷ row (underLimit (must "RMS" ∷ must "TIME" ∷ [])) (number 1 (pos 1) (pos 10)) (pos 1)
-    ∷ row (underLimit (must "PEAK" ∷ must "TIME" ∷ [])) (number 1 (pos 1) (pos 10)) (pos 1)
-    ∷ row (underLimit (must "PEAK" ∷ must "HIGH" ∷ [])) (number 10 (pos 5) (pos 80)) (pos 40)
-    ∷ row (underLimit (must "PEAK" ∷ must "LOW" ∷ [])) (number 10 (minus 80) (minus 5)) (minus 40)
-    ∷ row (must "DISPlay" ∷ must "BRIGhtness" ∷ []) (number 1 (pos 0) (pos 99)) (pos 50)
-    ∷ row (must "SYSTem" ∷ must "KLOCk" ∷ []) bool (pos 0)
-    ∷ row (must "SYSTem" ∷ must "EXAM" ∷ []) bool (pos 0)
+    row (must "OUTPut" ∷ may "STATe" ∷ []) bool Nothing (pos 0)
+    ∷ row (must "OUTPut" ∷ must "PON" ∷ []) bool Nothing (pos 0)
+    ∷ row (must "OUTPut" ∷ must "RELay" ∷ []) bool Nothing (pos 1)
+    ∷ row (must "OUTPut" ∷ must "MONitor" ∷ must "MODE" ∷ []) (words ("CURRent" ∷ "SCURrent" ∷ "VOLTage" ∷ [])) Nothing (pos 2)
+    ∷ row (may "SOURce" ∷ must "VOLTage" ∷ may "LEVel" ∷ may "IMMediate" ∷ may "AMPLitude" ∷ []) (number 10 (pos 0) (pos 240)) Volt (pos 0)
+    ∷ row (may "SOURce" ∷ must "VOLTage" ∷ must "RANGe" ∷ []) (words ("R12V" ∷ "R24V" ∷ [])) Nothing (pos 0)
+    ∷ row (may "SOURce" ∷ must "FREQuency" ∷ []) (number 10 (pos 400) (pos 5500)) Hertz (pos 500)
+    ∷ row (underLimit (must "RMS" ∷ may "AMPLitude" ∷ [])) (number 10 (pos 1) (pos 20)) Ampere (pos 10)
+    ∷ row (underLimit (must "RMS" ∷ must "MODE" ∷ [])) (words ("CONTinuous" ∷ "OFF" ∷ [])) Nothing (pos 1)
+    ∷ row (underLimit (must "PEAK" ∷ must "MODE" ∷ [])) (words ("CONTinuous" ∷ "OFF" ∷ [])) Nothing (pos 1)
+    ∷ row (underLimit (must "RMS" ∷ must "TIME" ∷ [])) (number 1 (pos 1) (pos 10)) Second (pos 1)
+    ∷ row (underLimit (must "PEAK" ∷ must "TIME" ∷ [])) (number 1 (pos 1) (pos 10)) Second (pos 1)
+    ∷ row (underLimit (must "PEAK" ∷ must "HIGH" ∷ [])) (number 10 (pos 5) (pos 80)) Ampere (pos 40)
+    ∷ row (underLimit (must "PEAK" ∷ must "LOW" ∷ [])) (number 10 (minus 80) (minus 5)) Ampere (minus 40)
+    ∷ row (must "DISPlay" ∷ must "BRIGhtness" ∷ []) (number 1 (pos 0) (pos 99)) Nothing (pos 50)
+    ∷ row (must "SYSTem" ∷ must "KLOCk" ∷ []) bool Nothing (pos 0)
+    ∷ row (must "SYSTem" ∷ must "EXAM" ∷ []) bool Nothing (pos 0)
     ∷ []
 
 -- how many there are, and the three that a rule names, by their place in the table
@@ -77,10 +80,13 @@ exam = 16
 
 -- the row at a place; behind the table a bool that has no header
 unfoldable pub settingAt : ℕ → Setting
-settingAt i = getD table i (row [] bool (pos 0))
+settingAt i = getD table i (row [] bool Nothing (pos 0))
 
 abbrev pub kindOf : ℕ → Kind
 kindOf i = settingAt i .kind
+
+abbrev pub quantityOf : ℕ → Quantity
+quantityOf i = settingAt i .quantity
 
 -- ---- the values of all settings
 

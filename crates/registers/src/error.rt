@@ -19,6 +19,7 @@ pub enum Error {
     InvalidCharacterInNumber,
     ExponentTooLarge,
     TooManyDigits,
+    InvalidSuffix,
     SuffixNotAllowed,
     InvalidCharacterData,
     SettingsConflict,
@@ -29,7 +30,7 @@ pub enum Error {
     QueryDeadlocked,
 }
 
-const QUEUEABLE: [u16; 18] = [
+const QUEUEABLE: [u16; 19] = [
     101,
     102,
     104,
@@ -39,6 +40,7 @@ const QUEUEABLE: [u16; 18] = [
     121,
     123,
     124,
+    131,
     138,
     141,
     221,
@@ -65,6 +67,7 @@ impl Error {
             Error::InvalidCharacterInNumber => 121,
             Error::ExponentTooLarge => 123,
             Error::TooManyDigits => 124,
+            Error::InvalidSuffix => 131,
             Error::SuffixNotAllowed => 138,
             Error::InvalidCharacterData => 141,
             Error::SettingsConflict => 221,
@@ -110,7 +113,7 @@ pub fn is_known(number: u16) -> bool
 // ---- the texts, in a table of 33 bytes a row: the number's two bytes, a length, and what stands
 // behind the number in an answer. The last row is for each number that has no text.
 
-const ROWS: usize = 19;
+const ROWS: usize = 20;
 
 // The first row with a number, or the last where none has it.
 fn row_of(table: &[u8], number: u16) -> usize
@@ -154,6 +157,7 @@ pub fn write_error(number: u16, tail: &mut [u8]) -> usize
         \x00\x79\x1e,\"Invalid character in number\"\
         \x00\x7b\x15,\"Exponent too large\"\0\0\0\0\0\0\0\0\0\
         \x00\x7c\x12,\"Too many digits\"\0\0\0\0\0\0\0\0\0\0\0\0\
+        \x00\x83\x11,\"Invalid suffix\"\0\0\0\0\0\0\0\0\0\0\0\0\0\
         \x00\x8a\x15,\"Suffix not allowed\"\0\0\0\0\0\0\0\0\0\
         \x00\x8d\x19,\"Invalid character data\"\0\0\0\0\0\
         \x00\xdd\x14,\"Settings conflict\"\0\0\0\0\0\0\0\0\0\0\

@@ -10,4 +10,5 @@ pub mod number;
 pub mod rounding;
 pub mod settings;
 pub mod status;
+pub mod suffix;
 pub mod text;

@@ -1,6 +1,10 @@
-// Check 6: the number that a parameter starts with, exactly.
+// Check 6: the number that a parameter starts with, exactly, scaled by the suffix behind it.
 use crate::error::Error;
 use crate::rounding;
+use crate::suffix;
+use crate::suffix::Power;
+use crate::suffix::Quantity;
+use crate::suffix::Scale;
 use crate::text;
 ghost use mathlib.Core.Path.{_≡_};
 ghost use Prim.Native.Nat.{_-_, _^_, _≤_, _<_};
@@ -132,10 +136,11 @@ fn above(a: u64, b: u64) -> u64
     if b < a { a - b } else { 0 }
 }
 
-// The last of check 6: not too many digits, no exponent too large, and the exact value.
-fn valued(minus: bool, mantissa: Mantissa, exponent: Exponent) -> Reading
+// The last of check 6: not too many digits, no exponent too large, and the exact value, scaled by the
+// suffix.
+fn valued(minus: bool, mantissa: Mantissa, exponent: Exponent, power: Power) -> Reading
     requires { ⌜ mantissa .places < 2 ^ 63 ⌝ }
-    ensures { λ r. ⌜ meant r ≡ valueRead minus mantissa exponent ⌝ }
+    ensures { λ r. ⌜ meant r ≡ valueRead minus mantissa exponent power ⌝ }
 {
     let digits = mantissa.value;
     if HELD <= digits {
@@ -146,25 +151,27 @@ fn valued(minus: bool, mantissa: Mantissa, exponent: Exponent) -> Reading
         return Reading::Refused(Error::ExponentTooLarge);
     }
     let places = mantissa.places as u64;
+    let up = power.up as u32;
+    let down = power.down as u64;
     if exponent.lowers {
         return Reading::Number(Decimal {
             minus,
             digits,
-            up: 0,
-            down: places + size,
+            up,
+            down: places + size + down,
         });
     }
     Reading::Number(Decimal {
         minus,
         digits,
-        up: above(size, places) as u32,
-        down: above(places, size),
+        up: above(size, places) as u32 + up,
+        down: above(places, size) + down,
     })
 }
 
-// Reads a parameter that starts with a digit, a sign or a point.
-pub fn read(text: &[u8]) -> Reading
-    ensures { λ r. ⌜ meant r ≡ number (now (text .entry)) ⌝ }
+// Reads a parameter that starts with a digit, a sign or a point, for a row of some quantity.
+pub fn read(text: &[u8], quantity: Quantity) -> Reading
+    ensures { λ r. ⌜ meant r ≡ number quantity (now (text .entry)) ⌝ }
 {
     let sign = text::byte_at(text, 0);
     let mantissa = read_mantissa(text, ((sign == 43) | (sign == 45)) as usize);
@@ -172,12 +179,9 @@ pub fn read(text: &[u8]) -> Reading
         return Reading::Refused(Error::InvalidCharacterInNumber);
     }
     let exponent = read_exponent(text, mantissa.end);
-    let w = text::white_end(text, exponent.end);
-    if text::is_letter(text::byte_at(text, w)) {
-        return Reading::Refused(Error::SuffixNotAllowed);
+    let scale = suffix::read(text, text::white_end(text, exponent.end), quantity);
+    match scale {
+        Scale::Refused(e) => return Reading::Refused(e),
+        Scale::By(power) => return valued(sign == 45, mantissa, exponent, power),
     }
-    if w < text.len() {
-        return Reading::Refused(Error::InvalidCharacterInNumber);
-    }
-    valued(sign == 45, mantissa, exponent)
 }

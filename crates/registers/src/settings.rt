@@ -1,8 +1,9 @@
 // The seventeen settings, by their row in 01's table and SYSTem:EXAM behind it: bools 0 and 1, words by their place,
 // numbers in steps, the negative peak limit as signed tenths.
 use crate::rounding::Side;
+use crate::suffix::Quantity;
 ghost use mathlib.Core.Path.{_≡_};
-ghost use Rattle.registers.specs.Settings.{valueAt, atReset, lowest, highest, within, conflict, possibleSettings, stored, kindOf, valuesIn, accepted};
+ghost use Rattle.registers.specs.Settings.{valueAt, atReset, lowest, highest, within, conflict, possibleSettings, stored, kindOf, quantityOf, valuesIn, accepted};
 
 // How many there are.
 const ROWS: usize = 17;
@@ -21,6 +22,9 @@ pub enum Values {
 
 // Each row's kind of values: 0 for a bool, 1 for words, 2 for step 0.1, 3 for step 1.
 const KINDS: [u8; ROWS] = [0, 0, 0, 1, 2, 1, 2, 2, 1, 1, 3, 3, 2, 2, 3, 0, 0];
+
+// What each row's numbers measure: 0 for nothing, 1 for volts, 2 for amperes, 3 for hertz, 4 for seconds.
+const QUANTITIES: [u8; ROWS] = [0, 0, 0, 0, 1, 0, 3, 2, 0, 0, 4, 4, 2, 2, 0, 0, 0];
 
 impl Settings {
     pub const COUNT: usize = ROWS;
@@ -60,6 +64,24 @@ impl Settings {
             1 => Values::Word,
             2 => Values::Tenths,
             _ => Values::Whole,
+        }
+    }
+
+    // What a row's numbers measure; a row behind the table measures nothing.
+    pub fn quantity_of(row: usize) -> Quantity
+        ensures { λ r. ⌜ r ≡ quantityOf row ⌝ }
+    {
+        if Settings::COUNT <= row {
+            return Quantity::Nothing;
+        }
+        let quantities = QUANTITIES;
+        let quantity = quantities[row];
+        match quantity {
+            0 => Quantity::Nothing,
+            1 => Quantity::Volt,
+            2 => Quantity::Ampere,
+            3 => Quantity::Hertz,
+            _ => Quantity::Second,
         }
     }
 

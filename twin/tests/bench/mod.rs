@@ -8,6 +8,7 @@ pub const VOLTAGE: usize = 4;
 pub const RANGE: usize = 5;
 pub const FREQUENCY: usize = 6;
 pub const RMS: usize = 7;
+pub const RMS_TIME: usize = 10;
 pub const HIGH: usize = 12;
 pub const LOW: usize = 13;
 pub const BRIGHTNESS: usize = 14;

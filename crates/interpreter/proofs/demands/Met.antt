@@ -10,7 +10,8 @@ use lib.ListN.{length, getD, replicate}
 use Rattle.registers.specs.Text.{Text, if_then_else_, bytes, same, white, printable, digit, letter, wordByte, small, capital, every}
 use Rattle.registers.specs.Check.{Checked, passed, _>>=_, _>>_, check}
 use Rattle.registers.specs.Words.{shortForm, longForm, matches}
-use Rattle.registers.specs.Number.{afterSign, fractionOf, afterFraction, exponentOf, afterExponent, lowering, written, numeralFrom, decimalOf, valueOf, remains, number}
+use Rattle.registers.specs.Number.{afterSign, fractionOf, afterFraction, exponentOf, afterExponent, lowering, written, numeralFrom, decimalOf, valueOf, scaled, number}
+use Rattle.registers.specs.Suffix.{suffixes, noSuffix, powerIn, remains}
 use Rattle.registers.specs.Rounding.{switchedOn, nearest, sizeIn, rounded, sizeSide, sideIn}
 use Rattle.registers.specs.Answer.{inPlaces, decimal, tenths}
 use Rattle.registers.specs.Errors.{eventBit}
@@ -176,7 +177,7 @@ record Computed : Type 0 where
 
 computed : Computed
 unfolding if_then_else_ bytes same white printable digit letter wordByte small capital _>>=_ _>>_ check shortForm longForm matches
-    afterSign fractionOf afterFraction exponentOf afterExponent lowering written numeralFrom decimalOf valueOf remains number switchedOn
+    afterSign fractionOf afterFraction exponentOf afterExponent lowering written numeralFrom decimalOf valueOf scaled suffixes noSuffix powerIn remains number switchedOn
     nearest sizeIn rounded sizeSide sideIn inPlaces decimal tenths eventBit
     table settingAt atReset wideRange lowest highest within conflict examined accepted answerOf raised atStart
     cutAt trimEnd trim name placed header spells settingRows otherRows rows fitsRow findRow

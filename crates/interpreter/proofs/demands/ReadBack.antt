@@ -13,14 +13,16 @@ use borrow.Author.Tests.{ltb-true, leb-true, le-leb, eqb-true, ne-eqb}
 use Rattle.registers.specs.Text.{Text, if_then_else_, bytes, same, white, printable, digit, letter, wordByte, small, capital, every, empty, below}
 use Rattle.registers.specs.Check.{Checked, refused, passed, check, _>>=_, _>>_}
 use Rattle.registers.specs.Words.{shortForm, longForm, matches}
-use Rattle.registers.specs.Number.{afterSign, fractionOf, afterFraction, exponentOf, afterExponent, lowering, written, numeralFrom, decimalOf, valueOf, remains, number as readNumber}
+use Rattle.registers.specs.Number.{afterSign, fractionOf, afterFraction, exponentOf, afterExponent, lowering, written, numeralFrom, decimalOf, valueOf, scaled, number as readNumber}
+use Rattle.registers.specs.Suffix.{suffixes, noSuffix, powerIn, remains}
 use Rattle.registers.specs.NumberParts.{held}
 use Rattle.registers.specs.Rounding.{switchedOn, nearest, sizeIn, rounded, sizeSide, sideIn}
 use Rattle.registers.specs.Answer.{inPlaces, decimal, tenths, signedText}
-use Rattle.registers.specs.Settings.{count, Kind, bool, words, number, table, settingAt, kindOf, lowestOf, highestOf, voltage, twelveVolts, wideRange, lowest, highest, within, conflict, answerOf, onStep, accepted}
+use Rattle.registers.specs.Settings.{count, Kind, bool, words, number, table, settingAt, kindOf, quantityOf, lowestOf, highestOf, voltage, twelveVolts, wideRange, lowest, highest, within, conflict, answerOf, onStep, accepted}
 use Rattle.registers.specs.declared.rounding.Side.{Side}
 use Rattle.registers.specs.declared.rounding.Side.the-variants.{On, Below, Above}
 use Rattle.registers.specs.declared.settings.Settings.{Settings}
+use Rattle.registers.specs.declared.suffix.Quantity.{Quantity}
 use Rattle.registers.proofs.Tests.{holds, and-both, below-at}
 use Rattle.registers.proofs.text.Laws.{digit-bounds}
 use Rattle.registers.proofs.answer.Decimals.{tenths-length, signed-length}
@@ -56,8 +58,8 @@ plainByte b = printable b && (not (eqb b (code ",")) && not (eqb b (code ";")))
 unfoldable pub plainText : Text → Bool
 plainText t = not (empty t) && (every plainByte t && leb (length t) 30)
 
-unfoldable readsBack : Kind → ℤ → Bool
-readsBack k v = readTo k v (parameter (wordsOf k) (takesNumbers k) (answerOf k v)) && plainText (answerOf k v)
+unfoldable readsBack : Quantity → Kind → ℤ → Bool
+readsBack q k v = readTo k v (parameter (wordsOf k) (takesNumbers k) q (answerOf k v)) && plainText (answerOf k v)
 
 unfoldable inTable : Kind → ℤ → Bool
 inTable k v = leZ (lowestOf k) v && leZ v (highestOf k)
@@ -67,19 +69,19 @@ abbrev sizeOf : Kind → ℕ
 sizeOf k = natAbs (lowestOf k) + natAbs (highestOf k)
 
 -- with no value below zero, these are all the values and maybe some more
-unfoldable tested : Kind → Bool
-tested k = nonNeg (lowestOf k) && below (suc (sizeOf k)) (λ n. readsBack k (pos n))
+unfoldable tested : Quantity → Kind → Bool
+tested q k = nonNeg (lowestOf k) && below (suc (sizeOf k)) (λ n. readsBack q k (pos n))
 
 -- tenths have a law of theirs, which asks for their size alone
-unfoldable covered : Kind → Bool
-covered bool = tested bool
-covered (words ws) = tested (words ws)
-covered (number k low high) = if eqb k 10 then ltb (sizeOf (number k low high)) held else tested (number k low high)
+unfoldable covered : Quantity → Kind → Bool
+covered q bool = tested q bool
+covered q (words ws) = tested q (words ws)
+covered q (number k low high) = if eqb k 10 then ltb (sizeOf (number k low high)) held else tested q (number k low high)
 
-all-covered : below count (λ i. covered (kindOf i)) ≡ true
+all-covered : below count (λ i. covered (quantityOf i) (kindOf i)) ≡ true
 unfolding covered tested readsBack plainText readTo gives sameZ if_then_else_ bytes same printable white digit letter wordByte small capital
     _>>=_ _>>_ check shortForm longForm matches afterSign fractionOf afterFraction exponentOf afterExponent lowering written numeralFrom decimalOf
-    valueOf remains readNumber switchedOn nearest sizeIn rounded sizeSide sideIn inPlaces decimal table settingAt answerOf findWord parameter
+    valueOf scaled suffixes noSuffix powerIn remains readNumber switchedOn nearest sizeIn rounded sizeSide sideIn inPlaces decimal table settingAt answerOf findWord parameter
 all-covered = refl
 
 -- ---- the test and the law together
@@ -142,7 +144,7 @@ digit-plain b d =
     let h = digit-bounds b (holds d) in
     rw (le-leb 33 b (omega arith), le-leb b 126 (omega arith), ne-eqb b 44 (λ e. omega arith), ne-eqb b 59 (λ e. omega arith))
 
-module _ (k : Kind) (v : ℤ) (t : inTable k v ≡ true) where
+module _ (q : Quantity) (k : Kind) (v : ℤ) (t : inTable k v ≡ true) where
   limits : (leZ (lowestOf k) v ≡ true) × (leZ v (highestOf k) ≡ true)
   unfolding inTable
   limits = and-both (leZ (lowestOf k) v) (leZ v (highestOf k)) t
@@ -150,13 +152,13 @@ module _ (k : Kind) (v : ℤ) (t : inTable k v ≡ true) where
   size-is : natAbs v ≤ sizeOf k
   size-is = in-size (lowestOf k) (highestOf k) v (limits .0) (limits .1)
 
-  by-test : tested k ≡ true → readsBack k v ≡ true
+  by-test : tested q k ≡ true → readsBack q k v ≡ true
   unfolding tested
   by-test c =
       let p = and-both (nonNeg (lowestOf k)) _ c in
       let e = pos-natAbs v (holds (from-zero (lowestOf k) v (p .0) (limits .0))) in
       let l = size-is in
-      rw e at (below-at (suc (sizeOf k)) (λ n. readsBack k (pos n)) (p .1) (natAbs v) (omega arith))
+      rw e at (below-at (suc (sizeOf k)) (λ n. readsBack q k (pos n)) (p .1) (natAbs v) (omega arith))
 
 module _ (v : ℤ) (h : natAbs v < held) where
   tenths-plain : plainText (signedText tenths v) ≡ true
@@ -165,19 +167,19 @@ module _ (v : ℤ) (h : natAbs v < held) where
       let l = signed-length tenths 22 tenths-length v in
       rw (tenths-some v, tenths-bytes plainByte refl refl digit-plain v h, le-leb (length (signedText tenths v)) 30 (omega arith))
 
-  by-law : (low high : ℤ) → readsBack (number 10 low high) v ≡ true
+  by-law : (q : Quantity) (low high : ℤ) → readsBack q (number 10 low high) v ≡ true
   unfolding readsBack readTo gives answerOf if_then_else_
-  by-law low high = rw (tenths-read limitWords v h, tenths-on v, tenths-rounded v, sameZ-same v) tenths-plain
+  by-law q low high = rw (tenths-read limitWords q v h, tenths-on v, tenths-rounded v, sameZ-same v) tenths-plain
 
-reads-back : (k : Kind) → covered k ≡ true → (v : ℤ) → inTable k v ≡ true → readsBack k v ≡ true
+reads-back : (q : Quantity) (k : Kind) → covered q k ≡ true → (v : ℤ) → inTable k v ≡ true → readsBack q k v ≡ true
 unfolding covered
-reads-back bool c v t = by-test bool v t c
-reads-back (words ws) c v t = by-test (words ws) v t c
-reads-back (number k low high) c v t =
+reads-back q bool c v t = by-test q bool v t c
+reads-back q (words ws) c v t = by-test q (words ws) v t c
+reads-back q (number k low high) c v t =
     let row = number k low high in
-    if-elim (λ (b : Bool). b ≡ true → readsBack row v ≡ true) (eqb k 10)
-    (λ q c. let l = size-is row v t in let h = ltb-true (sizeOf row) held c in rw (eqb-true k 10 q) (by-law v (omega arith) low high))
-    (λ _ c. by-test row v t c) c
+    if-elim (λ (b : Bool). b ≡ true → readsBack q row v ≡ true) (eqb k 10)
+    (λ e c. let l = size-is q row v t in let h = ltb-true (sizeOf row) held c in rw (eqb-true k 10 e) (by-law v (omega arith) q low high))
+    (λ _ c. by-test q row v t c) c
 
 read-deed : (s : Settings) (i : ℕ) (v : ℤ) (m : Checked Given) → readTo (kindOf i) v m ≡ true → within s i v ≡ true → conflict s i v ≡ false
     → (m >>= λ g.
@@ -207,16 +209,16 @@ under-table s i v w =
 
 -- a setting's answer, sent as its parameter, sets the value that was answered
 module _ (s : Settings) (i : ℕ) (h : i < count) (v : ℤ) (w : within s i v ≡ true) where
-  both : (readTo (kindOf i) v (parameter (wordsOf (kindOf i)) (takesNumbers (kindOf i)) (answerOf (kindOf i) v)) ≡ true)
+  both : (readTo (kindOf i) v (parameter (wordsOf (kindOf i)) (takesNumbers (kindOf i)) (quantityOf i) (answerOf (kindOf i) v)) ≡ true)
       × (plainText (answerOf (kindOf i) v) ≡ true)
   unfolding readsBack
   both =
-      let c = below-at count (λ i. covered (kindOf i)) all-covered i h in
-      and-both _ (plainText (answerOf (kindOf i) v)) (reads-back (kindOf i) c v (under-table s i v w))
+      let c = below-at count (λ i. covered (quantityOf i) (kindOf i)) all-covered i h in
+      and-both _ (plainText (answerOf (kindOf i) v)) (reads-back (quantityOf i) (kindOf i) c v (under-table s i v w))
 
   pub answer-sets : conflict s i v ≡ false → settingDeed s i (answerOf (kindOf i) v) ≡ passed (Change (Put i v On))
   unfolding settingDeed
-  answer-sets c = read-deed s i v (parameter (wordsOf (kindOf i)) (takesNumbers (kindOf i)) (answerOf (kindOf i) v)) (both .0) w c
+  answer-sets c = read-deed s i v (parameter (wordsOf (kindOf i)) (takesNumbers (kindOf i)) (quantityOf i) (answerOf (kindOf i) v)) (both .0) w c
 
   pub answer-plain : plainText (answerOf (kindOf i) v) ≡ true
   answer-plain = both .1

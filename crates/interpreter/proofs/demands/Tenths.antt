@@ -13,12 +13,14 @@ use lib.Signed.{nonNeg}
 use borrow.Author.Tests.{ltb-true, lt-ltb, le-leb, lt-leb, ne-eqb}
 use Rattle.registers.specs.Text.{Text, if_then_else_, digit, small, letter, capital, every, empty, first, start, after}
 use Rattle.registers.specs.Check.{passed, check, _>>=_, _>>_}
-use Rattle.registers.specs.Number.{sign, point, afterSign, fractionOf, afterFraction, exponentOf, afterExponent, lowering, written, numeralFrom, numeral, decimalOf, valueOf, remains, number}
+use Rattle.registers.specs.Number.{sign, point, afterSign, fractionOf, afterFraction, exponentOf, afterExponent, lowering, written, numeralFrom, numeral, decimalOf, valueOf, scaled, number}
+use Rattle.registers.specs.Suffix.{remains}
 use Rattle.registers.specs.NumberParts.{held}
 use Rattle.registers.specs.Rounding.{nearest, sizeIn, rounded, sideIn}
 use Rattle.registers.specs.Answer.{inPlaces, decimal, tenths, signedText}
 use Rattle.registers.specs.declared.number.Decimal.{Decimal}
 use Rattle.registers.specs.declared.rounding.Side.the-variants.{On}
+use Rattle.registers.specs.declared.suffix.Quantity.{Quantity}
 use Rattle.registers.proofs.Tests.{holds, and-both, and-true, every-append}
 use Rattle.registers.proofs.text.Laws.{digit-bounds}
 use Rattle.registers.proofs.number.Numerals.{numeral-append, few-digits}
@@ -78,11 +80,11 @@ to-point (d ∷ ds) r h =
     (rw (p .0, ih .0), rw (p .0, ih .1))
 
 -- check 6
-number-tenths : (t : Text) (n : ℕ) → n < held → afterSign t ≡ tenths n
-    → number t ≡ passed (record { minus = eqb (first t) 45; digits = n; up = 0; down = 1 })
-unfolding number written valueOf decimalOf remains fractionOf afterFraction exponentOf afterExponent lowering numeralFrom
-    check _>>_ if_then_else_ letter small capital
-number-tenths t n h e =
+number-tenths : (q : Quantity) (t : Text) (n : ℕ) → n < held → afterSign t ≡ tenths n
+    → number q t ≡ passed (record { minus = eqb (first t) 45; digits = n; up = 0; down = 1 })
+unfolding number written valueOf decimalOf scaled remains fractionOf afterFraction exponentOf afterExponent lowering numeralFrom
+    check _>>=_ _>>_ if_then_else_ letter small capital
+number-tenths q t n h e =
     let w = whole n h in
     let ds = decimal (n / 10) in
     let d = 48 + n % 10 in
@@ -117,13 +119,13 @@ abbrev pub asTenths : ℤ → Decimal
 asTenths v = record { minus = not (nonNeg v); digits = natAbs v; up = 0; down = 1 }
 
 -- checks 5 and 6
-pub tenths-read : (ws : List String) (v : ℤ) → natAbs v < held → parameter ws true (signedText tenths v) ≡ passed (Figure (asTenths v))
+pub tenths-read : (ws : List String) (q : Quantity) (v : ℤ) → natAbs v < held → parameter ws true q (signedText tenths v) ≡ passed (Figure (asTenths v))
 unfolding parameter afterSign digit letter small if_then_else_ check _>>_ _>>=_
-tenths-read ws (pos n) h =
+tenths-read ws q (pos n) h =
     let s : Starts (first (tenths n)) = rw (tenths-is n) (starts (decimal (n / 10)) _ (whole n h .all)) in
     let e : afterSign (tenths n) ≡ tenths n = rw (s .noPlus, s .noMinus) in
-    rw (s .noLetter, s .aNumber, number-tenths (tenths n) n h e, s .noMinus)
-tenths-read ws (negsuc n) h = rw (number-tenths (45 ∷ tenths (suc n)) (suc n) h refl)
+    rw (s .noLetter, s .aNumber, number-tenths q (tenths n) n h e, s .noMinus)
+tenths-read ws q (negsuc n) h = rw (number-tenths q (45 ∷ tenths (suc n)) (suc n) h refl)
 
 -- check 7
 in-steps : (n : ℕ) → nearest (n * 1 * 10) 10 ≡ n

@@ -15,7 +15,7 @@ use Rattle.registers.specs.Text.{Text, if_then_else_}
 use Rattle.registers.specs.Check.{Checked, refused, passed, _>>=_, _>>_, check}
 use Rattle.registers.specs.Errors.{numberOf}
 use Rattle.registers.specs.Rounding.{rounded, fitted, sideIn, roundedIn}
-use Rattle.registers.specs.Settings.{count, Kind, bool, words, number, kindOf, lowest, highest, within, conflict, accepted}
+use Rattle.registers.specs.Settings.{count, Kind, bool, words, number, kindOf, quantityOf, lowest, highest, within, conflict, accepted}
 use Rattle.registers.specs.Status.{widest}
 use Rattle.registers.specs.declared.error.Error.{Error}
 use Rattle.registers.specs.declared.number.Decimal.{Decimal}
@@ -24,6 +24,7 @@ use Rattle.registers.specs.declared.rounding.Fit.the-variants.{Within, Outside}
 use Rattle.registers.specs.declared.rounding.Rounded.{Rounded}
 use Rattle.registers.specs.declared.rounding.Side.{Side}
 use Rattle.registers.specs.declared.settings.Settings.{Settings}
+use Rattle.registers.specs.declared.suffix.Quantity.the-variants.{Nothing}
 use Rattle.registers.specs.declared.status.Register.{Register}
 use Rattle.registers.specs.declared.status.Register.the-variants.{Ese, Sre, Enable, Ntr, Ptr}
 use Rattle.registers.proofs.rounding.Laws.{rounded-once}
@@ -127,11 +128,11 @@ value-asked s i false h = absurd (omega arith)
 -- with one, where one may be: what a parameter gives is asked for, or is set
 pub setting-is : (s : Settings) (i : ℕ) → i < count → (asked : Bool) (t : Text) → 1 ≤ greatest (Setting i) asked
     → deedOf s (Setting i) asked (t ∷ [])
-    ≡ (parameter (wordsOf (kindOf i)) (takesNumbers (kindOf i) && not asked) t >>= λ g.
+    ≡ (parameter (wordsOf (kindOf i)) (takesNumbers (kindOf i) && not asked) (quantityOf i) t >>= λ g.
     putFit s i asked (fitIn s i (valueGiven s i (kindOf i) g)) (sideGiven (kindOf i) g))
 unfolding deedOf greatest if_then_else_ settingDeed limitDeed valueGiven putFit _>>=_
 setting-is s i h false t one =
-    rw (and-right (takesNumbers (kindOf i))) (go (parameter (wordsOf (kindOf i)) (takesNumbers (kindOf i)) t))
+    rw (and-right (takesNumbers (kindOf i))) (go (parameter (wordsOf (kindOf i)) (takesNumbers (kindOf i)) (quantityOf i) t))
   where
     and-right : (b : Bool) → (b && true) ≡ b
     and-right true = refl
@@ -147,27 +148,27 @@ setting-is s i h false t one =
     go (passed g) = fit-put s i (valueGiven s i (kindOf i) g) (sideGiven (kindOf i) g)
 setting-is s i h true t one = kinded (kindOf i) one
   where
-    found : (m : Checked Given) → parameter limitWords false t ≡ m → (k : ℕ) (low high : ℤ)
+    found : (m : Checked Given) → parameter limitWords false (quantityOf i) t ≡ m → (k : ℕ) (low high : ℤ)
         → (m >>= λ g. passed (Query (Limit i (limitGiven s i g))))
         ≡ (m >>= λ g. putFit s i true (fitIn s i (valueGiven s i (number k low high) g)) (sideGiven (number k low high) g))
     found (refused n) e k low high = refl
     found (passed (Word n)) e k low high = rw (← fit-within s i (limitAt s i n) (limit-within s i h n))
-    found (passed (Figure d)) e k low high = absurd (asked-word limitWords t d e)
+    found (passed (Figure d)) e k low high = absurd (asked-word limitWords (quantityOf i) t d e)
 
     kinded : (k : Kind) → 1 ≤ asksLimits k
-        → limitDeed s i t ≡ (parameter (wordsOf k) (takesNumbers k && false) t >>= λ g. putFit s i true (fitIn s i (valueGiven s i k g)) (sideGiven k g))
+        → limitDeed s i t ≡ (parameter (wordsOf k) (takesNumbers k && false) (quantityOf i) t >>= λ g. putFit s i true (fitIn s i (valueGiven s i k g)) (sideGiven k g))
     kinded bool h = absurd (omega arith)
     kinded (words ws) h = absurd (omega arith)
-    kinded (number k low high) h = found (parameter limitWords false t) refl k low high
+    kinded (number k low high) h = found (parameter limitWords false (quantityOf i) t) refl k low high
 
 -- ---- checks 5 to 7 on a register
 
 module _ (x : Register) (t : Text) where
-  pub register-refused : {n : ℕ} → parameter [] true t ≡ refused n → refused n ≡ registerTo x false t
+  pub register-refused : {n : ℕ} → parameter [] true Nothing t ≡ refused n → refused n ≡ registerTo x false t
   unfolding registerTo registerDeed _>>=_
   register-refused e = rw e
 
-  pub register-figure : {d : Decimal} → parameter [] true t ≡ passed (Figure d) → storeTo x (rounded 1 d) (sideIn 1 d) ≡ registerTo x false t
+  pub register-figure : {d : Decimal} → parameter [] true Nothing t ≡ passed (Figure d) → storeTo x (rounded 1 d) (sideIn 1 d) ≡ registerTo x false t
   unfolding registerTo registerDeed storeTo _>>=_
   register-figure e = rw e
 

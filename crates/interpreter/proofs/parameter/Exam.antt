@@ -5,7 +5,7 @@ use Prim.Native.Nat.{ℕ}
 use lib.IntN.{ℤ}
 use Rattle.registers.specs.Text.{Text}
 use Rattle.registers.specs.Check.{Checked, refused, passed, _>>=_, _>>_, check}
-use Rattle.registers.specs.Settings.{Kind, bool, words, number, kindOf, within, conflict, examined, accepted}
+use Rattle.registers.specs.Settings.{Kind, bool, words, number, kindOf, quantityOf, within, conflict, examined, accepted}
 use Rattle.registers.specs.declared.rounding.Side.{Side}
 use Rattle.registers.specs.declared.rounding.Side.the-variants.{On, Below, Above}
 use Rattle.registers.specs.declared.settings.Settings.{Settings}
@@ -18,7 +18,7 @@ use Rattle.interpreter.specs.declared.deed.Change.the-variants.{Put}
 -- checks 5 to 8 on a setting as they were before
 unfoldable pub roundedDeed : Settings → ℕ → Text → Checked Deed
 roundedDeed s i t =
-    parameter (wordsOf (kindOf i)) (takesNumbers (kindOf i)) t >>= λ g.
+    parameter (wordsOf (kindOf i)) (takesNumbers (kindOf i)) (quantityOf i) t >>= λ g.
     let v = valueGiven s i (kindOf i) g in
     check 222 (within s i v) >> check 221 (not (conflict s i v)) >> passed (Change (Put i v (sideGiven (kindOf i) g)))
 
@@ -87,7 +87,7 @@ no-step s (number k low high) g e = absurd (false≢true (sym e))
 pub exam-mode : (s : Settings) (i : ℕ) (t : Text) → ExamMode s i t
 unfolding settingDeed roundedDeed
 exam-mode s i t =
-    let m = parameter (wordsOf (kindOf i)) (takesNumbers (kindOf i)) t in
+    let m = parameter (wordsOf (kindOf i)) (takesNumbers (kindOf i)) (quantityOf i) t in
     record {
       strict = λ e v x q. accepted-on s x e (set-accepted s i m v x q);
       lenient = λ e. each s i m (λ g. accepted-same s i g (accepted-off s (sideGiven (kindOf i) g) e));

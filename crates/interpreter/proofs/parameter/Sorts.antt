@@ -13,7 +13,7 @@ use denote.Enum.Declared.{tagOf}
 use borrow.Author.Tests.{leb-true, ltb-true, ltb-false}
 use Rattle.registers.specs.Text.{if_then_else_}
 use Rattle.registers.specs.Rounding.{switchedOn, rounded, sideIn}
-use Rattle.registers.specs.Settings.{count, Kind, bool, words, number, table, settingAt, kindOf, valuesIn, highest}
+use Rattle.registers.specs.Settings.{count, Kind, bool, words, number, table, settingAt, kindOf, quantityOf, valuesIn, highest}
 use Rattle.registers.specs.declared.number.Decimal.{Decimal}
 use Rattle.registers.specs.declared.rounding.Side.{Side}
 use Rattle.registers.specs.declared.rounding.Side.the-variants.{On}
@@ -145,13 +145,14 @@ abbrev wordCounts : List ℕ
 wordCounts = 2 ∷ 2 ∷ 2 ∷ 3 ∷ 2 ∷ 2 ∷ 2 ∷ 2 ∷ 2 ∷ 2 ∷ 2 ∷ 2 ∷ 2 ∷ 2 ∷ 2 ∷ 2 ∷ 2 ∷ []
 
 pub setting-takes : (i : ℕ) → i < count
-    → TakesOf (wordsOf (kindOf i)) (takesNumbers (kindOf i))
-    (record { first = headerWords + getD firstWords i 0; count = getD wordCounts i 0; numbers = leb 6 (getD firstWords i 0) })
+    → TakesOf (wordsOf (kindOf i)) (takesNumbers (kindOf i)) (quantityOf i)
+    (record { first = headerWords + getD firstWords i 0; count = getD wordCounts i 0; numbers = leb 6 (getD firstWords i 0); quantity = quantityOf i })
 unfolding listed wordList settingAt table
 setting-takes i h =
     record {
       words = agree count (λ k. take (getD wordCounts k 0) (drop (headerWords + getD firstWords k 0) wordList)) (λ k. wordsOf (kindOf k)) refl i h;
       numbers = agree count (λ k. leb 6 (getD firstWords k 0)) (λ k. takesNumbers (kindOf k)) refl i h;
+      quantity = refl;
       room = leb-true (headerWords + getD firstWords i 0 + getD wordCounts i 0) wordCount
           (below-at count (λ k. leb (headerWords + getD firstWords k 0 + getD wordCounts k 0) wordCount) refl i h);
     }

@@ -17,6 +17,7 @@ use Rattle.registers.specs.Number.{number, sign, point}
 use Rattle.registers.specs.declared.number.Decimal.{Decimal}
 use Rattle.registers.proofs.Tests.{and-both, and-true}
 use Rattle.interpreter.specs.RowsParts.{wordCount, wordList, wordAt}
+use Rattle.registers.specs.declared.suffix.Quantity.{Quantity}
 use Rattle.interpreter.specs.Parameter.{Given, Word, Figure, findWord, parameter}
 use Rattle.interpreter.specs.ParameterParts.{aWord, aFigure}
 use Rattle.interpreter.proofs.Lists.{every-at}
@@ -108,24 +109,24 @@ module _ {at count : ℕ} {t : Text} {n : ℕ} (w : Searching at count t n) wher
 
 -- ---- check 5 by the first byte
 
-module _ (ws : List String) (numbers : Bool) (t : Text) where
+module _ (ws : List String) (numbers : Bool) (q : Quantity) (t : Text) where
   abbrev starts : Bool
   starts = digit (first t) || sign (first t) || point (first t)
 
-  pub starts-word : letter (first t) ≡ true → aWord ws t ≡ parameter ws numbers t
+  pub starts-word : letter (first t) ≡ true → aWord ws t ≡ parameter ws numbers q t
   unfolding parameter aWord if_then_else_
   starts-word l = rw l
 
-  pub starts-figure : letter (first t) ≡ false → (numbers && starts) ≡ true → aFigure t ≡ parameter ws numbers t
+  pub starts-figure : letter (first t) ≡ false → (numbers && starts) ≡ true → aFigure q t ≡ parameter ws numbers q t
   unfolding parameter aFigure check _>>_ if_then_else_
   starts-figure l e = let p = and-both numbers starts e in rw (l, p .0, p .1)
 
-  pub starts-neither : letter (first t) ≡ false → (numbers && starts) ≡ false → refused 104 ≡ parameter ws numbers t
+  pub starts-neither : letter (first t) ≡ false → (numbers && starts) ≡ false → refused 104 ≡ parameter ws numbers q t
   unfolding parameter check _>>_ if_then_else_
   starts-neither l e = rw l (go numbers starts e)
     where
       go : (n d : Bool) → (n && d) ≡ false
-          → refused 104 ≡ (if d then (check 104 n >> number t >>= λ d. passed (Figure d)) else refused 104)
+          → refused 104 ≡ (if d then (check 104 n >> number q t >>= λ d. passed (Figure d)) else refused 104)
       go true true e = absurd (false≢true (sym e))
       go true false e = refl
       go false true e = refl
@@ -147,24 +148,24 @@ found-below i (w ∷ ws) t n e = go (matches w t) (found-below (suc i) ws t n) e
     go false ih e = omega (arith, ih e)
 
 -- a number is no word
-no-word : (t : Text) (n : ℕ) → aFigure t ≡ passed (Word n) → ⊥
+no-word : (q : Quantity) (t : Text) (n : ℕ) → aFigure q t ≡ passed (Word n) → ⊥
 unfolding aFigure _>>=_
-no-word t n e = go (number t) e
+no-word q t n e = go (number q t) e
   where
     go : (r : Checked Decimal) → (r >>= λ d. passed (Figure d)) ≡ passed (Word n) → ⊥
     go (refused m) e = never e
     go (passed d) e = let z : _≡_ {A = ℕ} 0 1 = cc in omega arith
 
-pub word-placed : (ws : List String) (numbers : Bool) (t : Text) (n : ℕ) → parameter ws numbers t ≡ passed (Word n) → n < length ws
+pub word-placed : (ws : List String) (numbers : Bool) (q : Quantity) (t : Text) (n : ℕ) → parameter ws numbers q t ≡ passed (Word n) → n < length ws
 unfolding parameter aFigure check _>>_ if_then_else_
-word-placed ws numbers t n e = go (letter (first t)) (every wordByte t) (digit (first t) || sign (first t) || point (first t)) numbers e
+word-placed ws numbers q t n e = go (letter (first t)) (every wordByte t) (digit (first t) || sign (first t) || point (first t)) numbers e
   where
     go : (l w d b : Bool)
-        → (if l then (check 141 w >> findWord 0 ws t) else (if d then (check 104 b >> aFigure t) else refused 104)) ≡ passed (Word n)
+        → (if l then (check 141 w >> findWord 0 ws t) else (if d then (check 104 b >> aFigure q t) else refused 104)) ≡ passed (Word n)
         → n < length ws
     go true true d b e = omega (arith, found-below 0 ws t n e)
     go true false d b e = absurd (never e)
-    go false w true true e = absurd (no-word t n e)
+    go false w true true e = absurd (no-word q t n e)
     go false w true false e = absurd (never e)
     go false w false b e = absurd (never e)
 
@@ -178,12 +179,12 @@ no-figure i (w ∷ ws) t d e = go (matches w t) (no-figure (suc i) ws t d) e
     go true ih e = let z : _≡_ {A = ℕ} 0 1 = cc in omega arith
     go false ih e = ih e
 
-pub asked-word : (ws : List String) (t : Text) (d : Decimal) → parameter ws false t ≡ passed (Figure d) → ⊥
+pub asked-word : (ws : List String) (q : Quantity) (t : Text) (d : Decimal) → parameter ws false q t ≡ passed (Figure d) → ⊥
 unfolding parameter aFigure check _>>_ if_then_else_
-asked-word ws t d e = go (letter (first t)) (every wordByte t) (digit (first t) || sign (first t) || point (first t)) e
+asked-word ws q t d e = go (letter (first t)) (every wordByte t) (digit (first t) || sign (first t) || point (first t)) e
   where
     go : (l w b : Bool)
-        → (if l then (check 141 w >> findWord 0 ws t) else (if b then (check 104 false >> aFigure t) else refused 104)) ≡ passed (Figure d)
+        → (if l then (check 141 w >> findWord 0 ws t) else (if b then (check 104 false >> aFigure q t) else refused 104)) ≡ passed (Figure d)
         → ⊥
     go true true b e = no-figure 0 ws t d e
     go true false b e = never e

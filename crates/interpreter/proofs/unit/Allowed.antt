@@ -12,11 +12,15 @@ use borrow.Author.Tests.{leb-true, not-true}
 use Rattle.registers.specs.Text.{Text}
 use Rattle.registers.specs.Check.{refused, passed}
 use Rattle.registers.specs.Errors.{known, queueable}
-use Rattle.registers.specs.Number.{number, remains}
+use Rattle.registers.specs.Suffix.{suffixes, noSuffix, powerIn, remains}
+use Rattle.registers.specs.Number.{number}
 use Rattle.registers.specs.Settings.{count, table}
 use Rattle.registers.specs.Status.{widest}
 use Rattle.registers.specs.declared.settings.Settings.{Settings}
 use Rattle.registers.specs.declared.status.Register.{Register}
+use Rattle.registers.specs.declared.suffix.Power.{Power}
+use Rattle.registers.specs.declared.suffix.Quantity.{Quantity}
+use Rattle.registers.specs.declared.suffix.Quantity.the-variants.{Nothing, Volt, Ampere, Hertz, Second}
 use Rattle.registers.proofs.Tests.{and-both}
 use Rattle.interpreter.specs.Header.{Place, header, placed}
 use Rattle.interpreter.specs.Rows.{Row, rows, settingRows, otherRows, findRow}
@@ -25,19 +29,32 @@ use Rattle.interpreter.specs.Unit.{Read, readUnit}
 use Rattle.interpreter.specs.UnitParts.{Allowed}
 use Rattle.interpreter.specs.declared.deed.Role.{Role}
 use Rattle.interpreter.specs.declared.deed.Role.the-variants.{Setting as setting, Register as register, Order, Question}
-use Rattle.interpreter.proofs.unit.Checks.{Holds, Any, refuses-by, passes, hold-bind, hold-then, hold-check, hold-if, one-check, at-passed, at-refused}
+use Rattle.interpreter.proofs.unit.Checks.{Holds, Any, refuses-by, passes, hold-bind, hold-check, hold-if, at-passed, at-refused}
 
 -- ---- each reader refuses by numbers of 01
 
-remains-known : (t : Text) → Holds Any (remains t)
-unfolding remains known queueable
-remains-known t = hold-if Any _ _ _ (refuses-by refl) (one-check 121 _ refl)
+none-known : (q : Quantity) → known (noSuffix q) ≡ true
+unfolding noSuffix known queueable
+none-known Nothing = refl
+none-known Volt = refl
+none-known Ampere = refl
+none-known Hertz = refl
+none-known Second = refl
 
-number-known : (t : Text) → Holds Any (number t)
+power-known : (n : ℕ) → known n ≡ true → (xs : List (String × Power)) (t : Text) → Holds Any (powerIn n xs t)
+unfolding powerIn
+power-known n e [] t = refuses-by e
+power-known n e (x ∷ xs) t = hold-if Any _ _ _ (passes tt) (power-known n e xs t)
+
+remains-known : (q : Quantity) (t : Text) → Holds Any (remains q t)
+unfolding remains known queueable
+remains-known q t = hold-if Any _ _ _ (power-known _ (none-known q) (suffixes q) t) (hold-check Any 121 _ _ refl (λ _. passes tt))
+
+number-known : (q : Quantity) (t : Text) → Holds Any (number q t)
 unfolding number known queueable
-number-known t =
+number-known q t =
     hold-check Any 121 _ _ refl (λ _.
-    hold-then Any Any _ _ (remains-known _) (
+    hold-bind Any Any _ _ (remains-known q _) (λ p _.
     hold-check Any 124 _ _ refl (λ _.
     hold-check Any 123 _ _ refl (λ _. passes tt))))
 
@@ -54,11 +71,11 @@ unfolding findWord known queueable
 findWord-known i [] t = refuses-by refl
 findWord-known i (w ∷ ws) t = hold-if Any _ _ _ (passes tt) (findWord-known (suc i) ws t)
 
-parameter-known : (ws : List String) (numbers : Bool) (t : Text) → Holds Any (parameter ws numbers t)
+parameter-known : (ws : List String) (numbers : Bool) (q : Quantity) (t : Text) → Holds Any (parameter ws numbers q t)
 unfolding parameter known queueable
-parameter-known ws numbers t =
+parameter-known ws numbers q t =
     hold-if Any _ _ _ (hold-check Any 141 _ _ refl (λ _. findWord-known 0 ws t))
-    (hold-if Any _ _ _ (hold-check Any 104 _ _ refl (λ _. hold-bind Any Any _ _ (number-known t) (λ d _. passes tt))) (refuses-by refl))
+    (hold-if Any _ _ _ (hold-check Any 104 _ _ refl (λ _. hold-bind Any Any _ _ (number-known q t) (λ d _. passes tt))) (refuses-by refl))
 
 -- ---- and what is accepted is allowed
 
@@ -66,14 +83,14 @@ module _ (s : Settings) where
   setting-allowed : (i : ℕ) → i < count → (t : Text) → Holds (Allowed s) (settingDeed s i t)
   unfolding settingDeed known queueable
   setting-allowed i h t =
-      hold-bind Any (Allowed s) _ _ (parameter-known _ _ t) (λ g _.
+      hold-bind Any (Allowed s) _ _ (parameter-known _ _ _ t) (λ g _.
       hold-check (Allowed s) 222 _ _ refl (λ w.
       hold-check (Allowed s) 222 _ _ refl (λ x.
       hold-check (Allowed s) 221 _ _ refl (λ c. passes (h, w, not-true _ c, x)))))
 
   limit-allowed : (i : ℕ) → i < count → (t : Text) → Holds (Allowed s) (limitDeed s i t)
   unfolding limitDeed
-  limit-allowed i h t = hold-bind Any (Allowed s) _ _ (parameter-known _ _ t) (λ g _. passes h)
+  limit-allowed i h t = hold-bind Any (Allowed s) _ _ (parameter-known _ _ _ t) (λ g _. passes h)
 
 in-width : (v : ℤ) (m : ℕ) → (leZ (pos 0) v && leZ v (pos m)) ≡ true → natAbs v ≤ m
 in-width (pos n) m e = leb-true n m (and-both (leb 0 n) (leb n m) e .1)
@@ -82,7 +99,7 @@ in-width (negsuc n) m e = absurd (false≢true e)
 register-allowed : (s : Settings) (r : Register) (t : Text) → Holds (Allowed s) (registerDeed r t)
 unfolding registerDeed known queueable
 register-allowed s r t =
-    hold-bind Any (Allowed s) _ _ (parameter-known _ _ t) (λ g _.
+    hold-bind Any (Allowed s) _ _ (parameter-known _ _ _ t) (λ g _.
     hold-check (Allowed s) 222 _ _ refl (λ w. passes (in-width (registerGiven g) (widest r) w)))
 
 -- ---- the rows: each setting is one of the seventeen, and each deed of a row's own is allowed

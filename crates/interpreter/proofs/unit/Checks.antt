@@ -29,11 +29,6 @@ module _ {A B : Type 0} (P : A → Type 0) (Q : B → Type 0) where
   hold-bind (refused n) f h k = refuses-by (h .of)
   hold-bind (passed a) f h k = k a (h .of)
 
-  pub hold-then : (m : Checked A) (r : Checked B) → Holds P m → Holds Q r → Holds Q (m >> r)
-  unfolding _>>_
-  hold-then (refused n) r h k = refuses-by (h .of)
-  hold-then (passed a) r h k = k
-
 module _ {A : Type 0} (Q : A → Type 0) where
   pub hold-check : (n : ℕ) (t : Bool) (m : Checked A) → known n ≡ true → (t ≡ true → Holds Q m) → Holds Q (check n t >> m)
   unfolding check _>>_
@@ -44,11 +39,6 @@ module _ {A : Type 0} (Q : A → Type 0) where
   unfolding if_then_else_
   hold-if true x y h k = h
   hold-if false x y h k = k
-
-pub one-check : (n : ℕ) (t : Bool) → known n ≡ true → Holds Any (check n t)
-unfolding check
-one-check n true e = passes tt
-one-check n false e = refuses-by e
 
 -- a chain whose results have the property
 pub holds-from : {A : Type 0} {P : A → Type 0} (m : Checked A) → ((a : A) → m ≡ passed a → P a)

@@ -9,7 +9,7 @@ use lib.Seq.{drop-cons}
 use borrow.Author.Tests.{eq-eqb, ne-eqb}
 use Rattle.registers.specs.Errors.{among, known, queueable, numberOf}
 use Rattle.registers.specs.declared.error.Error.{Error}
-use Rattle.registers.specs.declared.error.Error.the-variants.{InvalidCharacter, Syntax, DataType, ParameterNotAllowed, MissingParameter, UndefinedHeader, InvalidCharacterInNumber, ExponentTooLarge, TooManyDigits, SuffixNotAllowed, InvalidCharacterData, SettingsConflict, DataOutOfRange, InputBufferOverrun, QueryInterrupted, QueryUnterminated, QueryDeadlocked}
+use Rattle.registers.specs.declared.error.Error.the-variants.{InvalidCharacter, Syntax, DataType, ParameterNotAllowed, MissingParameter, UndefinedHeader, InvalidCharacterInNumber, ExponentTooLarge, TooManyDigits, InvalidSuffix, SuffixNotAllowed, InvalidCharacterData, SettingsConflict, DataOutOfRange, InputBufferOverrun, QueryInterrupted, QueryUnterminated, QueryDeadlocked}
 
 module _ (n : ℕ) (l : List ℕ) (i : ℕ) (h : i < length l) where
   pub among-skip : (getD l i 0 ≡ n → ⊥) → among n (drop i l) ≡ among n (drop (i + 1) l)
@@ -30,6 +30,7 @@ raised-known UndefinedHeader = refl
 raised-known InvalidCharacterInNumber = refl
 raised-known ExponentTooLarge = refl
 raised-known TooManyDigits = refl
+raised-known InvalidSuffix = refl
 raised-known SuffixNotAllowed = refl
 raised-known InvalidCharacterData = refl
 raised-known SettingsConflict = refl

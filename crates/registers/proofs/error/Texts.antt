@@ -29,11 +29,11 @@ all-roomy : every roomy messageRows ≡ true
 unfolding messages bytes
 all-roomy = refl
 
-rows : length messages ≡ 19
+rows : length messages ≡ 20
 unfolding messages
 rows = refl
 
-all-rows : length messageRows ≡ 20
+all-rows : length messageRows ≡ 21
 unfolding messages
 all-rows = refl
 
@@ -60,14 +60,14 @@ rows-behind (m ∷ ms) e (suc k) =
     let a : suc k * 33 ≡ length (messageRow m) + k * 33 = omega arith in
     rw (a, drop-append-add (messageRow m) (tableOf ms) (k * 33)) (rows-behind ms (p .1) k)
 
-pub table-length : length messageTable ≡ 660
+pub table-length : length messageTable ≡ 693
 unfolding messageTable tableOf messageRow messages bytes
 table-length = refl
 
 front : (t zeros rest : Text) → take (length t) ((t ++ zeros) ++ rest) ≡ t
 front t zeros rest = rw (append-assoc t zeros rest) (take-append-seam t (zeros ++ rest))
 
-module _ (row : ℕ) (h : row < 20) where
+module _ (row : ℕ) (h : row < 21) where
   -- the table from a row on starts with its message
   row-at : drop (row * 33) messageTable ≡ messageRow (messageAt row) ++ tableOf (drop (suc row) messageRows)
   unfolding messageTable messageAt tableOf
@@ -112,7 +112,7 @@ module _ (row : ℕ) (h : row < 20) where
       rw (← drop-drop 3 (row * 33) messageTable, row-at) (front t zeros (tableOf (drop (suc row) messageRows)))
 
 -- a row's number is read from two bytes of the table
-module _ (row : ℕ) (h : row < 19) {table : Text} (e : table ≡ messageTable) where
+module _ (row : ℕ) (h : row < 20) {table : Text} (e : table ≡ messageTable) where
   pub high-within : row * 33 < length table
   high-within = let l = table-length in rw e (omega arith)
 
@@ -154,7 +154,7 @@ row-within (m ∷ ms) n = go (eqb (m .0) n) (row-within ms n)
     go false h = omega arith
 
 module _ (n : ℕ) {row : ℕ} (e : row ≡ rowIn messages n) where
-  pub found-row : row < 20
+  pub found-row : row < 21
   found-row = let l = rows in let w = row-within messages n in omega arith
 
   pub found-fits : Fits w64 (row * 33)
@@ -181,7 +181,7 @@ abbrev pub sought : ℕ → ℕ → ℕ
 sought n row = row + rowIn (drop row messages) n
 
 module _ (n row : ℕ) where
-  module _ (h : row < 19) where
+  module _ (h : row < 20) where
     in-messages : row < length messages
     in-messages = let l = rows in omega arith
 
@@ -200,7 +200,7 @@ module _ (n row : ℕ) where
         rw (drop-cons messages row (0, "") in-messages, ne-eqb (getD messages row (0, "") .0) n (rw listed at ne), add-one row)
         (omega arith)
 
-  pub search-end : 19 ≤ row → row ≤ 19 → sought n row ≡ 19
+  pub search-end : 20 ≤ row → row ≤ 20 → sought n row ≡ 20
   unfolding rowIn
   search-end h k =
       let l = rows in

@@ -7,40 +7,41 @@ use native.Mathlib.Omega.{arith}
 use lib.Dec.{T, leb, ltb, eqb}
 use lib.ListN.{length, drop}
 use borrow.Author.Tests.{ne-eqb, leb-true, ltb-true}
-use Rattle.registers.specs.Text.{Text, if_then_else_, every, digit, letter, white, first, rest, empty, start, after}
-use Rattle.registers.specs.Check.{Checked, refused, passed, _>>_, check}
-use Rattle.registers.specs.Number.{numeral, point, afterSign, fractionOf, afterFraction, exponentOf, afterExponent, lowering, written, valueOf, decimalOf, remains, number}
+use Rattle.registers.specs.Text.{Text, if_then_else_, every, digit, white, first, rest, empty, start, after}
+use Rattle.registers.specs.Check.{Checked, refused, passed, _>>=_, _>>_, check}
+use Rattle.registers.specs.Number.{numeral, point, afterSign, fractionOf, afterFraction, exponentOf, afterExponent, lowering, written, valueOf, decimalOf, scaled, number}
+use Rattle.registers.specs.Suffix.{remains}
 use Rattle.registers.specs.NumberParts.{held, mantissaOf, MantissaRead, ExponentRead, valueRead}
 use Rattle.registers.specs.declared.number.Decimal.{Decimal}
 use Rattle.registers.specs.declared.number.Mantissa.{Mantissa}
 use Rattle.registers.specs.declared.number.Exponent.{Exponent}
-use Rattle.registers.proofs.text.Laws.{empty-at, start-passes}
+use Rattle.registers.specs.declared.suffix.Power.{Power}
+use Rattle.registers.specs.declared.suffix.Quantity.{Quantity}
+use Rattle.registers.proofs.text.Laws.{start-passes}
 use Rattle.registers.proofs.Tests.{every-append, holds, is-true}
 use Rattle.registers.proofs.number.Numerals.{same-test, few-digits}
 
--- check 6 by five tests: there is no digit, a letter follows, nothing follows, the digits are few, the exponent is low
-unfoldable chain : Bool → Bool → Bool → Bool → Bool → Decimal → Checked Decimal
-chain none suffix done few low d =
+-- check 6 by what is told of a text: there is no digit, the power of ten of what remains, the digits are few, the exponent is low
+unfoldable chain : Bool → Checked Power → Bool → Bool → Decimal → Checked Decimal
+chain none scale few low d =
     check 121 (not none)
-    >> (if suffix then refused 138 else check 121 done)
-    >> check 124 few
+    >> scale >>= λ p.
+    check 124 few
     >> check 123 low
-    >> passed d
+    >> passed (scaled p d)
 
 -- the value counts only where both the last are true
-chain-value : (none suffix done few low : Bool) {d e : Decimal} → (few ≡ true → low ≡ true → d ≡ e)
-    → chain none suffix done few low d ≡ chain none suffix done few low e
-unfolding chain check _>>_
-chain-value none suffix done true true h = rw (h refl refl)
-chain-value none suffix done true false h = refl
-chain-value none suffix done false low h = refl
+chain-value : (none : Bool) (scale : Checked Power) (few low : Bool) {d e : Decimal} → (few ≡ true → low ≡ true → d ≡ e)
+    → chain none scale few low d ≡ chain none scale few low e
+unfolding chain check _>>=_ _>>_
+chain-value none (refused n) few low h = refl
+chain-value none (passed p) true true h = rw (h refl refl)
+chain-value none (passed p) true false h = refl
+chain-value none (passed p) false low h = refl
 
--- check 6 by the first three tests and what the reader found: the first byte, the mantissa and the exponent
-unfoldable pub verdict : Bool → Bool → Bool → ℕ → Mantissa → Exponent → Checked Decimal
-verdict none suffix done b m x =
-    check 121 (not none)
-    >> (if suffix then refused 138 else check 121 done)
-    >> valueRead (eqb b 45) m x
+-- check 6 by the first two and what the reader found: the first byte, the mantissa and the exponent
+unfoldable pub verdict : Bool → Checked Power → ℕ → Mantissa → Exponent → Checked Decimal
+verdict none scale b m x = check 121 (not none) >> scale >>= λ p. valueRead (eqb b 45) m x p
 
 no-digits : (l : Text) (n : ℕ) → n ≡ length l → empty l ≡ eqb n 0
 no-digits [] n e = rw e
@@ -62,9 +63,9 @@ module _ {t : Text} {s : ℕ} {m : Mantissa} (sign : drop s t ≡ afterSign t) (
   none : empty digits ≡ eqb (m .count) 0
   none = no-digits digits (m .count) (mantissa .count ∙ ap (λ (u : Text). length (mantissaOf u)) sign)
 
-  pub none-is : m .count ≡ 0 → number t ≡ refused 121
+  pub none-is : (q : Quantity) → m .count ≡ 0 → number q t ≡ refused 121
   unfolding number written check _>>_
-  none-is e = rw (none, e)
+  none-is q e = rw (none, e)
 
 -- and its first byte, and the exponent behind the mantissa
 module _ {t : Text} {b s : ℕ} {m : Mantissa} {x : Exponent} (byte : b ≡ first t) (sign : drop s t ≡ afterSign t)
@@ -88,14 +89,14 @@ module _ {t : Text} {b s : ℕ} {m : Mantissa} {x : Exponent} (byte : b ≡ firs
   places-is = mantissa .places ∙ ap (λ (u : Text). length (fractionOf (after digit u))) sign
 
   -- check 6 of the text, where e is the place behind the white space that follows the number
-  pub number-is : (e : ℕ) → drop e t ≡ after white (drop (x .end) t)
-      → number t ≡ verdict (eqb (m .count) 0) (letter (first (drop e t))) (leb (length t) e) b m x
-  unfolding number written valueOf remains chain verdict valueRead
-  number-is e rest-is =
+  pub number-is : (q : Quantity) (e : ℕ) → drop e t ≡ after white (drop (x .end) t)
+      → number q t ≡ verdict (eqb (m .count) 0) (remains q (drop e t)) b m x
+  unfolding number written valueOf chain verdict valueRead
+  number-is q e rest-is =
       let remainder = ap (after white) (sym (exponent .rest ∙ ap afterExponent behind-is)) ∙ sym rest-is in
       let lowers = exponent .lowers ∙ ap lowering behind-is in
-      rw (none sign mantissa, remainder, empty-at t e, few, low, sym byte, sym lowers, sym places-is)
-      (chain-value (eqb (m .count) 0) (letter (first (drop e t))) (leb (length t) e) _ _ exact)
+      rw (none sign mantissa, remainder, few, low, sym byte, sym lowers, sym places-is)
+      (chain-value (eqb (m .count) 0) (remains q (drop e t)) _ _ exact)
     where
       few : leb (length (after (eqb 48) all)) 12 ≡ ltb (m .value) held
       few =

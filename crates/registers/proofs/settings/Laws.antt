@@ -14,14 +14,15 @@ use mir.Val.{SFits, toZ, ofZ}
 use mir.Facts.{toZ-ofZ}
 use borrow.Author.Tests.{ltb-true, ltb-false}
 use Rattle.registers.specs.Text.{if_then_else_, below}
-use Rattle.registers.specs.Settings.{Setting, bool, table, row, kindOf, settingAt, lowestOf, highestOf, lowest, highest, wideRange, voltage, range, twelveVolts, valueAt, valuesIn, within, conflict, stored, withValue, count, possibleSettings}
-use Rattle.registers.specs.SettingsParts.{valuesFrom}
+use Rattle.registers.specs.Settings.{Setting, bool, table, row, kindOf, quantityOf, settingAt, lowestOf, highestOf, lowest, highest, wideRange, voltage, range, twelveVolts, valueAt, valuesIn, within, conflict, stored, withValue, count, possibleSettings}
+use Rattle.registers.specs.SettingsParts.{valuesFrom, quantityFrom}
 use Rattle.registers.specs.declared.settings.Settings.{Settings}
+use Rattle.registers.specs.declared.suffix.Quantity.the-variants.{Nothing}
 use Rattle.registers.proofs.Tests.{and-both, and-fails, below-fails, ltZ-not}
 
 -- a row's default is that of a row behind the table
 abbrev behind : Setting
-behind = row [] bool (pos 0)
+behind = row [] bool Nothing (pos 0)
 
 pub getD-any : {A : Type 0} (l : List A) (i : ℕ) (d e : A) → i < length l → getD l i d ≡ getD l i e
 getD-any [] i d e h = absurd (omega arith)
@@ -52,10 +53,24 @@ kind-at i =
     sym (List·getD-map valuesFrom (0 ∷ 0 ∷ 0 ∷ 1 ∷ 2 ∷ 1 ∷ 2 ∷ 2 ∷ 1 ∷ 1 ∷ 3 ∷ 3 ∷ 2 ∷ 2 ∷ 3 ∷ 0 ∷ 0 ∷ []) i 0)
     ∙ List·getD-map (λ (x : Setting). valuesIn (x .kind)) table i behind
 
+-- the code's quantities
+abbrev quantities : List ℕ
+quantities = 0 ∷ 0 ∷ 0 ∷ 0 ∷ 1 ∷ 0 ∷ 3 ∷ 2 ∷ 0 ∷ 0 ∷ 4 ∷ 4 ∷ 2 ∷ 2 ∷ 0 ∷ 0 ∷ 0 ∷ []
+
+pub quantity-at : (i : ℕ) → quantityFrom (getD quantities i 0) ≡ quantityOf i
+unfolding table settingAt quantityFrom if_then_else_
+quantity-at i = sym (List·getD-map quantityFrom quantities i 0) ∙ List·getD-map (λ (x : Setting). x .quantity) table i behind
+
 -- a row behind the table
-pub behind-is : (i : ℕ) → count ≤ i → kindOf i ≡ bool
+behind-row : (i : ℕ) → count ≤ i → settingAt i ≡ behind
 unfolding table settingAt
-behind-is i h = ap (λ (x : Setting). x .kind) (List·getD-eq-default table behind h)
+behind-row i h = List·getD-eq-default table behind h
+
+pub behind-is : (i : ℕ) → count ≤ i → kindOf i ≡ bool
+behind-is i h = ap (λ (x : Setting). x .kind) (behind-row i h)
+
+pub behind-measures : (i : ℕ) → count ≤ i → quantityOf i ≡ Nothing
+behind-measures i h = ap (λ (x : Setting). x .quantity) (behind-row i h)
 
 -- what a table holds comes back from its bits
 abbrev small : List ℤ → Bool

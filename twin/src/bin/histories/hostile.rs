@@ -3,10 +3,11 @@
 
 use std::io;
 
-use twin::paper::{nodes, Use, HEADERS};
+use twin::paper::{nodes, suffixes, Use, HEADERS};
+use twin::SETTINGS;
 
 use crate::dice::Dice;
-use crate::lines::{spell, ten_thousandths, Lines, Manner};
+use crate::lines::{mix_case, spell, with_suffix, Lines, Manner};
 use crate::script::{Field, Script};
 
 pub fn write(script: &mut Script, count: usize) -> io::Result<()> {
@@ -222,6 +223,12 @@ static NUMBER_HEADERS: [&str; 17] = [
     "VOLT?",
 ];
 
+/// Suffixes of all rows (02, #101), and some that none takes.
+static SUFFIXES: [&str; 24] = [
+    "V", "V", "MV", "MV", "A", "A", "MA", "MA", "HZ", "HZ", "KHZ", "MHZ", "S", "S", "MS", "KV",
+    "UV", "V2", "VV", "V V", "K", "M", "E", "MAX",
+];
+
 fn odd_number(dice: &mut Dice) -> Vec<u8> {
     let header = dice.pick(&NUMBER_HEADERS);
     let sign = dice.pick(&["", "", "", "+", "-", "-", "--", "+ ", "-+"]);
@@ -254,9 +261,17 @@ fn odd_number(dice: &mut Dice) -> Vec<u8> {
         " E1",
         "E1.5",
     ]);
-    let tail = dice.pick(&[
-        "", "", "", "", "", "V", " V", "%", "_", "\t", ".", " 1", "\r", "E5",
-    ]);
+    let tail = match dice.below(3) {
+        0 => "".to_string(),
+        1 => {
+            let blank = dice.pick(&["", "", " ", "\t", "\0", "\r ", "_"]);
+            let suffix = dice.pick(&SUFFIXES);
+            format!("{blank}{}", mix_case(dice, suffix))
+        }
+        _ => dice
+            .pick(&["%", "_", "\t", ".", " 1", "\r", "E5", "V\r"])
+            .to_string(),
+    };
     let zeros_before = "0".repeat(whole_zeros);
     let zeros_behind = "0".repeat(fraction_zeros);
     let number =
@@ -271,26 +286,29 @@ fn digits(dice: &mut Dice) -> String {
     digits.collect()
 }
 
+/// No setting's place: a register takes no suffix.
+const NO_SETTING: usize = SETTINGS;
+
 /// A number within a half step of a limit, some ten-thousandths off.
 fn near_limit(dice: &mut Dice) -> Vec<u8> {
-    let (header, lowest, highest, tenth) = dice.pick(&[
-        ("VOLT", 0, 120, true),
-        ("VOLT:RANG R24V;LEV", 0, 240, true),
-        ("FREQ", 400, 5500, true),
-        ("CURR:LIM:RMS", 1, 20, true),
-        ("CURR:LIM:RMS:TIME", 10, 100, false),
-        ("CURR:LIM:PEAK:TIME", 10, 100, false),
-        ("CURR:LIM:PEAK:HIGH", 5, 80, true),
-        ("CURR:LIM:PEAK:LOW", -80, -5, true),
-        ("DISP:BRIG", 0, 990, false),
-        ("*ESE", 0, 2550, false),
-        ("*SRE", 0, 2550, false),
-        ("STAT:OPER:PTR", 0, 327_670, false),
+    let (header, place, lowest, highest, tenth) = dice.pick(&[
+        ("VOLT", 4, 0, 120, true),
+        ("VOLT:RANG R24V;LEV", 4, 0, 240, true),
+        ("FREQ", 6, 400, 5500, true),
+        ("CURR:LIM:RMS", 7, 1, 20, true),
+        ("CURR:LIM:RMS:TIME", 10, 10, 100, false),
+        ("CURR:LIM:PEAK:TIME", 11, 10, 100, false),
+        ("CURR:LIM:PEAK:HIGH", 12, 5, 80, true),
+        ("CURR:LIM:PEAK:LOW", 13, -80, -5, true),
+        ("DISP:BRIG", 14, 0, 990, false),
+        ("*ESE", NO_SETTING, 0, 2550, false),
+        ("*SRE", NO_SETTING, 0, 2550, false),
+        ("STAT:OPER:PTR", NO_SETTING, 0, 327_670, false),
     ]);
     let off = dice.pick(&[-501, -500, -499, -1, 0, 1, 499, 500, 501]);
     let off = if tenth { off } else { 10 * off };
     let limit: i64 = dice.pick(&[lowest, highest]);
-    let number = ten_thousandths(dice, limit * 1000 + off);
+    let number = with_suffix(dice, suffixes(place), limit * 1000 + off);
     let lead = exam_or_not(dice, header);
     format!("{lead}{header} {number}").into_bytes()
 }
@@ -330,7 +348,7 @@ fn full_queue(script: &mut Script) -> io::Result<()> {
     for _ in 0..script.dice.pick(&[14, 15, 16, 17, 18, 20]) {
         let fault = script
             .dice
-            .pick(&["FOO", "VOLT 99", "VOLT 5V", ";", "VOLT", "VOLT 1E10"]);
+            .pick(&["FOO", "VOLT 99", "VOLT 5A", ";", "VOLT", "VOLT 1E10"]);
         bytes.extend_from_slice(fault.as_bytes());
         bytes.push(b'\n');
     }
@@ -345,8 +363,8 @@ fn full_queue(script: &mut Script) -> io::Result<()> {
     Ok(())
 }
 
-static ALLOWED_ERRORS: [i32; 18] = [
-    101, 102, 104, 108, 109, 113, 121, 123, 124, 138, 141, 221, 222, 350, 363, 410, 420, 430,
+static ALLOWED_ERRORS: [i32; 19] = [
+    101, 102, 104, 108, 109, 113, 121, 123, 124, 131, 138, 141, 221, 222, 350, 363, 410, 420, 430,
 ];
 
 static REGISTERS: [&str; 8] = [
@@ -403,7 +421,7 @@ fn number_for_any_time(dice: &mut Dice) -> (Field, i32) {
         _ => {
             let number = match dice.below(3) {
                 0 => dice.below(65_536) as i32,
-                1 => dice.pick(&[0, 100, 103, 114, 131, 150, 220, 223, 314, 351, 440]),
+                1 => dice.pick(&[0, 100, 103, 114, 130, 132, 150, 220, 223, 314, 351, 440]),
                 _ => dice.pick(&ALLOWED_ERRORS),
             };
             (Field::Error(dice.below(16)), number)

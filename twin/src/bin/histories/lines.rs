@@ -1,6 +1,6 @@
 //! Command lines in all spellings.
 
-use twin::paper::{nodes, Printed, Use, HEADERS, OF_01};
+use twin::paper::{nodes, suffixes, Printed, Use, HEADERS, OF_01};
 
 use crate::dice::Dice;
 
@@ -44,7 +44,8 @@ static VARIED_BOOLS: [&str; 18] = [
     "000.50",
 ];
 
-/// Units that are refused wherever they stand.
+/// Units that are refused wherever they stand. Only `:VOLT 5V` is good since #101; it stays, for the
+/// same lines at every request.
 static FAULTY_UNITS: [&str; 72] = [
     "VOLTA 5",
     ":VOLTA?",
@@ -120,6 +121,30 @@ static FAULTY_UNITS: [&str; 72] = [
     "*SRE 256",
 ];
 
+/// Units whose suffix is refused wherever they stand (02, #101).
+static FAULTY_SUFFIXES: [&str; 20] = [
+    ":VOLT 5A",
+    ":VOLT 5 s",
+    ":VOLT 5V2",
+    ":VOLT 5 V V",
+    ":VOLT 5_V",
+    ":VOLT 5 MVV",
+    ":VOLT 5KV",
+    ":VOLT MAX V",
+    ":VOLT? 5V",
+    ":VOLT 1E10X",
+    ":VOLT 1E10 mv",
+    ":VOLT 1234567890123 V",
+    ":VOLT 12050 MV",
+    ":FREQ 60 V",
+    ":FREQ 60 mhz",
+    ":CURR:LIM:RMS 1\tkA",
+    ":CURR:LIM:PEAK:LOW -449 MA",
+    ":CURR:LIM:PEAK:TIME 1500 MS",
+    ":DISP:BRIG 5 S",
+    "*ESE 5V",
+];
+
 impl Lines {
     pub fn new(manner: Manner) -> Lines {
         Lines { manner }
@@ -142,7 +167,11 @@ impl Lines {
         if self.manner == Manner::Varied && dice.chance(50) {
             return self.spoiled(dice);
         }
-        let fault = dice.pick(&FAULTY_UNITS);
+        let fault = if self.manner == Manner::Varied && dice.chance(20) {
+            dice.pick(&FAULTY_SUFFIXES)
+        } else {
+            dice.pick(&FAULTY_UNITS)
+        };
         match dice.below(4) {
             // An empty unit needs another beside it, or the line is blank.
             0 => [&self.good(dice)[..], b";", fault.as_bytes()].concat(),
@@ -231,8 +260,9 @@ impl Lines {
                 } else {
                     highest
                 };
-                if self.manner == Manner::Varied && dice.chance(20) {
-                    return Some(off_step(dice, lowest, highest, tenth));
+                if self.manner == Manner::Varied && dice.chance(40) {
+                    let suffixes = place.map_or(&[][..], suffixes);
+                    return Some(measured(dice, suffixes, lowest, highest, tenth));
                 }
                 Some(number(dice, lowest, highest, tenth))
             }
@@ -290,7 +320,7 @@ pub fn spell(dice: &mut Dice, printed: &str) -> String {
     }
 }
 
-fn mix_case(dice: &mut Dice, text: &str) -> String {
+pub fn mix_case(dice: &mut Dice, text: &str) -> String {
     let letters = text.chars();
     letters
         .map(|letter| match dice.chance(50) {
@@ -320,24 +350,50 @@ fn number(dice: &mut Dice, lowest: i32, highest: i32, tenth: bool) -> String {
     }
 }
 
-/// A number within limits given in tenths, or just outside, off its step by up to a half of it.
-fn off_step(dice: &mut Dice, lowest: i32, highest: i32, tenth: bool) -> String {
-    let off = dice.pick(&[-500, -499, -1, 1, 499, 500]);
+/// A number within limits given in tenths, with one of the suffixes or none, sometimes off its step
+/// by up to a half of it.
+fn measured(
+    dice: &mut Dice,
+    suffixes: &[Suffix],
+    lowest: i32,
+    highest: i32,
+    tenth: bool,
+) -> String {
+    let off = dice.pick(&[0, 0, 0, -500, -499, -1, 1, 499, 500]);
     let step = if tenth { 1 } else { 10 };
     let steps = i64::from(dice.between(lowest / step, highest / step));
-    ten_thousandths(dice, (steps * 1000 + off) * i64::from(step))
+    with_suffix(dice, suffixes, (steps * 1000 + off) * i64::from(step))
 }
 
-/// A number given in ten-thousandths, in one of its forms.
-pub fn ten_thousandths(dice: &mut Dice, value: i64) -> String {
+/// A suffix in capitals, and the power of ten that it stands for.
+type Suffix = (&'static str, i32);
+
+/// A number given in ten-thousandths, mostly with one of the suffixes and scaled to it.
+pub fn with_suffix(dice: &mut Dice, suffixes: &[Suffix], value: i64) -> String {
+    if suffixes.is_empty() || dice.chance(20) {
+        return scaled(dice, value, -4);
+    }
+    let (name, power) = dice.pick(suffixes);
+    let number = scaled(dice, value, -4 - power);
+    let blank = dice.pick(&["", "", " ", " ", "\t", "\0", "\r", " \x1F "]);
+    format!("{number}{blank}{}", mix_case(dice, name))
+}
+
+/// The value times a power of ten from -10 to -1, in one of its forms.
+fn scaled(dice: &mut Dice, value: i64, power: i32) -> String {
     let sign = if value < 0 { "-" } else { "" };
     let size = value.abs();
     match dice.below(6) {
-        0 => format!("{value}E-4"),
-        1 => format!("{value}E-0000000004"),
-        2 => format!("{sign}.{size:012}e8"),
-        3 => format!("{sign}.{size:012}e+0000000008"),
-        4 => format!("{sign}0.000{size:09}E+05"),
-        _ => format!("{sign}{}.{:04}", size / 10_000, size % 10_000),
+        0 if power >= -9 => format!("{value}E{power}"),
+        1 if power >= -9 => format!("{value}E-000000000{}", -power),
+        2 if power <= -3 => format!("{sign}.{size:012}e{}", 12 + power),
+        3 if power <= -3 => format!("{sign}.{size:012}e+0000000{}", 12 + power),
+        4 => format!("{sign}00.{size:09}E{:+03}", 9 + power),
+        _ => {
+            let decimals = power.unsigned_abs() as usize;
+            let digits = format!("{size:0width$}", width = decimals + 1);
+            let (whole, fraction) = digits.split_at(digits.len() - decimals);
+            format!("{sign}{whole}.{fraction}")
+        }
     }
 }

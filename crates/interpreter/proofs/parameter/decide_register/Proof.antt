@@ -3,6 +3,7 @@ use mathlib.Core.Bool.{true}
 use mathlib.Core.List.{[]}
 use native.Mathlib.Omega.{arith}
 use borrow.Author.Needs.{needs}
+use Rattle.registers.specs.declared.suffix.Quantity.the-variants.{Nothing}
 use Rattle.interpreter.specs.Parameter.{parameter}
 use Rattle.interpreter.specs.ParameterParts.{meantGiven, registerTo}
 use Rattle.interpreter.proofs.parameter.Deeds.{refused-by, word-by, figure-by, register-refused, register-figure}
@@ -13,7 +14,7 @@ use Rattle.interpreter.proofs.parameter.decide_register.Tie as tie
 abbrev entry : tie.After-read-parameter → tie.Start
 entry p = p .before .before .before .before
 
-read-is : (p : tie.After-read-parameter) → meantGiven (p .read-parameter .result) ≡ parameter [] true (entry p .args .text .now)
+read-is : (p : tie.After-read-parameter) → meantGiven (p .read-parameter .result) ≡ parameter [] true Nothing (entry p .args .text .now)
 read-is p = p .read-parameter .ensures
 
 obey-query-requires : tie.Need-obey-query-requires
@@ -42,7 +43,7 @@ returns-3 : tie.Need-returns-3
 returns-3 c =
     let p = c .before .before in
     let told = c .enum-told .given in
-    absurd (omega (arith, word-placed [] true (entry p .args .text .now) (told .0 .0) (word-by (read-is p) (told .1))))
+    absurd (omega (arith, word-placed [] true Nothing (entry p .args .text .now) (told .0 .0) (word-by (read-is p) (told .1))))
 
 enum-known-parameter-2 : tie.Need-enum-known-parameter-2
 enum-known-parameter-2 c = c .match .keys3

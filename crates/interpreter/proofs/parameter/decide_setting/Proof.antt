@@ -7,7 +7,7 @@ use borrow.Author.Tests.{ne-eqb}
 use borrow.Author.Needs.{needs}
 use Rattle.registers.specs.Text.{if_then_else_}
 use Rattle.registers.specs.Check.{Checked, passed, _>>=_}
-use Rattle.registers.specs.Settings.{kindOf}
+use Rattle.registers.specs.Settings.{kindOf, quantityOf}
 use Rattle.registers.specs.declared.rounding.Fit.the-variants.{Within}
 use Rattle.registers.specs.declared.rounding.Side.the-variants.{On}
 use Rattle.interpreter.specs.Parameter.{Given, parameter, wordsOf, takesNumbers, valueGiven, sideGiven, deedOf}
@@ -26,10 +26,10 @@ abbrev entry : tie.After-read-parameter → tie.Start
 entry p = p .before .before .before .before .before
 
 abbrev given : tie.After-read-parameter → Checked Given
-given p = let a = entry p .args in parameter (wordsOf (kindOf (a .row))) (takesNumbers (kindOf (a .row)) && not (a .asked)) (a .text .now)
+given p = let a = entry p .args in parameter (wordsOf (kindOf (a .row))) (takesNumbers (kindOf (a .row)) && not (a .asked)) (quantityOf (a .row)) (a .text .now)
 
 read-is : (p : tie.After-read-parameter) → meantGiven (p .read-parameter .result) ≡ given p
-read-is p = let takes = p .before .setting-takes .ensures in rw (takes .words, takes .numbers) at (p .read-parameter .ensures)
+read-is p = let takes = p .before .setting-takes .ensures in rw (takes .words, takes .numbers, takes .quantity) at (p .read-parameter .ensures)
 
 deed-is : (p : tie.After-read-parameter)
     → let a = entry p .args in
@@ -53,7 +53,7 @@ unfolding _>>=_
 carried p e = sym (deed-is p ∙ rw e)
 
 placed : (p : tie.After-read-parameter) {n : ℕ} → p .read-parameter .result ≡ Word n → n < length (wordsOf (kindOf (entry p .args .row)))
-placed p {n} told = word-placed _ _ (entry p .args .text .now) n (word-by (read-is p) told)
+placed p {n} told = word-placed _ _ _ (entry p .args .text .now) n (word-by (read-is p) told)
 
 obey-query-requires : tie.Need-obey-query-requires
 obey-query-requires c κs = tt

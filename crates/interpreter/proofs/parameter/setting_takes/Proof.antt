@@ -18,9 +18,12 @@ array-read-t8 c = omega arith
 cast-t12 : tie.Need-cast-t12
 cast-t12 c = omega (arith, setting-takes (c .args .row) (c .pre) .room)
 
+quantity-of-requires : tie.Need-quantity-of-requires
+quantity-of-requires c κs = tt
+
 returns : tie.Need-returns
-returns c = setting-takes (c .args .row) (c .pre)
+returns c = let s = c .before in rw (c .quantity-of .ensures) (setting-takes (s .args .row) (s .pre))
 
 pub setting-takes-spec : {M : Type 1} → statement M
 setting-takes-spec =
-    tie.close (tie.spec array-read-first cast-first add-t9 array-read-t8 cast-t12 returns)
+    tie.close (tie.spec array-read-first cast-first add-t9 array-read-t8 cast-t12 quantity-of-requires returns)

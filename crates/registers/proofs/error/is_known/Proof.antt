@@ -9,10 +9,10 @@ use Rattle.registers.proofs.error.is_known.Statement.{statement}
 use Rattle.registers.proofs.error.is_known.Tie as tie
 
 abbrev Inv-loop : tie.InvT-loop
-Inv-loop number numbers i₀ i = (i ≤ 18) × (among number (drop i queueable) ≡ known number)
+Inv-loop number numbers i₀ i = (i ≤ 19) × (among number (drop i queueable) ≡ known number)
 
 abbrev μ-loop : tie.MeasureT-loop
-μ-loop number numbers i₀ i = 18 - i
+μ-loop number numbers i₀ i = 19 - i
 
 loop-holds : tie.Need-loop-holds Inv-loop μ-loop
 unfolding known
@@ -48,7 +48,7 @@ returns-2 : tie.Need-returns-2 Inv-loop μ-loop
 unfolding queueable
 returns-2 c =
     let n = c .before .before .args .number in
-    let e : c .before .loop .i ≡ 18 = omega arith in
+    let e : c .before .loop .i ≡ 19 = omega arith in
     rw e at (c .before .loop .inv .1)
 
 pub is-known-spec : {M : Type 1} → statement M

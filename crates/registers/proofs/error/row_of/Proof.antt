@@ -10,10 +10,10 @@ use Rattle.registers.proofs.error.row_of.Statement.{statement}
 use Rattle.registers.proofs.error.row_of.Tie as tie
 
 abbrev Inv-loop : tie.InvT-loop
-Inv-loop table number row₀ row = (row ≤ 19) × (rowIn messages number ≡ sought number row)
+Inv-loop table number row₀ row = (row ≤ 20) × (rowIn messages number ≡ sought number row)
 
 abbrev μ-loop : tie.MeasureT-loop
-μ-loop table number row₀ row = 19 - row
+μ-loop table number row₀ row = 20 - row
 
 loop-holds : tie.Need-loop-holds Inv-loop μ-loop
 loop-holds c = (omega arith, sym (zero-add _))

@@ -1,8 +1,10 @@
 use mathlib.Core.Path.{_≡_}
+use native.Mathlib.Nat.{zero-add}
 use native.Mathlib.Omega.{arith}
+use borrow.Author.Needs.{needs}
 use borrow.Author.Tests.{lt-leb, le-leb, lt-ltb, le-ltb}
 use Rattle.registers.specs.Check.{passed, check, _>>_}
-use Rattle.registers.specs.Number.{decimalOf}
+use Rattle.registers.specs.Number.{decimalOf, scaled}
 use Rattle.registers.specs.NumberParts.{held, valueRead}
 use Rattle.registers.specs.Text.{if_then_else_}
 use Rattle.registers.proofs.number.valued.Statement.{statement}
@@ -11,8 +13,9 @@ use Rattle.registers.proofs.number.valued.Tie as tie
 -- neither the digits nor the exponent are refused
 within : (c : tie.Else2)
     → let a = c .before .before .args in
-    valueRead (a .minus) (a .mantissa) (a .exponent)
-    ≡ passed (decimalOf (a .minus) (a .mantissa .value) (a .mantissa .places) (a .exponent .lowers) (a .exponent .size))
+    valueRead (a .minus) (a .mantissa) (a .exponent) (a .power)
+    ≡ passed
+    (scaled (a .power) (decimalOf (a .minus) (a .mantissa .value) (a .mantissa .places) (a .exponent .lowers) (a .exponent .size)))
 unfolding valueRead check _>>_
 within c =
     let a = c .before .before .args in
@@ -28,28 +31,59 @@ returns-2 c =
     let a = c .before .before .args in
     rw (lt-ltb (a .mantissa .value) held (c .before .if1 .left), lt-leb (a .exponent .size) 9 (c .if2 .taken))
 
-add-t10 : tie.Need-add-t10
-add-t10 c = omega arith
+cast-up : tie.Need-cast-up
+cast-up c = search needs
+
+cast-down : tie.Need-cast-down
+cast-down c = search needs
+
+add-t13 : tie.Need-add-t13
+add-t13 c = omega arith
+
+add-t14 : tie.Need-add-t14
+add-t14 c = search needs
 
 returns-3 : tie.Need-returns-3
-unfolding decimalOf if_then_else_
-returns-3 c = rw (within (c .before), c .if3 .taken)
+unfolding decimalOf scaled if_then_else_
+returns-3 c =
+    let e = c .before .before .before in
+    rw (within e, c .if3 .taken, zero-add (e .before .before .args .power .up))
 
 above-requires : tie.Need-above-requires
 above-requires c κs = tt
 
-cast-t13 : tie.Need-cast-t13
-cast-t13 c = rw (c .above .ensures) (omega arith)
+cast-t17 : tie.Need-cast-t17
+cast-t17 c = rw (c .above .ensures) (omega arith)
+
+add-t18 : tie.Need-add-t18
+add-t18 c = search needs
 
 above-requires-2 : tie.Need-above-requires-2
 above-requires-2 c κs = tt
 
+add-t20 : tie.Need-add-t20
+add-t20 c = search needs
+
 returns-4 : tie.Need-returns-4
-unfolding decimalOf if_then_else_
+unfolding decimalOf scaled if_then_else_
 returns-4 c =
     let e = c .before .before in
-    rw (within (e .before), e .if3 .left, c .before .above .ensures, c .above2 .ensures)
+    rw (within (e .before .before .before), e .if3 .left, c .before .above .ensures, c .above2 .ensures)
 
 pub valued-spec : {M : Type 1} → statement M
 valued-spec =
-    tie.close (tie.spec returns returns-2 add-t10 returns-3 above-requires cast-t13 above-requires-2 returns-4)
+    tie.close
+    (tie.spec
+    returns
+    returns-2
+    cast-up
+    cast-down
+    add-t13
+    add-t14
+    returns-3
+    above-requires
+    cast-t17
+    add-t18
+    above-requires-2
+    add-t20
+    returns-4)
