@@ -6,6 +6,7 @@
 
 use crate::error::Error;
 use crate::settings::Setting;
+use crate::status::SetName;
 use crate::text::{is_white_space, read_name, Spelling, Word};
 
 /// A row of 01 or 02: a setting, a register or a common command, in its setting and its query form.
@@ -13,8 +14,8 @@ use crate::text::{is_white_space, read_name, Spelling, Word};
 pub enum Row {
     Setting(Setting),
     Register(Register),
-    Condition,
-    Event,
+    Condition(SetName),
+    Event(SetName),
     ErrorQueue,
     EventStatus,
     StatusByte,
@@ -31,9 +32,9 @@ pub enum Row {
 pub enum Register {
     EventStatusEnable,
     ServiceRequestEnable,
-    OperationEnable,
-    NegativeTransition,
-    PositiveTransition,
+    Enable(SetName),
+    NegativeTransition(SetName),
+    PositiveTransition(SetName),
 }
 
 impl Row {
@@ -84,12 +85,12 @@ pub enum Place {
     Exam,
     ErrorQueue,
     Status,
-    Operation,
-    Condition,
-    Event,
-    Enable,
-    NegativeTransition,
-    PositiveTransition,
+    RegisterSet(SetName),
+    Condition(SetName),
+    Event(SetName),
+    Enable(SetName),
+    NegativeTransition(SetName),
+    PositiveTransition(SetName),
     /// Where no row leads.
     Nowhere,
 }
@@ -158,14 +159,24 @@ static SYSTEM: [Branch; 3] = [
     branch("KLOCk", Place::KeyLock),
     branch("EXAM", Place::Exam),
 ];
-static STATUS: [Branch; 1] = [branch("OPERation", Place::Operation)];
-static OPERATION: [Branch; 5] = [
-    branch("CONDition", Place::Condition),
-    branch("EVENt", Place::Event),
-    branch("ENABle", Place::Enable),
-    branch("NTRansition", Place::NegativeTransition),
-    branch("PTRansition", Place::PositiveTransition),
+static STATUS: [Branch; 3] = [
+    branch("OPERation", Place::RegisterSet(SetName::Operation)),
+    branch("LOCK", Place::RegisterSet(SetName::Lock)),
+    branch("WARNing", Place::RegisterSet(SetName::Warning)),
 ];
+static OPERATION: [Branch; 5] = register_set(SetName::Operation);
+static LOCK: [Branch; 5] = register_set(SetName::Lock);
+static WARNING: [Branch; 5] = register_set(SetName::Warning);
+
+const fn register_set(name: SetName) -> [Branch; 5] {
+    [
+        branch("CONDition", Place::Condition(name)),
+        branch("EVENt", Place::Event(name)),
+        branch("ENABle", Place::Enable(name)),
+        branch("NTRansition", Place::NegativeTransition(name)),
+        branch("PTRansition", Place::PositiveTransition(name)),
+    ]
+}
 
 static COMMON: [(Word, Row); 10] = [
     (Word::new("IDN"), Row::Identification),
@@ -200,7 +211,9 @@ impl Place {
             Place::Display => &DISPLAY,
             Place::System => &SYSTEM,
             Place::Status => &STATUS,
-            Place::Operation => &OPERATION,
+            Place::RegisterSet(SetName::Operation) => &OPERATION,
+            Place::RegisterSet(SetName::Lock) => &LOCK,
+            Place::RegisterSet(SetName::Warning) => &WARNING,
             _ => &[],
         }
     }
@@ -228,11 +241,11 @@ impl Place {
             Place::KeyLock => Row::Setting(Setting::KeyLock),
             Place::Exam => Row::Setting(Setting::Exam),
             Place::ErrorQueue => Row::ErrorQueue,
-            Place::Operation | Place::Event => Row::Event,
-            Place::Condition => Row::Condition,
-            Place::Enable => Row::Register(Register::OperationEnable),
-            Place::NegativeTransition => Row::Register(Register::NegativeTransition),
-            Place::PositiveTransition => Row::Register(Register::PositiveTransition),
+            Place::RegisterSet(name) | Place::Event(name) => Row::Event(name),
+            Place::Condition(name) => Row::Condition(name),
+            Place::Enable(name) => Row::Register(Register::Enable(name)),
+            Place::NegativeTransition(name) => Row::Register(Register::NegativeTransition(name)),
+            Place::PositiveTransition(name) => Row::Register(Register::PositiveTransition(name)),
             _ => return None,
         })
     }

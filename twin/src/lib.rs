@@ -21,6 +21,6 @@ pub use answer::{Answer, ANSWER_LIMIT};
 pub use line::{Line, LINE_LIMIT};
 pub use settings::{Settings, SETTINGS};
 pub use state::{Refusal, State};
-pub use status::{Status, QUEUE_LIMIT};
+pub use status::{RegisterSet, SetName, Status, QUEUE_LIMIT};
 pub use text::find;
 pub use unit::Instrument;

@@ -25,7 +25,7 @@ const LIMIT_MODES: Use = Use::Words(&["CONTinuous", "OFF"]);
 /// How many of the headers are 01's own; they come first, and those of 02's requests follow.
 pub const OF_01: usize = 32;
 
-pub static HEADERS: [Printed; 33] = [
+pub static HEADERS: [Printed; 43] = [
     (Some(0), "OUTPut[:STATe]", Use::Bool),
     (Some(1), "OUTPut:PON", Use::Bool),
     (Some(2), "OUTPut:RELay", Use::Bool),
@@ -87,6 +87,16 @@ pub static HEADERS: [Printed; 33] = [
     (None, "*STB", Use::QueryOnly),
     (None, "*CLS", Use::CommandOnly),
     (Some(16), "SYSTem:EXAM", Use::Bool),
+    (None, "STATus:LOCK:CONDition", Use::QueryOnly),
+    (None, "STATus:LOCK[:EVENt]", Use::QueryOnly),
+    (None, "STATus:LOCK:ENABle", Use::Register(32_767)),
+    (None, "STATus:LOCK:NTRansition", Use::Register(32_767)),
+    (None, "STATus:LOCK:PTRansition", Use::Register(32_767)),
+    (None, "STATus:WARNing:CONDition", Use::QueryOnly),
+    (None, "STATus:WARNing[:EVENt]", Use::QueryOnly),
+    (None, "STATus:WARNing:ENABle", Use::Register(32_767)),
+    (None, "STATus:WARNing:NTRansition", Use::Register(32_767)),
+    (None, "STATus:WARNing:PTRansition", Use::Register(32_767)),
 ];
 
 /// The suffixes that a setting's numbers take (02, #101), each with its power of ten.

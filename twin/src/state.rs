@@ -1,9 +1,9 @@
-//! The five events and the four refusals.
+//! The events and the four refusals.
 
 use crate::answer::{Answer, ANSWER_LIMIT};
 use crate::error::Error;
 use crate::line::{Line, LINE_LIMIT};
-use crate::status::FIFTEEN_BITS;
+use crate::status::{SetName, FIFTEEN_BITS};
 use crate::text::{find, NEWLINE};
 use crate::unit::Instrument;
 
@@ -80,13 +80,13 @@ impl State {
         }
     }
 
-    /// Reports the operation condition register.
-    pub fn condition(&mut self, value: u16) -> Result<(), Refusal> {
+    /// Reports the condition register of one set.
+    pub fn condition(&mut self, name: SetName, value: u16) -> Result<(), Refusal> {
         self.must_be_the_boxs()?;
         if value > FIFTEEN_BITS {
             return Err(Refusal::ConditionTooLarge);
         }
-        self.instrument.status.report_condition(value);
+        self.instrument.status.report_condition(name, value);
         Ok(())
     }
 

@@ -13,6 +13,65 @@ const SUMMARY: u16 = 1 << 6;
 const EIGHT_BITS: u16 = 255;
 pub const FIFTEEN_BITS: u16 = 32_767;
 
+/// The register sets: STATus:OPERation of 01, STATus:LOCK and STATus:WARNing of 02, #104.
+#[derive(Clone, Copy, Debug, PartialEq, Eq)]
+pub enum SetName {
+    Operation,
+    Lock,
+    Warning,
+}
+
+impl SetName {
+    pub const ALL: [SetName; 3] = [SetName::Operation, SetName::Lock, SetName::Warning];
+
+    /// Where the set's summary stands in the status byte: for lock and warning, Table 2.1 of
+    /// source document 000 decides.
+    fn summary_bit(self) -> u16 {
+        match self {
+            SetName::Operation => 7,
+            SetName::Lock => 0,
+            SetName::Warning => 1,
+        }
+    }
+}
+
+/// The registers of one set: condition, event, enable and the two transition filters.
+#[derive(Clone, Debug, PartialEq, Eq)]
+pub struct RegisterSet {
+    pub condition: u16,
+    pub event: u16,
+    pub enable: u16,
+    pub ptr: u16,
+    pub ntr: u16,
+}
+
+impl RegisterSet {
+    const POWER_UP: RegisterSet = RegisterSet {
+        condition: 0,
+        event: 0,
+        enable: 0,
+        ptr: FIFTEEN_BITS,
+        ntr: 0,
+    };
+
+    /// 01, refusal 4: whether no register is above its width.
+    fn keeps_its_width(&self) -> bool {
+        self.condition | self.event | self.enable | self.ptr | self.ntr <= FIFTEEN_BITS
+    }
+
+    /// An event bit is set when its condition bit rises and PTR has it, or falls and NTR has it.
+    fn report_condition(&mut self, value: u16) {
+        let rises = value & !self.condition;
+        let falls = self.condition & !value;
+        self.event |= rises & self.ptr | falls & self.ntr;
+        self.condition = value;
+    }
+
+    fn has_enabled_event(&self) -> bool {
+        self.event & self.enable != 0
+    }
+}
+
 #[derive(Clone, Debug, PartialEq, Eq)]
 pub struct Status {
     /// The event status register, what *ESR? reads.
@@ -21,12 +80,8 @@ pub struct Status {
     pub ese: u16,
     /// What *SRE enables of the status byte.
     pub sre: u16,
-    /// STATus:OPERation: condition, event, enable and the two transition filters.
-    pub condition: u16,
-    pub event: u16,
-    pub enable: u16,
-    pub ptr: u16,
-    pub ntr: u16,
+    /// In the order of [`SetName`].
+    pub sets: [RegisterSet; 3],
     /// How many errors wait.
     pub queued: usize,
     /// Their numbers without the minus, oldest first.
@@ -39,22 +94,25 @@ impl Status {
             esr: POWER_ON,
             ese: 0,
             sre: 0,
-            condition: 0,
-            event: 0,
-            enable: 0,
-            ptr: FIFTEEN_BITS,
-            ntr: 0,
+            sets: [RegisterSet::POWER_UP; 3],
             queued: 0,
             errors: [0; QUEUE_LIMIT],
         }
     }
 
+    pub fn set(&self, name: SetName) -> &RegisterSet {
+        &self.sets[name as usize]
+    }
+
+    pub fn set_mut(&mut self, name: SetName) -> &mut RegisterSet {
+        &mut self.sets[name as usize]
+    }
+
     /// 01, refusal 4, as far as it concerns registers and queue.
     pub(crate) fn could_be_the_boxs(&self) -> bool {
         let eight = self.esr | self.ese | self.sre;
-        let fifteen = self.condition | self.event | self.enable | self.ptr | self.ntr;
         eight <= EIGHT_BITS
-            && fifteen <= FIFTEEN_BITS
+            && self.sets.iter().all(RegisterSet::keeps_its_width)
             && self.sre & SUMMARY == 0
             && self.queue_could_be_the_boxs()
     }
@@ -95,7 +153,9 @@ impl Status {
     /// *CLS.
     pub(crate) fn clear(&mut self) {
         self.esr = 0;
-        self.event = 0;
+        for set in &mut self.sets {
+            set.event = 0;
+        }
         self.queued = 0;
     }
 
@@ -109,18 +169,17 @@ impl Status {
         self.sre = value & !SUMMARY;
     }
 
-    pub(crate) fn report_condition(&mut self, value: u16) {
-        let rises = value & !self.condition;
-        let falls = self.condition & !value;
-        self.event |= rises & self.ptr | falls & self.ntr;
-        self.condition = value;
+    pub(crate) fn report_condition(&mut self, name: SetName, value: u16) {
+        self.set_mut(name).report_condition(value);
     }
 
     pub(crate) fn status_byte(&self, answer_has_bytes: bool) -> u16 {
-        let byte = u16::from(self.event & self.enable != 0) << 7
-            | u16::from(self.esr & self.ese != 0) << 5
+        let mut byte = u16::from(self.esr & self.ese != 0) << 5
             | u16::from(answer_has_bytes) << 4
             | u16::from(self.queued != 0) << 2;
+        for name in SetName::ALL {
+            byte |= u16::from(self.set(name).has_enabled_event()) << name.summary_bit();
+        }
         if byte & self.sre != 0 {
             byte | SUMMARY
         } else {

@@ -154,16 +154,18 @@ impl Instrument {
         };
         let highest = match register {
             Register::EventStatusEnable | Register::ServiceRequestEnable => 255,
-            _ => i32::from(FIFTEEN_BITS),
+            Register::Enable(_)
+            | Register::NegativeTransition(_)
+            | Register::PositiveTransition(_) => i32::from(FIFTEEN_BITS),
         };
         let rounded = number::read(text, None)?.in_steps(Step::One);
         let value = within(0, highest, rounded)? as u16;
         match register {
             Register::EventStatusEnable => self.status.ese = value,
             Register::ServiceRequestEnable => self.status.enable_service_request(value),
-            Register::OperationEnable => self.status.enable = value,
-            Register::NegativeTransition => self.status.ntr = value,
-            Register::PositiveTransition => self.status.ptr = value,
+            Register::Enable(name) => self.status.set_mut(name).enable = value,
+            Register::NegativeTransition(name) => self.status.set_mut(name).ntr = value,
+            Register::PositiveTransition(name) => self.status.set_mut(name).ptr = value,
         }
         Ok(())
     }
@@ -175,7 +177,7 @@ impl Instrument {
         parameters.none()?;
         match row {
             Row::Register(register) => self.answer_register(self.register(register)),
-            Row::Condition => self.answer_register(self.status.condition),
+            Row::Condition(name) => self.answer_register(self.status.set(name).condition),
             Row::StatusByte => {
                 let byte = self.status.status_byte(self.answer.has_bytes());
                 self.answer_register(byte)
@@ -190,9 +192,9 @@ impl Instrument {
     /// The queries that change something, which they may only once their answer fits.
     fn answer_and_clear(&mut self, row: Row) -> Result<(), Error> {
         match row {
-            Row::Event => {
-                self.answer_register(self.status.event)?;
-                self.status.event = 0;
+            Row::Event(name) => {
+                self.answer_register(self.status.set(name).event)?;
+                self.status.set_mut(name).event = 0;
             }
             Row::EventStatus => {
                 self.answer_register(self.status.esr)?;
@@ -211,9 +213,9 @@ impl Instrument {
         match register {
             Register::EventStatusEnable => self.status.ese,
             Register::ServiceRequestEnable => self.status.sre,
-            Register::OperationEnable => self.status.enable,
-            Register::NegativeTransition => self.status.ntr,
-            Register::PositiveTransition => self.status.ptr,
+            Register::Enable(name) => self.status.set(name).enable,
+            Register::NegativeTransition(name) => self.status.set(name).ntr,
+            Register::PositiveTransition(name) => self.status.set(name).ptr,
         }
     }
 

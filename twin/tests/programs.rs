@@ -68,6 +68,9 @@ fn bench24_ends_at_a_failed_write() {
     assert!(!child.wait().unwrap().success());
 }
 
+/// Lock's and warning's registers at power-up.
+const SETS: &str = "0 0 0 32767 0 0 0 0 32767 0";
+
 fn play(script: &str) -> Vec<String> {
     let reports = run(PLAYER, &[], script.as_bytes());
     reports.lines().map(str::to_string).collect()
@@ -86,10 +89,10 @@ fn player_events() {
         "t 2 0 -".to_string(),
         "c 0".to_string(),
         "c 3".to_string(),
-        format!("s {reset} 132 0 0 5 5 0 32767 0 420 0 - -"),
+        format!("s {reset} 132 0 0 5 5 0 32767 0 420 0 - - {SETS}"),
         "u".to_string(),
         "p 0 0".to_string(),
-        format!("s {reset} 128 0 0 0 0 0 32767 0 - 0 2A4944 -"),
+        format!("s {reset} 128 0 0 0 0 0 32767 0 - 0 2A4944 - {SETS}"),
     ];
     assert_eq!(play(script), expected);
 }
@@ -108,17 +111,33 @@ fn player_hand_made_records() {
     assert_eq!(reports[4], "c 4");
     assert_eq!(reports[6], "l 0 0");
     let queue = "101,0,0,0,0,0,0,0,0,0,0,0,0,0,0,0";
-    assert_eq!(reports[9], format!("s {settings} {rest} {queue} 0 - -"));
+    assert_eq!(
+        reports[9],
+        format!("s {settings} {rest} {queue} 0 - - {SETS}")
+    );
     assert_eq!(reports[12], "l 0 4");
     let zeros = "00".repeat(512);
     assert_eq!(
         reports[14],
-        format!("s {settings} {rest} 101,350 0 {zeros} -")
+        format!("s {settings} {rest} 101,350 0 {zeros} - {SETS}")
     );
     assert_eq!(
         reports[17],
-        format!("s {settings} {rest} 101,350 0 0000 000000")
+        format!("s {settings} {rest} 101,350 0 0000 000000 {SETS}")
     );
+}
+
+#[test]
+fn player_lock_and_warning() {
+    let script = "k 5\nw 6\nk 32768\nw 65535\ns\nx lock_event 1\nx lock_enable 2\nx lock_ptr 3\n\
+                  x lock_ntr 4\nx lock_condition 7\nx warning_event 11\nx warning_enable 12\n\
+                  x warning_ptr 13\nx warning_ntr 14\nx warning_condition 17\ns\n\
+                  x lock_ntr 32768\nk 1\nw 1\nc 1\nl";
+    let reports = play(script);
+    assert_eq!(reports[..4], ["k 0", "w 0", "k 3", "w 3"]);
+    assert!(reports[4].ends_with(" 0 0 0 32767 0 - 0 - - 5 5 0 32767 0 6 6 0 32767 0"));
+    assert!(reports[15].ends_with(" 0 0 0 32767 0 - 0 - - 7 1 2 3 4 17 11 12 13 14"));
+    assert_eq!(reports[16..], ["x", "k 4", "w 4", "c 4", "l 4 0"]);
 }
 
 #[test]
@@ -143,6 +162,11 @@ fn player_on_what_it_cannot_read() {
         "c",
         "c 65536",
         "c x",
+        "k",
+        "k 65536",
+        "w ",
+        "w -1",
+        "k 1 1",
         "l 1",
         "s 1",
         "x",
@@ -151,6 +175,12 @@ fn player_on_what_it_cannot_read() {
         "x esr 65536",
         "x esr -1",
         "x foo 1",
+        "x lock 1",
+        "x lock_ 1",
+        "x lock_esr 1",
+        "x lock_ptr 65536",
+        "x warn_ptr 1",
+        "x operation_ptr 1",
         "x setting.17 0",
         "x setting.01 0",
         "x setting. 0",
@@ -175,6 +205,8 @@ fn player_on_what_it_cannot_read() {
         "t 4096",
         "x setting.0 -2147483648",
         "x setting.16 1",
+        "k 32768",
+        "w 65535",
         "x queued 65535",
     ];
     assert!(play(&readable.join("\n"))
@@ -187,7 +219,7 @@ fn player_takes_long_lines() {
     let script = format!("p {}\ns", "41".repeat(20_000));
     let reports = play(&script);
     assert_eq!(reports[0], "p 0 0");
-    assert!(reports[1].ends_with(&format!(" - 1 {} -", "41".repeat(512))));
+    assert!(reports[1].ends_with(&format!(" - 1 {} - {SETS}", "41".repeat(512))));
 }
 
 #[test]

@@ -5,9 +5,9 @@ mod bench;
 
 use bench::*;
 use twin::paper::{nodes, suffixes, Use, HEADERS};
-use twin::{State, SETTINGS};
+use twin::{SetName, State, SETTINGS};
 
-static UNITS: [&str; 71] = [
+static UNITS: [&str; 75] = [
     "VOLT 5",
     "VOLT 12.04",
     "VOLT 12.05",
@@ -63,6 +63,10 @@ static UNITS: [&str; 71] = [
     "*TST?",
     "STAT:OPER?",
     "STAT:OPER:ENAB 5",
+    "STAT:LOCK:ENAB 5",
+    "STAT:LOCK?",
+    "STAT:WARN:PTR 3",
+    "WARN?",
     "ENAB?",
     "PTR 3",
     "NTR 3",
@@ -445,6 +449,8 @@ fn refused_line_is_its_first_units() {
             if dice.below(3) > 0 {
                 bench.answer();
             }
+            let name = *dice.pick(&SetName::ALL);
+            bench.state.condition(name, dice.below(8) as u16).unwrap();
         }
     }
     assert!(refused_lines > 5000);
@@ -489,7 +495,8 @@ fn nothing_panics() {
             let result = state.piece(&piece);
             assert!(result.is_err() || result == Ok(newlines));
             let _ = state.take(&mut vec![0; dice.below(1100)]);
-            let _ = state.condition(dice.below(65_536) as u16);
+            let name = *dice.pick(&SetName::ALL);
+            let _ = state.condition(name, dice.below(65_536) as u16);
             let _ = state.look();
         }
     }
@@ -514,7 +521,7 @@ fn overwrite_something(state: &mut State, dice: &mut Dice) {
         2 => status.errors[dice.below(16)] = odd as u16,
         3 => status.esr = odd as u16,
         4 => status.sre = odd as u16,
-        5 => status.ptr = odd as u16,
+        5 => status.set_mut(*dice.pick(&SetName::ALL)).ptr = odd as u16,
         6 => state.line.length = odd,
         _ => state.instrument.answer.length = odd,
     }

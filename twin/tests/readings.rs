@@ -4,7 +4,7 @@
 mod bench;
 
 use bench::*;
-use twin::{Refusal, State};
+use twin::{Refusal, SetName, State};
 
 mod lines_and_units {
     use super::*;
@@ -377,7 +377,7 @@ mod answers_status_queue {
         let mut bench = after("FOO");
         bench.send(units(&[(46, "*IDN?"), (1, "SYST:ERR?")]));
         assert_eq!(bench.errors(), [113, 430]);
-        bench.state.condition(1).unwrap();
+        bench.state.condition(SetName::Operation, 1).unwrap();
         let before = bench.state.instrument.status.clone();
         bench.send(units(&[
             (46, "*IDN?"),
@@ -387,7 +387,10 @@ mod answers_status_queue {
         ]));
         assert_eq!(bench.esr(), before.esr);
         bench.send(units(&[(46, "*IDN?"), (3, "VOLT?"), (1, "STAT:OPER?")]));
-        assert_eq!(bench.state.instrument.status.event, 1);
+        assert_eq!(
+            bench.state.instrument.status.set(SetName::Operation).event,
+            1
+        );
         assert_eq!(bench.errors(), [113, 430, 430, 430]);
     }
 
@@ -413,9 +416,12 @@ mod answers_status_queue {
     #[test]
     fn transition_filters_make_no_event() {
         let mut bench = after("STAT:OPER:PTR 0");
-        bench.state.condition(3).unwrap();
+        bench.state.condition(SetName::Operation, 3).unwrap();
         bench.send("STAT:OPER:PTR 3;NTR 3");
-        assert_eq!(bench.state.instrument.status.event, 0);
+        assert_eq!(
+            bench.state.instrument.status.set(SetName::Operation).event,
+            0
+        );
     }
 
     #[test]

@@ -3,7 +3,7 @@
 mod bench;
 
 use bench::*;
-use twin::{Refusal, State};
+use twin::{Refusal, RegisterSet, SetName, State, Status};
 
 #[test]
 fn one_buffer_too_short() {
@@ -38,12 +38,15 @@ fn two_no_answer_waits() {
 
 #[test]
 fn three_condition_too_large() {
-    let mut state = after("STAT:OPER:NTR 32767").state;
-    assert_eq!(state.condition(32_767), Ok(()));
-    let before = state.clone();
-    for value in [32_768, 40_000, u16::MAX] {
-        assert_eq!(state.condition(value), Err(Refusal::ConditionTooLarge));
-        assert_eq!(state, before);
+    for (name, set) in SetName::ALL.into_iter().zip(["OPER", "LOCK", "WARN"]) {
+        let mut state = after(format!("STAT:{set}:NTR 32767")).state;
+        assert_eq!(state.condition(name, 32_767), Ok(()));
+        let before = state.clone();
+        for value in [32_768, 40_000, u16::MAX] {
+            let refusal = Err(Refusal::ConditionTooLarge);
+            assert_eq!(state.condition(name, value), refusal);
+            assert_eq!(state, before);
+        }
     }
     assert_eq!(Refusal::ConditionTooLarge.number(), 3);
 }
@@ -58,8 +61,10 @@ fn refused_by_four(state: &State) {
     assert_eq!(played.piece(b"VOLT?\n\n"), Err(Refusal::NotTheBoxs));
     assert_eq!(played.take(&mut buffer), Err(Refusal::NotTheBoxs));
     assert_eq!(played.take(&mut []), Err(Refusal::NotTheBoxs));
-    assert_eq!(played.condition(1), Err(Refusal::NotTheBoxs));
-    assert_eq!(played.condition(u16::MAX), Err(Refusal::NotTheBoxs));
+    for name in SetName::ALL {
+        assert_eq!(played.condition(name, 1), Err(Refusal::NotTheBoxs));
+        assert_eq!(played.condition(name, u16::MAX), Err(Refusal::NotTheBoxs));
+    }
     assert_eq!(played.look(), Err(Refusal::NotTheBoxs));
     assert_eq!(buffer, [0xAA; 2000]);
     assert_eq!(&played, state);
@@ -74,7 +79,9 @@ fn not_refused_by_four(state: &State) {
     assert!(played.look().is_ok());
     let mut played = state.clone();
     assert_ne!(played.take(&mut [0; 2000]), Err(Refusal::NotTheBoxs));
-    assert_eq!(played.condition(1), Ok(()));
+    for name in SetName::ALL {
+        assert_eq!(played.condition(name, 1), Ok(()));
+    }
 }
 
 fn overwritten(change: impl Fn(&mut State)) -> State {
@@ -132,23 +139,37 @@ fn four_voltage_and_range() {
 
 #[test]
 fn four_registers() {
-    type Register = fn(&mut State) -> &mut u16;
-    let registers: [(Register, u16); 8] = [
-        (|state| &mut state.instrument.status.esr, 255),
-        (|state| &mut state.instrument.status.ese, 255),
-        (|state| &mut state.instrument.status.sre, 191),
-        (|state| &mut state.instrument.status.condition, 32_767),
-        (|state| &mut state.instrument.status.event, 32_767),
-        (|state| &mut state.instrument.status.enable, 32_767),
-        (|state| &mut state.instrument.status.ptr, 32_767),
-        (|state| &mut state.instrument.status.ntr, 32_767),
+    type Register = fn(&mut Status) -> &mut u16;
+    let registers: [(Register, u16); 3] = [
+        (|status| &mut status.esr, 255),
+        (|status| &mut status.ese, 255),
+        (|status| &mut status.sre, 191),
     ];
     for (register, highest) in registers {
-        let with = |value| overwritten(|state| *register(state) = value);
+        let with = |value| overwritten(|state| *register(&mut state.instrument.status) = value);
         not_refused_by_four(&with(0));
         not_refused_by_four(&with(highest));
         refused_by_four(&with(u16::MAX));
-        refused_by_four(&with(if highest == 191 { 256 } else { highest + 1 }));
+        refused_by_four(&with(256));
+    }
+    type SetRegister = fn(&mut RegisterSet) -> &mut u16;
+    let registers: [SetRegister; 5] = [
+        |set| &mut set.condition,
+        |set| &mut set.event,
+        |set| &mut set.enable,
+        |set| &mut set.ptr,
+        |set| &mut set.ntr,
+    ];
+    for name in SetName::ALL {
+        for register in registers {
+            let with = |value| {
+                overwritten(|state| *register(state.instrument.status.set_mut(name)) = value)
+            };
+            not_refused_by_four(&with(0));
+            not_refused_by_four(&with(32_767));
+            refused_by_four(&with(32_768));
+            refused_by_four(&with(u16::MAX));
+        }
     }
     for value in 0..=255 {
         let state = overwritten(|state| state.instrument.status.sre = value);

@@ -199,6 +199,124 @@ mod zero_point_four_is_off {
     }
 }
 
+/// #104: the register sets of lock and warning.
+mod lock_and_warning_registers {
+    use super::*;
+    use twin::SetName;
+
+    const SETS: [(SetName, &str, u8); 3] = [
+        (SetName::Operation, "OPER", 128),
+        (SetName::Lock, "LOCK", 1),
+        (SetName::Warning, "WARN", 2),
+    ];
+
+    #[test]
+    fn summaries_by_table_2_1() {
+        for (name, header, weight) in SETS {
+            let mut bench = after(format!("STAT:{header}:ENAB 5"));
+            bench.state.condition(name, 4).unwrap();
+            assert_eq!(bench.ask("*STB?"), Some(weight.to_string()));
+            assert_eq!(bench.state.look(), Ok(weight));
+            bench.send(format!("*SRE {weight}"));
+            assert_eq!(bench.state.look(), Ok(weight + 64));
+            // A summary is event AND enable.
+            bench.send(format!("STAT:{header}:ENAB 2"));
+            assert_eq!(bench.state.look(), Ok(0));
+        }
+        let mut bench = after("STAT:LOCK:ENAB 1;*SRE 1");
+        bench.state.condition(SetName::Lock, 1).unwrap();
+        assert_eq!(bench.state.look(), Ok(65));
+    }
+
+    #[test]
+    fn bit_three_stays_zero() {
+        let mut bench = after("*SRE 255;*ESE 255");
+        for (name, header, _) in SETS {
+            bench.send(format!("STAT:{header}:ENAB 32767;NTR 32767"));
+            bench.state.condition(name, 32_767).unwrap();
+        }
+        bench.send("FOO");
+        bench.send("VOLT?");
+        assert_eq!(bench.state.look(), Ok(255 - 8));
+    }
+
+    #[test]
+    fn five_commands_each() {
+        for (name, header, _) in SETS {
+            let registers = format!("STAT:{header}:COND?;EVEN?;ENAB?;NTR?;PTR?");
+            answers(&registers, "0;0;0;0;32767");
+            let mut bench = after(format!("STAT:{header}:ENAB 3;NTR 4;PTR 5"));
+            bench.state.condition(name, 7).unwrap();
+            assert_eq!(bench.ask(&registers).as_deref(), Some("7;5;3;4;5"));
+            assert_eq!(bench.ask(&registers).as_deref(), Some("7;0;3;4;5"));
+            bench.state.condition(name, 0).unwrap();
+            let event = format!("STAT:{header}?;{header}:EVEN?");
+            assert_eq!(bench.ask(event).as_deref(), Some("4;0"));
+            refused(format!("STAT:{header} 1"), 113);
+            refused(format!("STAT:{header}:COND 1"), 113);
+            refused(format!("STAT:{header}:ENAB 32767.5"), 222);
+            refused(format!("STAT:{header}:PTR MAX"), 141);
+        }
+        refused("STAT:LOC?", 113);
+        refused("STAT:WARNI?", 113);
+        refused_after("STAT:LOCK?", "COND?", 113);
+        answers("status:lock:event?;:STATus:WARNing:EVENt?;COND?", "0;0;0");
+    }
+
+    #[test]
+    fn a_report_reaches_only_its_own_set() {
+        for (name, ..) in SETS {
+            let mut bench = Bench::power_up();
+            let mut expected = bench.state.clone();
+            bench.state.condition(name, 21).unwrap();
+            expected.instrument.status.set_mut(name).condition = 21;
+            expected.instrument.status.set_mut(name).event = 21;
+            assert!(same(&bench.state, &expected));
+        }
+    }
+
+    #[test]
+    fn transitions() {
+        for (name, header, _) in SETS {
+            let mut bench = after(format!("STAT:{header}:PTR 6;NTR 12"));
+            let mut report = |value| {
+                bench.state.condition(name, value).unwrap();
+                bench.state.instrument.status.set(name).event
+            };
+            assert_eq!(report(0b0011), 0b0010);
+            assert_eq!(report(0b1100), 0b0110);
+            assert_eq!(report(0), 0b1110);
+        }
+    }
+
+    #[test]
+    fn clear_clears_all_three_events() {
+        let mut bench = after("STAT:LOCK:ENAB 1;NTR 2;:STAT:WARN:ENAB 3;PTR 7");
+        for (name, ..) in SETS {
+            bench.state.condition(name, 7).unwrap();
+        }
+        let mut expected = bench.state.clone();
+        bench.send("*CLS");
+        expected.instrument.status.esr = 0;
+        for (name, ..) in SETS {
+            expected.instrument.status.set_mut(name).event = 0;
+        }
+        assert!(same(&bench.state, &expected));
+    }
+
+    #[test]
+    fn a_query_that_does_not_fit_clears_nothing() {
+        for (name, header, _) in SETS {
+            let mut bench = Bench::power_up();
+            bench.state.condition(name, 1).unwrap();
+            let filling = ["*IDN?;".repeat(46), "VOLT?;".repeat(3)].concat();
+            bench.send(format!("{filling}STAT:{header}?"));
+            assert_eq!(bench.errors(), [430]);
+            assert_eq!(bench.state.instrument.status.set(name).event, 1);
+        }
+    }
+}
+
 /// #107: exam mode, in which an off-step number on a settings row is out of range.
 mod exam_mode {
     use super::*;

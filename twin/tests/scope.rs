@@ -4,6 +4,7 @@
 mod bench;
 
 use bench::*;
+use twin::SetName;
 
 #[test]
 fn proved_lines_to_try() {
@@ -126,12 +127,12 @@ fn common_commands() {
 #[test]
 fn clear() {
     let mut bench = after("*ESE 60;*SRE 255;STAT:OPER:ENAB 3;NTR 4;PTR 5;:VOLT 5");
-    bench.state.condition(5).unwrap();
+    bench.state.condition(SetName::Operation, 5).unwrap();
     bench.send("FOO");
     let mut expected = bench.state.clone();
     bench.send("*CLS");
     expected.instrument.status.esr = 0;
-    expected.instrument.status.event = 0;
+    expected.instrument.status.set_mut(SetName::Operation).event = 0;
     expected.instrument.status.queued = 0;
     assert!(same(&bench.state, &expected));
 }
@@ -139,11 +140,17 @@ fn clear() {
 #[test]
 fn transitions() {
     let mut bench = after("STAT:OPER:PTR 6;NTR 12");
-    bench.state.condition(0b0011).unwrap();
-    assert_eq!(bench.state.instrument.status.event, 0b0010);
-    bench.state.condition(0b1100).unwrap();
-    assert_eq!(bench.state.instrument.status.event, 0b0110);
-    bench.state.condition(0).unwrap();
+    bench.state.condition(SetName::Operation, 0b0011).unwrap();
+    assert_eq!(
+        bench.state.instrument.status.set(SetName::Operation).event,
+        0b0010
+    );
+    bench.state.condition(SetName::Operation, 0b1100).unwrap();
+    assert_eq!(
+        bench.state.instrument.status.set(SetName::Operation).event,
+        0b0110
+    );
+    bench.state.condition(SetName::Operation, 0).unwrap();
     let answer = bench.ask("STAT:OPER:COND?;EVEN?;EVEN?");
     assert_eq!(answer.as_deref(), Some("0;14;0"));
 }
@@ -151,7 +158,7 @@ fn transitions() {
 #[test]
 fn status_byte_bits() {
     let mut bench = after("STAT:OPER:ENAB 1");
-    bench.state.condition(1).unwrap();
+    bench.state.condition(SetName::Operation, 1).unwrap();
     assert_eq!(bench.state.look(), Ok(128));
     bench.send("*SRE 128");
     assert_eq!(bench.state.look(), Ok(128 + 64));

@@ -9,7 +9,7 @@ use Rattle.registers.specs.Rounding.{switchedOn, nearest, sizeIn, rounded, size
 use Rattle.registers.specs.Answer.{inPlaces, decimal, tenths}
 use Rattle.registers.specs.Errors.{eventBit}
 use Rattle.registers.specs.Settings.{table, settingAt, atReset, wideRange, lowest, highest, within, conflict, examined, accepted, answerOf}
-use Rattle.registers.specs.Status.{raised, summary, statusByte, storedIn, registerIn, atStart}
+use Rattle.registers.specs.Status.{raised, setBits, summary, statusByte, storedIn, registerIn, atStart}
 use Rattle.interpreter.specs.Cuts.{cutAt, trimEnd, trim}
 use Rattle.interpreter.specs.Header.{name, placed, header, spells}
 use Rattle.interpreter.specs.Rows.{settingRows, otherRows, rows, fitsRow, findRow}
@@ -25,7 +25,7 @@ pub all-hold : AllHold
 unfolding if_then_else_ bytes same white printable digit letter wordByte small capital _>>=_ _>>_ check shortForm longForm matches
     afterSign fractionOf afterFraction exponentOf afterExponent lowering written numeralFrom decimalOf valueOf scaled suffixes noSuffix powerIn remains number
     switchedOn nearest sizeIn rounded sizeSide sideIn inPlaces decimal tenths eventBit
-    table settingAt atReset wideRange lowest highest within conflict examined accepted answerOf raised summary statusByte storedIn registerIn atStart
+    table settingAt atReset wideRange lowest highest within conflict examined accepted answerOf raised setBits summary statusByte storedIn registerIn atStart
     cutAt trimEnd trim name placed header spells settingRows otherRows rows fitsRow findRow
     parameters least greatest findWord parameter valueGiven settingDeed limitDeed registerDeed deedOf readUnit powerUp
     changed replyTo inquiryReply joined fitsAnswer reply perform

@@ -22,7 +22,7 @@ use Rattle.registers.proofs.status.Possible.{raised-good, completed-good, event
 use Rattle.interpreter.specs.Box.{Core, Box, box, withSettings, withRegisters, withLine, withAnswer, answerIs, raise, powerUp, mostLine, mostAnswer}
 use Rattle.interpreter.specs.Unit.{Read, readUnit}
 use Rattle.interpreter.specs.UnitParts.{Allowed, AllowedChange}
-use Rattle.interpreter.specs.Deeds.{changed, operationCleared, afterQuery, afterInquiry, joined, fitsAnswer, reply, perform}
+use Rattle.interpreter.specs.Deeds.{changed, setCleared, allCleared, afterQuery, afterInquiry, joined, fitsAnswer, reply, perform}
 use Rattle.interpreter.specs.Line.{Obeyed, attempt, refuse, next, runUnits, unitsOf, interrupted, finished, runLine, endLine, held, byte, piece}
 use Rattle.interpreter.specs.Events.{Event, started, received, take, condition, look, Happened, taken, reported, happens, possibleCore, possible, after}
 use Rattle.interpreter.specs.declared.deed.Deed.{Deed}
@@ -30,7 +30,7 @@ use Rattle.interpreter.specs.declared.deed.Deed.the-variants.{Change, Co
 use Rattle.interpreter.specs.declared.deed.Change as changes
 use Rattle.interpreter.specs.declared.deed.Change.the-variants.{Nothing, Put, Reset, Store}
 use Rattle.interpreter.specs.declared.deed.Query as queries
-use Rattle.interpreter.specs.declared.deed.Query.the-variants.{Identity, SelfTest, Completed, Limit, Value, Stored, Condition, OperationEvents}
+use Rattle.interpreter.specs.declared.deed.Query.the-variants.{Identity, SelfTest, Completed, Limit, Value, Stored, Condition, SetEvents}
 use Rattle.interpreter.specs.declared.deed.Inquiry as inquiries
 use Rattle.interpreter.specs.declared.deed.Inquiry.the-variants.{StandardEvents, StatusByte, NextError}
 use Rattle.interpreter.proofs.Choices.{if-elim}
@@ -88,8 +88,8 @@ change-fit k (Put i v side) c a f =
 change-fit k Reset c a f = fit-settings k c f atReset (limits.good-from atReset reset-possible) reset-long
 change-fit k (Store x n side) c a f = fit-registers k c f _ (stored-fit x n (c .registers) a (f .registers))
 
-cleared-fit : (k : ℕ) (c : Core) → FitCore k c → FitCore k (operationCleared c)
-cleared-fit k c f = fit-registers k c f _ (read-fit (c .registers) (f .registers))
+cleared-fit : (k : ℕ) (c : Core) → FitCore k c → FitCore k (allCleared c)
+cleared-fit k c f = fit-registers k c f _ (status.cleared-fit (c .registers) (f .registers))
 
 query-fit : (k : ℕ) (q : queries.Query) (c : Core) → FitCore k c → FitCore k (afterQuery q c)
 query-fit k Identity c f = f
@@ -98,8 +98,8 @@ query-fit k Completed c f = f
 query-fit k (Limit i v) c f = f
 query-fit k (Value i) c f = f
 query-fit k (Stored x) c f = f
-query-fit k Condition c f = f
-query-fit k OperationEvents c f = cleared-fit k c f
+query-fit k (Condition x) c f = f
+query-fit k (SetEvents x) c f = fit-registers k c f _ (read-fit x (c .registers) (f .registers))
 
 inquiry-good : (q : inquiries.Inquiry) (t : Trouble) → status.Good t → status.Good (afterInquiry q t)
 inquiry-good StandardEvents t g = events-good t g
@@ -243,10 +243,10 @@ event-fit b (received xs) f = piece-fit b xs f
 event-fit b (take buffer) f =
     if-elim FitHappened (empty (b .core .answer)) (λ _. raise-fit 420 mostAnswer b refl f)
     (λ _. if-elim FitHappened (leb (length (b .core .answer)) (length buffer)) (λ _. dropped-fit mostAnswer mostAnswer b f) (λ _. f))
-event-fit b (condition n) f =
+event-fit b (condition x n) f =
     if-elim FitHappened (leb n widestGroup)
     (λ e. fit mostAnswer _ _
-    (fit-registers mostAnswer (b .core) (f .core) _ (condition-fit n (b .core .registers) (leb-true n widestGroup e) (f .core .registers)))
+    (fit-registers mostAnswer (b .core) (f .core) _ (condition-fit x n (b .core .registers) (leb-true n widestGroup e) (f .core .registers)))
     (f .trouble))
     (λ _. f)
 event-fit b look f = f

@@ -9,14 +9,15 @@ use Rattle.registers.specs.Check.{Checked, passed, _>>=_, _>>_, check}
 use Rattle.registers.specs.Answer.{decimal}
 use Rattle.registers.specs.Errors.{errorText}
 use Rattle.registers.specs.Settings.{kindOf, valueAt, withValue, atReset, answerOf}
-use Rattle.registers.specs.Status.{Trouble, noTrouble, completed, eventsRead, oldestRead, operationRead, storedIn, registerIn, statusByte}
+use Rattle.registers.specs.Status.{Trouble, noTrouble, completed, eventsRead, oldestRead, groupIn, setRead, allRead, storedIn, registerIn, statusByte}
+use Rattle.registers.specs.declared.status.RegisterSet.{RegisterSet}
 use Rattle.interpreter.specs.Box.{Core, Box, box, withSettings, withRegisters, withAnswer, mostAnswer}
 use Rattle.interpreter.specs.declared.deed.Deed.{Deed}
 use Rattle.interpreter.specs.declared.deed.Deed.the-variants.{Change, Complete, Clear, Query, Inquire}
 use Rattle.interpreter.specs.declared.deed.Change as changes
 use Rattle.interpreter.specs.declared.deed.Change.the-variants.{Nothing, Put, Reset, Store}
 use Rattle.interpreter.specs.declared.deed.Query as queries
-use Rattle.interpreter.specs.declared.deed.Query.the-variants.{Identity, SelfTest, Completed, Limit, Value, Stored, Condition, OperationEvents}
+use Rattle.interpreter.specs.declared.deed.Query.the-variants.{Identity, SelfTest, Completed, Limit, Value, Stored, Condition, SetEvents}
 use Rattle.interpreter.specs.declared.deed.Inquiry as inquiries
 use Rattle.interpreter.specs.declared.deed.Inquiry.the-variants.{StandardEvents, StatusByte, NextError}
 
@@ -38,12 +39,16 @@ replyTo Completed c = bytes "1"
 replyTo (Limit i v) c = answerOf (kindOf i) v
 replyTo (Value i) c = answerOf (kindOf i) (valueAt (c .settings) i)
 replyTo (Stored r) c = decimal (registerIn r (c .registers))
-replyTo Condition c = decimal (c .registers .operation .condition)
-replyTo OperationEvents c = decimal (c .registers .operation .event)
+replyTo (Condition x) c = decimal (groupIn x (c .registers) .condition)
+replyTo (SetEvents x) c = decimal (groupIn x (c .registers) .event)
 
 -- "Reading .. the event register clears it"
-abbrev pub operationCleared : Core → Core
-operationCleared c = withRegisters (operationRead (c .registers)) c
+abbrev pub setCleared : RegisterSet → Core → Core
+setCleared x c = withRegisters (setRead x (c .registers)) c
+
+-- "*CLS clears all three event registers"
+abbrev pub allCleared : Core → Core
+allCleared c = withRegisters (allRead (c .registers)) c
 
 abbrev pub afterQuery : queries.Query → Core → Core
 afterQuery Identity c = c
@@ -52,8 +57,8 @@ afterQuery Completed c = c
 afterQuery (Limit i v) c = c
 afterQuery (Value i) c = c
 afterQuery (Stored r) c = c
-afterQuery Condition c = c
-afterQuery OperationEvents c = operationCleared c
+afterQuery (Condition x) c = c
+afterQuery (SetEvents x) c = setCleared x c
 
 -- ---- the three that see the trouble: *ESR? clears what it reads, *STB? changes nothing, SYSTem:ERRor? "removes the oldest"
 
@@ -86,6 +91,6 @@ reply t c = check 430 (fitsAnswer (c .answer) t) >> passed (withAnswer (joined (
 unfoldable pub perform : Deed → Box → Checked Box
 perform (Change x) b = passed (box (changed x (b .core)) (b .trouble))
 perform Complete b = passed (box (b .core) (completed (b .trouble)))
-perform Clear b = passed (box (operationCleared (b .core)) noTrouble)
+perform Clear b = passed (box (allCleared (b .core)) noTrouble)
 perform (Query q) b = reply (replyTo q (b .core)) (afterQuery q (b .core)) >>= λ c. passed (box c (b .trouble))
 perform (Inquire q) b = reply (inquiryReply q b) (b .core) >>= λ c. passed (box c (afterInquiry q (b .trouble)))

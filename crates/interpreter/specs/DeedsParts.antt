@@ -10,7 +10,7 @@ use Rattle.registers.specs.Check.{refused, passed}
 use Rattle.registers.specs.Answer.{decimal, tenths, signedText}
 use Rattle.registers.specs.Errors.{numberOf, errorText}
 use Rattle.registers.specs.Settings.{kindOf, withValue, atReset, wordText}
-use Rattle.registers.specs.Status.{Registers, Trouble, most, registersOf, troubleOf, noTrouble, completed, raisedIn, storedIn, operationRead, statusByte}
+use Rattle.registers.specs.Status.{Registers, Trouble, most, registersOf, troubleOf, noTrouble, completed, raisedIn, storedIn, setRead, allRead, statusByte}
 use Rattle.registers.specs.declared.error.Error as errors
 use Rattle.registers.specs.declared.settings.Settings.{Settings}
 use Rattle.registers.specs.declared.status.Status.{Status}
@@ -25,7 +25,7 @@ use Rattle.interpreter.specs.declared.deed.Deed.the-variants.{Change, Co
 use Rattle.interpreter.specs.declared.deed.Change as changes
 use Rattle.interpreter.specs.declared.deed.Change.the-variants.{Nothing as noChange, Put, Reset, Store}
 use Rattle.interpreter.specs.declared.deed.Query as queries
-use Rattle.interpreter.specs.declared.deed.Query.the-variants.{Identity as identity, SelfTest, Completed, Limit, Value, Stored, Condition, OperationEvents}
+use Rattle.interpreter.specs.declared.deed.Query.the-variants.{Identity as identity, SelfTest, Completed, Limit, Value, Stored, Condition, SetEvents}
 use Rattle.interpreter.specs.declared.deed.Inquiry as inquiries
 use Rattle.interpreter.specs.declared.deed.Inquiry.the-variants.{StandardEvents, StatusByte, NextError}
 use Rattle.interpreter.specs.declared.perform.Present.{Present}
@@ -135,13 +135,13 @@ registersAsked Completed r = r
 registersAsked (Limit i v) r = r
 registersAsked (Value i) r = r
 registersAsked (Stored x) r = r
-registersAsked Condition r = r
-registersAsked OperationEvents r = operationRead r
+registersAsked (Condition x) r = r
+registersAsked (SetEvents x) r = setRead x r
 
 abbrev pub registersLeft : Deed → Registers → Registers
 registersLeft (Change x) r = registersChanged x r
 registersLeft Complete r = r
-registersLeft Clear r = operationRead r
+registersLeft Clear r = allRead r
 registersLeft (Query q) r = registersAsked q r
 registersLeft (Inquire q) r = r
 

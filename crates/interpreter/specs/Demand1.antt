@@ -21,7 +21,7 @@ unfoldable pub numberFor : Box → Event → ℕ
 numberFor b started = 0
 numberFor b (received xs) = 0
 numberFor b (take buffer) = if empty (b .core .answer) then 2 else (if ltb (length buffer) (length (b .core .answer)) then 1 else 0)
-numberFor b (condition n) = if ltb widestGroup n then 3 else 0
+numberFor b (condition x n) = if ltb widestGroup n then 3 else 0
 numberFor b look = 0
 
 -- "Number 4 is tested first", on the record's own numbers

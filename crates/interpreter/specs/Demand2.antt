@@ -9,7 +9,7 @@ use lib.Signed.{leZ}
 use Rattle.registers.specs.Text.{Text, white, every, empty}
 use Rattle.registers.specs.Check.{passed}
 use Rattle.registers.specs.Settings.{count, voltage, twelveVolts, wideRange, kindOf, valueAt, within, answerOf, atReset}
-use Rattle.registers.specs.Status.{operationRead}
+use Rattle.registers.specs.Status.{allRead}
 use Rattle.interpreter.specs.Header.{Header, header, isCommon, fullNames}
 use Rattle.interpreter.specs.Rows.{rows, findRow}
 use Rattle.interpreter.specs.Box.{Box, box, withSettings, withRegisters, withLine, powerUp}
@@ -41,7 +41,7 @@ abbrev pub ResetsOnly : Type 0
 ResetsOnly = (b : Box) → perform (Change Reset) b ≡ passed (box (withSettings atReset (b .core)) (b .trouble))
 
 abbrev pub ClearsOnly : Type 0
-ClearsOnly = (b : Box) → perform Clear b ≡ passed (box (withRegisters (operationRead (b .core .registers)) (b .core)) (record { events = 0; queue = [] }))
+ClearsOnly = (b : Box) → perform Clear b ≡ passed (box (withRegisters (allRead (b .core .registers)) (b .core)) (record { events = 0; queue = [] }))
 
 -- ---- "A piece behaves as its bytes one at a time", and so as its parts; its count is the sum of theirs. In whatever pieces the
 -- bytes of a history come, the state, the results of all other events and the sum of the pieces' counts are the same

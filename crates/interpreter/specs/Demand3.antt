@@ -54,7 +54,7 @@ keep k [] = []
 keep k (started ∷ es) = started ∷ keep k es
 keep k (received xs ∷ es) = received (L.take k xs) ∷ keep (k - length xs) es
 keep k (take buffer ∷ es) = take buffer ∷ keep k es
-keep k (condition n ∷ es) = condition n ∷ keep k es
+keep k (condition x n ∷ es) = condition x n ∷ keep k es
 keep k (look ∷ es) = look ∷ keep k es
 
 -- ---- a line in a history: `before` it, its bytes and what else happens `during` it, and its newline
@@ -64,7 +64,7 @@ unfoldable pub inLine : Event → Bool
 inLine started = false
 inLine (received xs) = every (λ x. not (eqb x 10)) xs
 inLine (take buffer) = true
-inLine (condition n) = true
+inLine (condition x n) = true
 inLine look = true
 
 -- the box as the newline comes
@@ -140,7 +140,7 @@ unfoldable pub watchEvent : Box → Event → Watch
 watchEvent b started = cleared
 watchEvent b (received xs) = watchPiece b xs
 watchEvent b (take buffer) = neither
-watchEvent b (condition n) = neither
+watchEvent b (condition x n) = neither
 watchEvent b look = neither
 
 unfoldable pub watch : Box → List Event → Watch

@@ -5,9 +5,10 @@ use Prim.Native.Nat.{ℕ}
 use lib.Dec.{leb}
 use lib.ListN.{length, drop}
 use Rattle.registers.specs.Text.{Text, if_then_else_, empty}
-use Rattle.registers.specs.Group.{conditionIs, widestGroup}
+use Rattle.registers.specs.Group.{widestGroup}
 use Rattle.registers.specs.Settings.{possibleSettings}
-use Rattle.registers.specs.Status.{withOperation, statusByte, possibleRegisters, possibleTrouble}
+use Rattle.registers.specs.Status.{setReported, statusByte, possibleRegisters, possibleTrouble}
+use Rattle.registers.specs.declared.status.RegisterSet.{RegisterSet}
 use Rattle.interpreter.specs.Box.{Core, Box, box, raise, withRegisters, answerIs, powerUp, mostLine, mostAnswer}
 use Rattle.interpreter.specs.Line.{piece, newlines}
 
@@ -15,7 +16,7 @@ pub data Event : Type 0 where
   started : Event  -- power-up
   received : Text → Event  -- a piece
   take : Text → Event  -- with the lent buffer
-  condition : ℕ → Event
+  condition : RegisterSet → ℕ → Event  -- of a register set
   look : Event
 
 -- the refusal's number in 01's table, or 0; the count, length or status byte; the lent buffer afterwards
@@ -44,11 +45,11 @@ taken buffer b =
     else happened (result 1 (length a) buffer) b)
 
 -- "the box reports the 16-bit operation condition register"; number 3
-unfoldable pub reported : ℕ → Box → Happened
-reported n b =
+unfoldable pub reported : RegisterSet → ℕ → Box → Happened
+reported x n b =
     if leb n widestGroup
     then happened (result 0 0 [])
-    (box (withRegisters (withOperation (conditionIs n (b .core .registers .operation)) (b .core .registers)) (b .core)) (b .trouble))
+    (box (withRegisters (setReported x n (b .core .registers)) (b .core)) (b .trouble))
     else happened (result 3 0 []) b
 
 -- look: "the status byte, with bit 6 as below. It changes nothing"
@@ -60,7 +61,7 @@ unfoldable pub happens : Box → Event → Happened
 happens b started = happened (result 0 0 []) powerUp
 happens b (received xs) = happened (result 0 (newlines xs) []) (piece b xs)
 happens b (take buffer) = taken buffer b
-happens b (condition n) = reported n b
+happens b (condition x n) = reported x n b
 happens b look = happened (result 0 (seen b) []) b
 
 -- the buffer that an event lends; no event but take has one
@@ -68,7 +69,7 @@ abbrev pub lent : Event → Text
 lent started = []
 lent (received xs) = []
 lent (take buffer) = buffer
-lent (condition n) = []
+lent (condition x n) = []
 lent look = []
 
 -- ---- number 4: the boxes that could be the box's own. State.possibleState says the same of a record

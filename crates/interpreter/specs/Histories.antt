@@ -21,7 +21,7 @@ moments [] = []
 moments (started ∷ es) = started ∷ moments es
 moments (received xs ∷ es) = map single xs ++ moments es
 moments (take buffer ∷ es) = take buffer ∷ moments es
-moments (condition n ∷ es) = condition n ∷ moments es
+moments (condition x n ∷ es) = condition x n ∷ moments es
 moments (look ∷ es) = look ∷ moments es
 
 -- "however the bytes are cut": h is the history g, its bytes in any other pieces
@@ -34,21 +34,21 @@ ends [] = 0
 ends (started ∷ es) = ends es
 ends (received xs ∷ es) = newlines xs + ends es
 ends (take buffer ∷ es) = ends es
-ends (condition n ∷ es) = ends es
+ends (condition x n ∷ es) = ends es
 ends (look ∷ es) = ends es
 
 abbrev pub isTake : Event → Bool
 isTake started = false
 isTake (received xs) = false
 isTake (take buffer) = true
-isTake (condition n) = false
+isTake (condition x n) = false
 isTake look = false
 
 abbrev pub noPiece : Event → Bool
 noPiece started = true
 noPiece (received xs) = false
 noPiece (take buffer) = true
-noPiece (condition n) = true
+noPiece (condition x n) = true
 noPiece look = true
 
 -- the results of some of the events

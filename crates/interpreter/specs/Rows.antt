@@ -8,12 +8,14 @@ use Rattle.registers.specs.Check.{Checked, refused, passed}
 use Rattle.registers.specs.Words.{Node, must, may}
 use Rattle.registers.specs.Settings.{Setting, table}
 use Rattle.registers.specs.declared.status.Register.{Register}
+use Rattle.registers.specs.declared.status.RegisterSet.{RegisterSet}
+use Rattle.registers.specs.declared.status.RegisterSet.the-variants.{Operation, Lock, Warning}
 use Rattle.interpreter.specs.Header.{spells}
 use Rattle.interpreter.specs.declared.deed.Role.{Role}
 use Rattle.interpreter.specs.declared.deed.Role.the-variants.{Setting as setting, Register as register, Order, Question}
 use Rattle.interpreter.specs.declared.deed.Deed.the-variants.{Change, Complete, Clear, Query, Inquire}
 use Rattle.interpreter.specs.declared.deed.Change.the-variants.{Nothing, Reset}
-use Rattle.interpreter.specs.declared.deed.Query.the-variants.{Identity, SelfTest, Completed, Condition, OperationEvents}
+use Rattle.interpreter.specs.declared.deed.Query.the-variants.{Identity, SelfTest, Completed, Condition, SetEvents}
 use Rattle.interpreter.specs.declared.deed.Inquiry.the-variants.{StandardEvents, StatusByte, NextError}
 
 pub record Row : Type 0 where
@@ -27,8 +29,15 @@ plain nodes role = record { star = false; nodes = nodes; role = role }
 abbrev pub starred : String → Role → Row
 starred w role = record { star = true; nodes = must w ∷ []; role = role }
 
-abbrev pub operation : List Node → Role → Row
-operation nodes role = plain (must "STATus" ∷ must "OPERation" ∷ nodes) role
+-- the five commands of a register set
+abbrev pub ofSet : RegisterSet → String → List Row
+ofSet x w =
+    plain (must "STATus" ∷ must w ∷ must "CONDition" ∷ []) (Question (Query (Condition x)))
+    ∷ plain (must "STATus" ∷ must w ∷ may "EVENt" ∷ []) (Question (Query (SetEvents x)))
+    ∷ plain (must "STATus" ∷ must w ∷ must "ENABle" ∷ []) (register (Register.Enable x))
+    ∷ plain (must "STATus" ∷ must w ∷ must "NTRansition" ∷ []) (register (Register.Ntr x))
+    ∷ plain (must "STATus" ∷ must w ∷ must "PTRansition" ∷ []) (register (Register.Ptr x))
+    ∷ []
 
 -- "All have a query"
 unfoldable pub settingRows : ℕ → List Setting → List Row
@@ -49,13 +58,8 @@ otherRows =
     ∷ starred "SRE" (register Register.Sre)
     ∷ starred "ESR" (Question (Inquire StandardEvents))
     ∷ starred "STB" (Question (Inquire StatusByte))
-    ∷ operation (must "CONDition" ∷ []) (Question (Query Condition))
-    ∷ operation (may "EVENt" ∷ []) (Question (Query OperationEvents))
-    ∷ operation (must "ENABle" ∷ []) (register Register.Enable)
-    ∷ operation (must "NTRansition" ∷ []) (register Register.Ntr)
-    ∷ operation (must "PTRansition" ∷ []) (register Register.Ptr)
     ∷ plain (must "SYSTem" ∷ must "ERRor" ∷ []) (Question (Inquire NextError))
-    ∷ []
+    ∷ ofSet Operation "OPERation" ++ ofSet Lock "LOCK" ++ ofSet Warning "WARNing"
 
 unfoldable pub rows : List Row
 rows = settingRows 0 table ++ otherRows

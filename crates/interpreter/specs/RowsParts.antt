@@ -12,9 +12,11 @@ use Rattle.registers.specs.Text.{Text, if_then_else_, bytes, same, capital, emp
 use Rattle.registers.specs.Words.{Node, must, may, shortForm, longForm, matches}
 use Rattle.interpreter.specs.Cuts.{joinFirst}
 use Rattle.interpreter.specs.Rows.{Row, rows, hasForm, fitsRow}
-use Rattle.interpreter.specs.declared.deed.Deed.{Deed}
-use Rattle.interpreter.specs.declared.deed.Deed.the-variants.{Inquire}
-use Rattle.interpreter.specs.declared.deed.Inquiry.the-variants.{NextError}
+use Rattle.registers.specs.declared.status.RegisterSet.{RegisterSet}
+use Rattle.registers.specs.declared.status.RegisterSet.the-variants.{Operation, Lock, Warning}
+use Rattle.registers.specs.declared.status.Register.the-variants.{Enable, Ntr, Ptr}
+use Rattle.interpreter.specs.declared.deed.Deed.the-variants.{Query}
+use Rattle.interpreter.specs.declared.deed.Query.the-variants.{Condition, SetEvents}
 use Rattle.interpreter.specs.declared.deed.Role.{Role}
 use Rattle.interpreter.specs.declared.deed.Role.the-variants.{Setting, Register, Order, Question}
 use Rattle.interpreter.specs.declared.rows.Walk.{Walk}
@@ -24,12 +26,15 @@ use Rattle.interpreter.specs.declared.rows.Walk.the-variants.{To, Missed
 unfoldable pub roleAt : ℕ → Role
 roleAt i = getD (map (λ (r : Row). r .role) rows) i (Setting i)
 
--- the deed of an order or a question; of what is set it is the last row's
-abbrev pub deedIn : Role → Deed
-deedIn (Setting i) = Inquire NextError
-deedIn (Register x) = Inquire NextError
-deedIn (Order d) = d
-deedIn (Question d) = d
+-- a register set by its place, and the role of each of a set's five rows
+abbrev pub setAt : ℕ → RegisterSet
+setAt i = if eqb i 0 then Operation else (if eqb i 1 then Lock else Warning)
+
+abbrev pub roleOfSet : RegisterSet → ℕ → Role
+roleOfSet x i =
+    if eqb i 0 then Question (Query (Condition x))
+    else (if eqb i 1 then Question (Query (SetEvents x))
+    else (if eqb i 2 then Register (Enable x) else (if eqb i 3 then Register (Ntr x) else Register (Ptr x))))
 
 -- ---- words: those of the headers, and behind them those of the parameters, so that each row's words stand together
 
@@ -38,18 +43,18 @@ wordList =
     "OUTPut" ∷ "STATe" ∷ "PON" ∷ "RELay" ∷ "MONitor" ∷ "MODE" ∷ "SOURce" ∷ "VOLTage" ∷ "LEVel" ∷ "IMMediate" ∷ "AMPLitude" ∷ "RANGe"
     ∷ "FREQuency" ∷ "CURRent" ∷ "LIMit" ∷ "RMS" ∷ "PEAK" ∷ "TIME" ∷ "HIGH" ∷ "LOW" ∷ "DISPlay" ∷ "BRIGhtness" ∷ "SYSTem" ∷ "KLOCk"
     ∷ "IDN" ∷ "TST" ∷ "OPC" ∷ "WAI" ∷ "RST" ∷ "CLS" ∷ "ESE" ∷ "SRE" ∷ "ESR" ∷ "STB" ∷ "STATus" ∷ "OPERation" ∷ "CONDition" ∷ "EVENt"
-    ∷ "ENABle" ∷ "NTRansition" ∷ "PTRansition" ∷ "ERRor" ∷ "EXAM"
+    ∷ "ENABle" ∷ "NTRansition" ∷ "PTRansition" ∷ "ERRor" ∷ "EXAM" ∷ "LOCK" ∷ "WARNing"
     ∷ "CURRent" ∷ "SCURrent" ∷ "VOLTage" ∷ "R12V" ∷ "R24V" ∷ "CONTinuous" ∷ "OFF" ∷ "ON" ∷ "MINimum" ∷ "MAXimum" ∷ []
 
 -- how many words there are, how many of them are the headers', and how many rows
 abbrev pub wordCount : ℕ
-wordCount = 53
+wordCount = 55
 
 abbrev pub headerWords : ℕ
-headerWords = 43
+headerWords = 45
 
 abbrev pub rowCount : ℕ
-rowCount = 34
+rowCount = 44
 
 -- how many bytes the words take in the table, the rows, and both
 abbrev pub wordBytes : ℕ

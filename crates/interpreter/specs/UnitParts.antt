@@ -19,7 +19,7 @@ use Rattle.interpreter.specs.declared.deed.Deed.the-variants.{Change as 
 use Rattle.interpreter.specs.declared.deed.Change.{Change}
 use Rattle.interpreter.specs.declared.deed.Change.the-variants.{Nothing, Put, Reset, Store}
 use Rattle.interpreter.specs.declared.deed.Query.{Query}
-use Rattle.interpreter.specs.declared.deed.Query.the-variants.{Identity, SelfTest, Completed, Limit, Value, Stored, Condition, OperationEvents}
+use Rattle.interpreter.specs.declared.deed.Query.the-variants.{Identity, SelfTest, Completed, Limit, Value, Stored, Condition, SetEvents}
 use Rattle.interpreter.specs.declared.deed.Role.{Role}
 use Rattle.interpreter.specs.declared.parameter.Decision.{Decision}
 use Rattle.interpreter.specs.declared.parameter.Decision.the-variants.{Refused, Obey}
@@ -61,8 +61,8 @@ AllowedQuery Completed = Unit {0}
 AllowedQuery (Limit i v) = i < count
 AllowedQuery (Value i) = i < count
 AllowedQuery (Stored x) = Unit {0}
-AllowedQuery Condition = Unit {0}
-AllowedQuery OperationEvents = Unit {0}
+AllowedQuery (Condition x) = Unit {0}
+AllowedQuery (SetEvents x) = Unit {0}
 
 abbrev pub Allowed : Settings → Deed → Type 0
 Allowed s (change c) = AllowedChange s c

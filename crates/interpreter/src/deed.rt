@@ -2,10 +2,10 @@
 use registers::rounding::Side;
 use registers::settings::Settings;
 use registers::status::Register;
+use registers::status::RegisterSet;
 ghost use mathlib.Core.Path.{_≡_};
-ghost use Prim.Native.Nat.{_+_, _<_};
-ghost use Rattle.registers.specs.Settings.{count};
-ghost use Rattle.interpreter.specs.RowsParts.{rowCount, roleAt, deedIn};
+ghost use Prim.Native.Nat.{_<_};
+ghost use Rattle.interpreter.specs.RowsParts.{rowCount, roleAt, setAt, roleOfSet};
 
 // A change of settings or registers, and what was rounded off the number that it was given.
 pub enum Change {
@@ -31,8 +31,8 @@ pub enum Query {
     Limit { row: usize, value: i32 },
     Value(usize),
     Stored(Register),
-    Condition,
-    OperationEvents,
+    Condition(RegisterSet),
+    SetEvents(RegisterSet),
 }
 
 // The three queries that see the event status register or the error queue.
@@ -58,24 +58,27 @@ pub enum Role {
     Question(Deed),
 }
 
-// What a row does that is no setting and no register, by its place behind the settings.
-fn deed_of(place: usize) -> Deed
-    requires { ⌜ count + place < rowCount ⌝ }
-    ensures { λ r. ⌜ r ≡ deedIn (roleAt (count + place)) ⌝ }
+// A register set by its place; behind the last it is the last.
+fn set_at(place: usize) -> RegisterSet
+    ensures { λ r. ⌜ r ≡ setAt place ⌝ }
 {
     match place {
-        0 => Deed::Query(Query::Identity),
-        1 => Deed::Query(Query::SelfTest),
-        2 => Deed::Query(Query::Completed),
-        3 => Deed::Change(Change::Nothing),
-        4 => Deed::Complete,
-        5 => Deed::Change(Change::Reset),
-        6 => Deed::Clear,
-        9 => Deed::Inquire(Inquiry::StandardEvents),
-        10 => Deed::Inquire(Inquiry::StatusByte),
-        11 => Deed::Query(Query::Condition),
-        12 => Deed::Query(Query::OperationEvents),
-        _ => Deed::Inquire(Inquiry::NextError),
+        0 => RegisterSet::Operation,
+        1 => RegisterSet::Lock,
+        _ => RegisterSet::Warning,
+    }
+}
+
+// What a row of a register set is for, by its place among the set's five.
+fn of_set(set: RegisterSet, place: usize) -> Role
+    ensures { λ r. ⌜ r ≡ roleOfSet set place ⌝ }
+{
+    match place {
+        0 => Role::Question(Deed::Query(Query::Condition(set))),
+        1 => Role::Question(Deed::Query(Query::SetEvents(set))),
+        2 => Role::Register(Register::Enable(set)),
+        3 => Role::Register(Register::Ntr(set)),
+        _ => Role::Register(Register::Ptr(set)),
     }
 }
 
@@ -88,15 +91,22 @@ pub(crate) fn role_of(row: usize) -> Role
         return Role::Setting(row);
     }
     let place = row - Settings::COUNT;
-    if (3 <= place) & (place < 7) {
-        return Role::Order(deed_of(place));
+    if 12 <= place {
+        let within = place - 12;
+        return of_set(set_at(within / 5), within % 5);
     }
     match place {
+        0 => return Role::Question(Deed::Query(Query::Identity)),
+        1 => return Role::Question(Deed::Query(Query::SelfTest)),
+        2 => return Role::Question(Deed::Query(Query::Completed)),
+        3 => return Role::Order(Deed::Change(Change::Nothing)),
+        4 => return Role::Order(Deed::Complete),
+        5 => return Role::Order(Deed::Change(Change::Reset)),
+        6 => return Role::Order(Deed::Clear),
         7 => return Role::Register(Register::Ese),
         8 => return Role::Register(Register::Sre),
-        13 => return Role::Register(Register::Enable),
-        14 => return Role::Register(Register::Ntr),
-        15 => return Role::Register(Register::Ptr),
-        _ => return Role::Question(deed_of(place)),
+        9 => return Role::Question(Deed::Inquire(Inquiry::StandardEvents)),
+        10 => return Role::Question(Deed::Inquire(Inquiry::StatusByte)),
+        _ => return Role::Question(Deed::Inquire(Inquiry::NextError)),
     }
 }

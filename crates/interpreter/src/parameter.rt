@@ -54,7 +54,7 @@ pub(crate) struct Takes {
 }
 
 // Where the parameters' words begin in the table of words: behind those of the headers.
-const HEADER_WORDS: usize = 43;
+const HEADER_WORDS: usize = 45;
 
 // Where each setting's words begin among those of the parameters, and how many there are. The first six
 // are those of the settings that take words only.

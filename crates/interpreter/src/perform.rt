@@ -72,7 +72,7 @@ fn status_after(status: Status, deed: Deed) -> Status
         Deed::Complete => return status.complete(),
         Deed::Clear => return status.clear(),
         Deed::Query(query) => match query {
-            Query::OperationEvents => return status.read_operation(),
+            Query::SetEvents(set) => return status.read_event(set),
             _ => return status,
         },
         Deed::Inquire(inquiry) => match inquiry {

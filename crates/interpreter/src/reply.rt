@@ -72,8 +72,8 @@ fn to_query(table: &[u8], present: Present, query: Query) -> Reply
         Query::Limit { row, value } => to_value(table, row, value),
         Query::Value(row) => to_value(table, row, present.settings.value(row)),
         Query::Stored(register) => Reply::Number(present.status.register(register)),
-        Query::Condition => Reply::Number(present.status.operation.condition),
-        Query::OperationEvents => Reply::Number(present.status.operation.event),
+        Query::Condition(set) => Reply::Number(present.status.group(set).condition),
+        Query::SetEvents(set) => Reply::Number(present.status.group(set).event),
     }
 }
 

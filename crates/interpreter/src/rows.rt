@@ -7,10 +7,10 @@ ghost use Rattle.registers.specs.Words.{longForm};
 ghost use Rattle.interpreter.specs.RowsParts.{wordCount, rowCount, commandTable, wordAt, rowOf, named, agreed, formLength, WordTaken, wordCell, rowCell, wordIn, nodeOf, Walked, formBit};
 
 // How many rows there are.
-pub(crate) const ROWS: usize = 34;
+pub(crate) const ROWS: usize = 44;
 
 // How many words there are.
-const WORDS: usize = 53;
+const WORDS: usize = 55;
 
 // Where the rows begin in the table, behind its words of 16 bytes, and where they end.
 const FIRST_ROW: usize = WORDS * 16;

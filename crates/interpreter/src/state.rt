@@ -6,6 +6,7 @@ use crate::table;
 use registers::error::Error;
 use registers::group::Group;
 use registers::settings::Settings;
+use registers::status::RegisterSet;
 use registers::status::Status;
 ghost use mathlib.Core.Path.{_≡_};
 ghost use mathlib.Core.List.{[]};
@@ -198,9 +199,9 @@ impl State {
         }
     }
 
-    // The box reports the operation condition register.
-    pub fn condition(mut self, value: u16) -> Reported
-        ensures { λ r. ⌜ Happens self (condition value) (result (numberOf (r .outcome)) 0 []) (r .state) ⌝ }
+    // The box reports the condition register of a set.
+    pub fn condition(mut self, set: RegisterSet, value: u16) -> Reported
+        ensures { λ r. ⌜ Happens self (condition set value) (result (numberOf (r .outcome)) 0 []) (r .state) ⌝ }
     {
         if !self.possible() {
             return Reported {
@@ -214,7 +215,7 @@ impl State {
                 state: self,
             };
         }
-        self.status = self.status.report(value);
+        self.status = self.status.report(set, value);
         Reported {
             outcome: Outcome::Done,
             state: self,

@@ -6,6 +6,7 @@ use bytes::scan;
 use interpreter::state::State;
 use registers::group::Group;
 use registers::settings::Settings;
+use registers::status::RegisterSet;
 use registers::status::Status;
 
 // The state behind an event and the report's length: 0 where the line can't be read.
@@ -77,14 +78,15 @@ fn take(state: State, text: &[u8], out: &mut [u8]) -> Played {
     take_into(state, &mut buffer[0..end], out)
 }
 
-fn condition(state: State, text: &[u8], out: &mut [u8]) -> Played {
+// The condition register of a set, reported under a letter.
+fn condition(state: State, set: RegisterSet, letter: u8, text: &[u8], out: &mut [u8]) -> Played {
     let value = script::decimal(text);
     if 65535 < value {
         return unreadable(state);
     }
-    let reported = state.condition(value as u16);
+    let reported = state.condition(set, value as u16);
     let outcome = reported.outcome;
-    let length = report::outcome(out, b'c', outcome);
+    let length = report::outcome(out, letter, outcome);
     let after = reported.state;
     Played {
         state: after,
@@ -112,7 +114,7 @@ fn show_registers(status: Status, from: usize, out: &mut [u8]) -> usize {
     let events = report::number(out, from, status.events as u64);
     let ese = report::number(out, events, status.ese as u64);
     let sre = report::number(out, ese, status.sre as u64);
-    show_group(status.operation, sre, out)
+    show_group(status.group(RegisterSet::Operation), sre, out)
 }
 
 fn show_queue(status: Status, from: usize, out: &mut [u8]) -> usize {
@@ -136,13 +138,20 @@ fn show_settings(settings: Settings, from: usize, out: &mut [u8]) -> usize {
     report::signed_numbers(out, from, &values)
 }
 
+// What stands behind the line.
+fn show_behind(state: State, from: usize, out: &mut [u8]) -> usize {
+    let answer = show_answer(state, from, out);
+    let lock = show_group(state.status.group(RegisterSet::Lock), answer, out);
+    show_group(state.status.group(RegisterSet::Warning), lock, out)
+}
+
 fn show(state: State, out: &mut [u8]) -> Played {
     let letter = report::put(out, 0, b's');
     let values = show_settings(state.settings, letter, out);
     let registers = show_registers(state.status, values, out);
     let queue = show_queue(state.status, registers, out);
     let line = show_line(state, queue, out);
-    let length = show_answer(state, line, out);
+    let length = show_behind(state, line, out);
     Played { state, length }
 }
 
@@ -180,7 +189,9 @@ fn play_text(state: State, letter: u8, text: &[u8], out: &mut [u8]) -> Played {
     match letter {
         b'p' => receive_hex(state, text, out),
         b't' => take(state, text, out),
-        b'c' => condition(state, text, out),
+        b'c' => condition(state, RegisterSet::Operation, letter, text, out),
+        b'k' => condition(state, RegisterSet::Lock, letter, text, out),
+        b'w' => condition(state, RegisterSet::Warning, letter, text, out),
         b'x' => overwrite(state, text, out),
         _ => unreadable(state),
     }

@@ -4,6 +4,7 @@ use crate::script::Reading;
 use interpreter::state::State;
 use registers::group::Group;
 use registers::settings::Settings;
+use registers::status::RegisterSet;
 use registers::status::Status;
 ghost use Prim.Native.Nat.{_≤_};
 
@@ -12,11 +13,11 @@ pub(crate) enum Field {
     Events,
     Ese,
     Sre,
-    Condition,
-    Event,
-    Enable,
-    Ptr,
-    Ntr,
+    Condition(RegisterSet),
+    Event(RegisterSet),
+    Enable(RegisterSet),
+    Ptr(RegisterSet),
+    Ntr(RegisterSet),
     Queued,
     Failure(usize),
     Line,
@@ -64,6 +65,41 @@ fn place_in(name: &[u8], array: &[u8]) -> usize
     PLACES
 }
 
+// The register of a set that a name spells.
+fn of_set(set: RegisterSet, name: &[u8]) -> Field {
+    if check::same(name, b"condition") {
+        return Field::Condition(set);
+    }
+    if check::same(name, b"event") {
+        return Field::Event(set);
+    }
+    if check::same(name, b"enable") {
+        return Field::Enable(set);
+    }
+    if check::same(name, b"ptr") {
+        return Field::Ptr(set);
+    }
+    if check::same(name, b"ntr") {
+        return Field::Ntr(set);
+    }
+    Field::Unknown
+}
+
+// The register of any set that a name spells, with the set's own name before it but for operation.
+fn register(name: &[u8]) -> Field {
+    if 5 <= name.len() {
+        if check::same(&name[0..5], b"lock_") {
+            return of_set(RegisterSet::Lock, &name[5..]);
+        }
+    }
+    if 8 <= name.len() {
+        if check::same(&name[0..8], b"warning_") {
+            return of_set(RegisterSet::Warning, &name[8..]);
+        }
+    }
+    of_set(RegisterSet::Operation, name)
+}
+
 // The field of one number that a name spells.
 fn single(name: &[u8]) -> Field {
     if check::same(name, b"esr") {
@@ -75,21 +111,6 @@ fn single(name: &[u8]) -> Field {
     if check::same(name, b"sre") {
         return Field::Sre;
     }
-    if check::same(name, b"condition") {
-        return Field::Condition;
-    }
-    if check::same(name, b"event") {
-        return Field::Event;
-    }
-    if check::same(name, b"enable") {
-        return Field::Enable;
-    }
-    if check::same(name, b"ptr") {
-        return Field::Ptr;
-    }
-    if check::same(name, b"ntr") {
-        return Field::Ntr;
-    }
     if check::same(name, b"queued") {
         return Field::Queued;
     }
@@ -99,7 +120,7 @@ fn single(name: &[u8]) -> Field {
     if check::same(name, b"answer") {
         return Field::Answer;
     }
-    Field::Unknown
+    register(name)
 }
 
 // The field that a name spells.
@@ -125,14 +146,24 @@ fn in_settings(mut settings: Settings, row: usize, value: i32) -> Settings {
 
 fn in_group(mut group: Group, field: Field, n: u16) -> Group {
     match field {
-        Field::Condition => group.condition = n,
-        Field::Event => group.event = n,
-        Field::Enable => group.enable = n,
-        Field::Ptr => group.ptr = n,
-        Field::Ntr => group.ntr = n,
+        Field::Condition(_) => group.condition = n,
+        Field::Event(_) => group.event = n,
+        Field::Enable(_) => group.enable = n,
+        Field::Ptr(_) => group.ptr = n,
+        Field::Ntr(_) => group.ntr = n,
         _ => {}
     }
     group
+}
+
+fn in_set(mut status: Status, set: RegisterSet, field: Field, n: u16) -> Status {
+    let group = in_group(status.group(set), field, n);
+    match set {
+        RegisterSet::Operation => status.groups[0] = group,
+        RegisterSet::Lock => status.groups[1] = group,
+        RegisterSet::Warning => status.groups[2] = group,
+    }
+    status
 }
 
 fn in_queue(mut status: Status, item: usize, n: u16) -> Status {
@@ -143,13 +174,17 @@ fn in_queue(mut status: Status, item: usize, n: u16) -> Status {
 }
 
 fn in_status(mut status: Status, field: Field, n: u16) -> Status {
-    status.operation = in_group(status.operation, field, n);
     match field {
         Field::Events => status.events = n,
         Field::Ese => status.ese = n,
         Field::Sre => status.sre = n,
         Field::Queued => status.queued = n as usize,
         Field::Failure(item) => return in_queue(status, item, n),
+        Field::Condition(set) => return in_set(status, set, field, n),
+        Field::Event(set) => return in_set(status, set, field, n),
+        Field::Enable(set) => return in_set(status, set, field, n),
+        Field::Ptr(set) => return in_set(status, set, field, n),
+        Field::Ntr(set) => return in_set(status, set, field, n),
         _ => {}
     }
     status

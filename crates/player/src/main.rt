@@ -4,21 +4,24 @@
 //     u               power-up                                 writes u
 //     p 564F4C540A    a piece, two hex digits to a byte        p NUMBER COUNT
 //     t 16            take into so many bytes (0 to 4096)      t NUMBER LENGTH BUFFER
-//     c 5             condition, 0 to 65535                    c NUMBER
+//     c 5             operation condition, 0 to 65535          c NUMBER
+//     k 5             lock condition                           k NUMBER
+//     w 5             warning condition                        w NUMBER
 //     l               look                                     l NUMBER STATUSBYTE
 //     s               the state                                s SETTINGS ESR ESE SRE CONDITION
 //                                                                EVENT ENABLE PTR NTR QUEUE
-//                                                                OVERLONG LINE ANSWER
+//                                                                OVERLONG LINE ANSWER LOCK WARNING
 //     x FIELD VALUE   a number of the raw record overwritten   x
 //
 // NUMBER is 0 or the refusal's in 01's table. Every byte of take's buffer is AA before. SETTINGS
 // are the sixteen in 01's order and SYSTem:EXAM, with commas between (bools 0 and 1, words by their
 // place, numbers in steps); QUEUE the error numbers, without their minus; OVERLONG 0 or 1; BUFFER,
-// LINE and ANSWER hex in capitals. What is empty is `-`. A hand-made length past its array shows the
+// LINE and ANSWER hex in capitals; LOCK and WARNING the five registers of each, in the order of the
+// five from CONDITION on. What is empty is `-`. A hand-made length past its array shows the
 // whole array.
 //
 // FIELD is `setting.0` to `setting.16`, `error.0` to `error.15`, `esr`, `ese`, `sre`, `condition`,
-// `event`, `enable`, `ptr`, `ntr`, or a length: `queued`, `line`, `answer`. VALUE is decimal, of a
+// `event`, `enable`, `ptr`, `ntr`, `lock_condition` to `warning_ntr`, or a length: `queued`, `line`, `answer`. VALUE is decimal, of a
 // setting also with a minus: 32 bits signed for a setting, else 0 to 65535.
 //
 // A line that can't be read is answered by `?` and its number, from 1, and passed over. One blank

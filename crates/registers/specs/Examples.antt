@@ -20,7 +20,7 @@ use Rattle.registers.specs.Suffix.{suffixes, noSuffix, powerIn, remains}
 use Rattle.registers.specs.Rounding.{nearest, sizeIn, rounded, fitted, sizeSide, sideIn, switchedOn}
 use Rattle.registers.specs.Settings.{Kind, bool, words, number as steps, Setting, minus, table, settingAt, kindOf, quantityOf, valueAt, atReset, wideRange, lowest, highest, within, conflict, examined, accepted, stored, answerOf}
 use Rattle.registers.specs.Group.{rises, falls, eventsAfter, conditionIs, eventRead, possibleGroup}
-use Rattle.registers.specs.Status.{registersOf, troubleOf, withoutBit6, storedIn, registerIn, summary, statusByte, possibleRegisters, possibleTrouble, possibleStatus, withTrouble, raisedIn, clearedIn, eventsIn, operationRead, withRegisters, oldestReadIn, reportedIn, registerSet, atStart}
+use Rattle.registers.specs.Status.{registersOf, troubleOf, withoutBit6, storedIn, registerIn, summary, statusByte, possibleRegisters, possibleTrouble, possibleStatus, withTrouble, raisedIn, clearedIn, eventsIn, groupIn, setRead, setBits, withRegisters, oldestReadIn, reportedIn, registerSet, atStart}
 use Rattle.registers.specs.declared.error.Error.{Error}
 use Rattle.registers.specs.declared.error.Error.the-variants.{Syntax, DataOutOfRange, InputBufferOverrun, QueryUnterminated}
 use Rattle.registers.specs.declared.number.Decimal.{Decimal}
@@ -31,6 +31,8 @@ use Rattle.registers.specs.declared.rounding.Side.the-variants.{On, Belo
 use Rattle.registers.specs.declared.settings.Settings.{Settings}
 use Rattle.registers.specs.declared.status.Register.{Register}
 use Rattle.registers.specs.declared.status.Register.the-variants.{Ese, Sre, Enable, Ntr, Ptr}
+use Rattle.registers.specs.declared.status.RegisterSet.{RegisterSet}
+use Rattle.registers.specs.declared.status.RegisterSet.the-variants.{Operation, Lock, Warning}
 use Rattle.registers.specs.declared.status.Status.{Status}
 use Rattle.registers.specs.declared.suffix.Quantity.{Quantity}
 use Rattle.registers.specs.declared.suffix.Quantity.the-variants.{Nothing}
@@ -40,10 +42,10 @@ use Rattle.registers.specs.declared.suffix.Quantity.the-variants.{Nothin
 -- what can happen to the status record
 data Step : Type 0 where
   raise : Error → Step
-  report : ℕ → Step  -- a condition
+  report : RegisterSet → ℕ → Step  -- a condition
   set : Register → ℕ → Step
   askEvents : Step  -- *ESR?
-  askOperation : Step  -- STATus:OPERation?
+  askSet : RegisterSet → Step  -- STATus:OPERation?
   askError : Step  -- SYSTem:ERRor?
   complete : Step  -- *OPC
   clear : Step  -- *CLS
@@ -62,7 +64,7 @@ data Example : Type 0 where
   answers : List (String × ℤ) → String → String → Example  -- values stored by header from *RST on, and what a header then answers
   lays : String → String → String → Example  -- a text, a lent tail, and that tail with the text in it
   message : ℕ → String → Example  -- an error, and what SYSTem:ERRor? answers
-  operation : List Step → ℕ → Example  -- steps from power-up on, and the operation event register then
+  event : RegisterSet → List Step → ℕ → Example  -- steps from power-up on, and a set's event register then
   events : List Step → ℕ → Example  -- .. the event status register
   queue : List Step → List ℕ → Example  -- .. the error queue
   register : List Step → Register → ℕ → Example  -- .. a register
@@ -75,7 +77,7 @@ abbrev raises : ℕ → Error → List Step
 raises n e = replicate n (raise e)
 
 abbrev registers : ℕ → ℕ → Status
-registers ese sre = withRegisters (record { ese = ese; sre = sre; operation = atStart .operation }) atStart
+registers ese sre = withRegisters (record { ese = ese; sre = sre; groups = atStart .groups }) atStart
 
 examples : List Example
 examples =
@@ -213,16 +215,16 @@ examples =
     ∷ message 350 "-350,\"Queue overflow\""
     ∷ message 410 "-410,\"Query INTERRUPTED\""
     -- transitions: at power-up PTR has every bit and NTR none
-    ∷ operation (report 4 ∷ []) 4
-    ∷ operation (set Ptr 3 ∷ report 4 ∷ []) 0
-    ∷ operation (set Ptr 3 ∷ report 4 ∷ set Ptr 4 ∷ []) 0
-    ∷ operation (report 4 ∷ askOperation ∷ report 4 ∷ []) 0
-    ∷ operation (report 4 ∷ askOperation ∷ report 0 ∷ []) 0
-    ∷ operation (set Ntr 4 ∷ report 4 ∷ askOperation ∷ report 0 ∷ []) 4
-    ∷ operation (set Ntr 4 ∷ report 4 ∷ askOperation ∷ report 3 ∷ []) 7
-    ∷ operation (set Ntr 4 ∷ report 4 ∷ askOperation ∷ report 32768 ∷ []) 0
-    ∷ operation (report 1 ∷ report 2 ∷ []) 3
-    ∷ operation (report 4 ∷ clear ∷ []) 0
+    ∷ event Operation (report Operation 4 ∷ []) 4
+    ∷ event Operation (set (Ptr Operation) 3 ∷ report Operation 4 ∷ []) 0
+    ∷ event Operation (set (Ptr Operation) 3 ∷ report Operation 4 ∷ set (Ptr Operation) 4 ∷ []) 0
+    ∷ event Operation (report Operation 4 ∷ askSet Operation ∷ report Operation 4 ∷ []) 0
+    ∷ event Operation (report Operation 4 ∷ askSet Operation ∷ report Operation 0 ∷ []) 0
+    ∷ event Operation (set (Ntr Operation) 4 ∷ report Operation 4 ∷ askSet Operation ∷ report Operation 0 ∷ []) 4
+    ∷ event Operation (set (Ntr Operation) 4 ∷ report Operation 4 ∷ askSet Operation ∷ report Operation 3 ∷ []) 7
+    ∷ event Operation (set (Ntr Operation) 4 ∷ report Operation 4 ∷ askSet Operation ∷ report Operation 32768 ∷ []) 0
+    ∷ event Operation (report Operation 1 ∷ report Operation 2 ∷ []) 3
+    ∷ event Operation (report Operation 4 ∷ clear ∷ []) 0
     -- the event status register: 128 at power-up, and a bit by an error's hundreds
     ∷ events [] 128
     ∷ events (raise Syntax ∷ []) 160
@@ -247,10 +249,10 @@ examples =
     ∷ register (set Sre 255 ∷ []) Sre 191
     ∷ register (set Ese 255 ∷ clear ∷ []) Ese 255
     ∷ register (set Ese 256 ∷ []) Ese 0
-    ∷ register (set Enable 32767 ∷ []) Enable 32767
-    ∷ register (set Enable 32768 ∷ []) Enable 0
-    ∷ register [] Ptr 32767
-    ∷ register [] Ntr 0
+    ∷ register (set (Enable Operation) 32767 ∷ []) (Enable Operation) 32767
+    ∷ register (set (Enable Operation) 32768 ∷ []) (Enable Operation) 0
+    ∷ register [] (Ptr Operation) 32767
+    ∷ register [] (Ntr Operation) 0
     -- the status byte
     ∷ byte [] false 0
     ∷ byte [] true 16
@@ -259,8 +261,12 @@ examples =
     ∷ byte (raise DataOutOfRange ∷ []) false 4
     ∷ byte (set Sre 64 ∷ raise DataOutOfRange ∷ []) false 4
     ∷ byte (set Sre 32 ∷ set Ese 16 ∷ raise DataOutOfRange ∷ []) false 100
-    ∷ byte (set Enable 4 ∷ report 4 ∷ []) false 128
-    ∷ byte (set Enable 4 ∷ set Sre 128 ∷ report 4 ∷ []) true 208
+    ∷ event Lock (report Lock 4 ∷ report Warning 3 ∷ []) 4
+    ∷ event Lock (report Lock 4 ∷ clear ∷ []) 0
+    ∷ byte (set (Enable Lock) 4 ∷ report Lock 4 ∷ []) false 1
+    ∷ byte (set (Enable Warning) 4 ∷ report Warning 4 ∷ []) false 2
+    ∷ byte (set (Enable Operation) 4 ∷ report Operation 4 ∷ []) false 128
+    ∷ byte (set (Enable Operation) 4 ∷ set Sre 128 ∷ report Operation 4 ∷ []) true 208
     -- refusal 4: -350 may stand anywhere in the queue, and places beyond its length mean nothing
     ∷ possible atStart true
     ∷ possible (registers 255 191) true
@@ -342,10 +348,10 @@ storedAll (p ∷ ps) s = storedAll ps (stored (row (p .0)) (p .1) s)
 
 step : Step → Status → Status
 step (raise e) s = raisedIn (numberOf e) s
-step (report n) s = reportedIn n s
+step (report x n) s = reportedIn x n s
 step (set x n) s = registerSet x n s
 step askEvents s = eventsIn 0 s
-step askOperation s = withRegisters (operationRead (registersOf s)) s
+step (askSet x) s = withRegisters (setRead x (registersOf s)) s
 step askError s = oldestReadIn s
 step complete s = eventsIn (bitOr (s .events) 1) s
 step clear s = clearedIn s
@@ -371,7 +377,7 @@ holds (limits h low high reset) =
 holds (answers ps h answer) = answered (row h) answer (valueAt (storedAll ps atReset) (row h))
 holds (lays text before tail) = same (over (bytes text) (bytes before)) (bytes tail)
 holds (message n answer) = same (errorText n) (bytes answer)
-holds (operation xs n) = eqb (stepsFrom atStart xs .operation .event) n
+holds (event x xs n) = eqb (groupIn x (registersOf (stepsFrom atStart xs)) .event) n
 holds (events xs n) = eqb (stepsFrom atStart xs .events) n
 holds (queue xs ns) = same (troubleOf (stepsFrom atStart xs) .queue) ns
 holds (register xs x n) = eqb (registerIn x (registersOf (stepsFrom atStart xs))) n
@@ -386,6 +392,6 @@ unfolding examples passes fails alike sameFit sameSide fit stepsOf shortest rowI
     nearest sizeIn rounded fitted sizeSide sideIn
     table settingAt atReset wideRange lowest highest within conflict examined accepted stored answerOf
     rises falls eventsAfter conditionIs eventRead possibleGroup
-    withoutBit6 storedIn registerIn summary statusByte possibleRegisters possibleTrouble possibleStatus
+    withoutBit6 storedIn registerIn setBits summary statusByte possibleRegisters possibleTrouble possibleStatus
     raisedIn clearedIn eventsIn oldestReadIn reportedIn registerSet atStart
 all-hold = tt

@@ -1,13 +1,17 @@
 -- "Registers and queue": a register group, the condition, event, enable, PTR and NTR of STATus:OPERation.
 use Prim.Native.Nat.{ℕ}
 use lib.Bits.{bitAnd, bitOr, bitXor}
-use mathlib.Core.Bool.{Bool, _&&_}
-use lib.Dec.{leb}
+use mathlib.Core.Bool.{Bool, not, _&&_}
+use lib.Dec.{leb, eqb}
 use Rattle.registers.specs.declared.group.Group.{Group}
 
 -- refusal 4: "32,767 for the others"
 abbrev pub widestGroup : ℕ
 widestGroup = 32767
+
+-- some bit is in both
+abbrev pub meet : ℕ → ℕ → Bool
+meet a b = not (eqb (bitAnd a b) 0)
 
 -- the bits that are 0 in the old condition and 1 in the new one; the bits that are 1 and then 0
 unfoldable pub rises : ℕ → ℕ → ℕ
@@ -51,3 +55,7 @@ possibleGroup g =
 -- power-up: "enables 0, PTR 32,767, NTR 0, condition 0, all else empty"
 abbrev pub groupAtStart : Group
 groupAtStart = record { condition = 0; event = 0; enable = 0; ptr = widestGroup; ntr = 0 }
+
+-- a group of zeros: what a place behind the three holds
+abbrev pub noGroup : Group
+noGroup = record { condition = 0; event = 0; enable = 0; ptr = 0; ntr = 0 }

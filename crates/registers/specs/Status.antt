@@ -1,23 +1,25 @@
 -- "Registers and queue": registers, error queue and status byte; refusals 3 and 4 on them. `Trouble` is the event status
 -- register and the error queue, all that a refused unit adds to; `Registers` is what it leaves alone.
 use mathlib.Core.Bool.{Bool, true, false, not, _&&_}
-use mathlib.Core.List.{List, [], _∷_, _++_}
+use mathlib.Core.List.{List, [], _∷_, _++_, map}
 use Prim.Native.Nat.{ℕ, _+_, _-_, _^_}
 use lib.Dec.{leb, ltb, eqb}
-use lib.ListN.{length, take, drop, set, replicate}
+use lib.ListN.{length, take, drop, set, getD, replicate}
 use lib.Bits.{bitAnd, bitOr}
 use Rattle.registers.specs.Text.{if_then_else_, every, empty, rest}
 use Rattle.registers.specs.Errors.{eventBit, overflow, known}
-use Rattle.registers.specs.Group.{conditionIs, eventRead, withEnable, withPtr, withNtr, possibleGroup, groupAtStart, widestGroup}
+use Rattle.registers.specs.Group.{meet, conditionIs, eventRead, withEnable, withPtr, withNtr, possibleGroup, groupAtStart, noGroup, widestGroup}
 use Rattle.registers.specs.declared.group.Group.{Group}
 use Rattle.registers.specs.declared.status.Status.{Status}
 use Rattle.registers.specs.declared.status.Register.{Register}
 use Rattle.registers.specs.declared.status.Register.the-variants.{Ese, Sre, Enable, Ntr, Ptr}
+use Rattle.registers.specs.declared.status.RegisterSet.{RegisterSet}
+use Rattle.registers.specs.declared.status.RegisterSet.the-variants.{Operation, Lock, Warning}
 
 pub record Registers : Type 0 where
   pub ese : ℕ  -- *ESE
   pub sre : ℕ  -- *SRE
-  pub operation : Group  -- STATus:OPERation
+  pub groups : List Group  -- STATus:OPERation, STATus:LOCK and STATus:WARNing, by their places
 
 pub record Trouble : Type 0 where
   pub events : ℕ  -- the event status register
@@ -26,7 +28,7 @@ pub record Trouble : Type 0 where
 -- ---- what a status record means: "The array places beyond a stored length mean nothing"
 
 abbrev pub registersOf : Status → Registers
-registersOf s = record { ese = s .ese; sre = s .sre; operation = s .operation }
+registersOf s = record { ese = s .ese; sre = s .sre; groups = s .groups }
 
 abbrev pub troubleOf : Status → Trouble
 troubleOf s = record { events = s .events; queue = take (s .queued) (s .errors) }
@@ -62,16 +64,25 @@ oldestRead t = record { events = t .events; queue = rest (t .queue) }
 
 -- ---- the registers that are set and asked
 
-abbrev pub withOperation : Group → Registers → Registers
-withOperation g r = record { ese = r .ese; sre = r .sre; operation = g }
+-- the place of a register set
+abbrev pub placeOf : RegisterSet → ℕ
+placeOf Operation = 0
+placeOf Lock = 1
+placeOf Warning = 2
+
+abbrev pub groupIn : RegisterSet → Registers → Group
+groupIn x r = getD (r .groups) (placeOf x) noGroup
+
+abbrev pub withGroup : RegisterSet → Group → Registers → Registers
+withGroup x g r = record { ese = r .ese; sre = r .sre; groups = set (r .groups) (placeOf x) g }
 
 -- "0 to 255", "0 to 32,767"
 abbrev pub widest : Register → ℕ
 widest Ese = 255
 widest Sre = 255
-widest Enable = widestGroup
-widest Ntr = widestGroup
-widest Ptr = widestGroup
+widest (Enable x) = widestGroup
+widest (Ntr x) = widestGroup
+widest (Ptr x) = widestGroup
 
 -- "bit 6 of *SRE is stored as 0"
 unfoldable pub withoutBit6 : ℕ → ℕ
@@ -79,23 +90,30 @@ withoutBit6 n = n - bitAnd n (2 ^ 6)
 
 -- a register takes a value, whatever its width
 unfoldable pub storedIn : Register → ℕ → Registers → Registers
-storedIn Ese n r = record { ese = n; sre = r .sre; operation = r .operation }
-storedIn Sre n r = record { ese = r .ese; sre = withoutBit6 n; operation = r .operation }
-storedIn Enable n r = withOperation (withEnable n (r .operation)) r
-storedIn Ntr n r = withOperation (withNtr n (r .operation)) r
-storedIn Ptr n r = withOperation (withPtr n (r .operation)) r
+storedIn Ese n r = record { ese = n; sre = r .sre; groups = r .groups }
+storedIn Sre n r = record { ese = r .ese; sre = withoutBit6 n; groups = r .groups }
+storedIn (Enable x) n r = withGroup x (withEnable n (groupIn x r)) r
+storedIn (Ntr x) n r = withGroup x (withNtr n (groupIn x r)) r
+storedIn (Ptr x) n r = withGroup x (withPtr n (groupIn x r)) r
 
 -- what its query answers
 unfoldable pub registerIn : Register → Registers → ℕ
 registerIn Ese r = r .ese
 registerIn Sre r = r .sre
-registerIn Enable r = r .operation .enable
-registerIn Ntr r = r .operation .ntr
-registerIn Ptr r = r .operation .ptr
+registerIn (Enable x) r = groupIn x r .enable
+registerIn (Ntr x) r = groupIn x r .ntr
+registerIn (Ptr x) r = groupIn x r .ptr
 
--- the operation event register read, or cleared by *CLS
-abbrev pub operationRead : Registers → Registers
-operationRead r = withOperation (eventRead (r .operation)) r
+-- a set's event register read; all three cleared by *CLS
+abbrev pub setRead : RegisterSet → Registers → Registers
+setRead x r = withGroup x (eventRead (groupIn x r)) r
+
+abbrev pub allRead : Registers → Registers
+allRead r = record { ese = r .ese; sre = r .sre; groups = map eventRead (r .groups) }
+
+-- a set's condition reported
+abbrev pub setReported : RegisterSet → ℕ → Registers → Registers
+setReported x n r = withGroup x (conditionIs n (groupIn x r)) r
 
 -- ---- the status byte
 
@@ -104,15 +122,24 @@ abbrev pub bitIf : Bool → ℕ → ℕ
 bitIf true k = 2 ^ k
 bitIf false k = 0
 
--- some bit is in both
-abbrev pub meet : ℕ → ℕ → Bool
-meet a b = not (eqb (bitAnd a b) 0)
+-- a set's bit in the status byte, by Table 2.1 of source document 000
+abbrev pub bitOf : RegisterSet → ℕ
+bitOf Operation = 7
+bitOf Lock = 0
+bitOf Warning = 1
+
+-- a set's event AND its enable is not 0
+abbrev pub summedUp : RegisterSet → List Group → ℕ
+summedUp x gs = let g = getD gs (placeOf x) noGroup in bitIf (meet (g .event) (g .enable)) (bitOf x)
+
+unfoldable pub setBits : List Group → ℕ
+setBits gs = summedUp Operation gs + summedUp Lock gs + summedUp Warning gs
 
 -- "bit 7 operation event AND its enable is not 0; bit 5 the same for *ESR and *ESE; bit 4 an answer has bytes, ..; bit 2 queue not
 -- empty"
 unfoldable pub summary : Registers → Trouble → Bool → ℕ
 summary r t answers =
-    bitIf (meet (r .operation .event) (r .operation .enable)) 7
+    setBits (r .groups)
     + bitIf (meet (t .events) (r .ese)) 5
     + bitIf answers 4
     + bitIf (not (empty (t .queue))) 2
@@ -125,7 +152,7 @@ statusByte r t answers = summary r t answers + bitIf (meet (summary r t answers)
 
 -- "a register above its width (255 for .. *ESE and *SRE, 32,767 for the others), *SRE with bit 6"
 unfoldable pub possibleRegisters : Registers → Bool
-possibleRegisters r = leb (r .ese) 255 && leb (r .sre) 255 && eqb (bitAnd (r .sre) (2 ^ 6)) 0 && possibleGroup (r .operation)
+possibleRegisters r = leb (r .ese) 255 && leb (r .sre) 255 && eqb (bitAnd (r .sre) (2 ^ 6)) 0 && every possibleGroup (r .groups)
 
 -- "a queue above 16 or holding a number this paper never puts there"; the event status register above 255
 unfoldable pub possibleTrouble : Trouble → Bool
@@ -140,11 +167,11 @@ possibleStatus s = leb (s .queued) most && (possibleRegisters (registersOf s) &&
 -- other registers, or other trouble, in the same record
 abbrev pub withRegisters : Registers → Status → Status
 withRegisters r s =
-    record { events = s .events; ese = r .ese; sre = r .sre; operation = r .operation; queued = s .queued; errors = s .errors }
+    record { events = s .events; ese = r .ese; sre = r .sre; groups = r .groups; queued = s .queued; errors = s .errors }
 
 abbrev pub withTrouble : ℕ → ℕ → List ℕ → Status → Status
 withTrouble events queued errors s =
-    record { events = events; ese = s .ese; sre = s .sre; operation = s .operation; queued = queued; errors = errors }
+    record { events = events; ese = s .ese; sre = s .sre; groups = s .groups; queued = queued; errors = errors }
 
 -- an error raised, as `raised` says; a queue length above 16 counts as full
 unfoldable pub raisedIn : ℕ → Status → Status
@@ -155,7 +182,7 @@ raisedIn n s =
 
 -- "*CLS clears the event status register, the operation event register and the queue, nothing else"
 unfoldable pub clearedIn : Status → Status
-clearedIn s = withRegisters (operationRead (registersOf s)) (withTrouble 0 0 (s .errors) s)
+clearedIn s = withRegisters (allRead (registersOf s)) (withTrouble 0 0 (s .errors) s)
 
 -- another event status register: 0 once *ESR? has read it, with bit 0 after *OPC
 unfoldable pub eventsIn : ℕ → Status → Status
@@ -167,8 +194,8 @@ oldestReadIn s =
     if eqb (s .queued) 0 then s else withTrouble (s .events) (s .queued - 1) (drop 1 (s .errors) ++ 0 ∷ []) s
 
 -- a condition is reported; refusal 3: a value "above 32,767" leaves all "unchanged"
-unfoldable pub reportedIn : ℕ → Status → Status
-reportedIn n s = if leb n widestGroup then withRegisters (withOperation (conditionIs n (s .operation)) (registersOf s)) s else s
+unfoldable pub reportedIn : RegisterSet → ℕ → Status → Status
+reportedIn x n s = if leb n widestGroup then withRegisters (setReported x n (registersOf s)) s else s
 
 -- a register takes a value; one above its width is not stored
 unfoldable pub registerSet : Register → ℕ → Status → Status
@@ -178,4 +205,4 @@ registerSet x n s = if leb n (widest x) then withRegisters (storedIn x n (regist
 
 unfoldable pub atStart : Status
 atStart =
-    record { events = 128; ese = 0; sre = 0; operation = groupAtStart; queued = 0; errors = replicate most 0 }
+    record { events = 128; ese = 0; sre = 0; groups = replicate 3 groupAtStart; queued = 0; errors = replicate most 0 }

@@ -1,6 +1,6 @@
 // A register group: STATus:OPERation.
 ghost use mathlib.Core.Path.{_≡_};
-ghost use Rattle.registers.specs.Group.{conditionIs, eventRead, possibleGroup, groupAtStart};
+ghost use Rattle.registers.specs.Group.{meet, conditionIs, eventRead, possibleGroup, groupAtStart};
 
 pub struct Group {
     pub condition: u16,
@@ -44,6 +44,13 @@ impl Group {
     {
         self.event = 0;
         self
+    }
+
+    // Whether an event is enabled.
+    pub fn sums_up(self) -> bool
+        ensures { λ r. ⌜ r ≡ meet (self .event) (self .enable) ⌝ }
+    {
+        self.event & self.enable != 0
     }
 
     // Refusal 4 on the group: no register above its width.

@@ -1,33 +1,41 @@
-// The status record: event status, enables, the operation group, and the queue of error numbers
+// The status record: event status, enables, the three register groups, and the queue of error numbers
 // (without their minus).
 use crate::error;
 use crate::error::Error;
 use crate::group::Group;
 ghost use mathlib.Core.Path.{_≡_};
-ghost use mathlib.Core.List.{_++_, _∷_, []};
+ghost use mathlib.Core.List.{_++_, _∷_, [], map};
 ghost use Prim.Native.Nat.{_≤_};
 ghost use lib.Bits.{bitOr};
 ghost use lib.ListN.{take, drop};
 ghost use Rattle.registers.specs.Text.{if_then_else_, every, first};
 ghost use Rattle.registers.specs.Errors.{numberOf, known};
-ghost use Rattle.registers.specs.Status.{registersOf, troubleOf, withRegisters, raisedIn, clearedIn, eventsIn, oldestReadIn, operationRead, reportedIn, registerSet, registerIn, widest, statusByte, possibleStatus, atStart};
+ghost use Rattle.registers.specs.Group.{eventRead, possibleGroup};
+ghost use Rattle.registers.specs.Status.{placeOf, groupIn, withGroup, setRead, setBits, registersOf, troubleOf, withRegisters, raisedIn, clearedIn, eventsIn, oldestReadIn, reportedIn, registerSet, registerIn, widest, statusByte, possibleStatus, atStart};
 
 pub struct Status {
     pub events: u16,
     pub ese: u16,
     pub sre: u16,
-    pub operation: Group,
+    pub groups: [Group; 3],
     pub queued: usize,
     pub errors: [u16; 16],
+}
+
+// The register sets STATus:OPERation, STATus:LOCK and STATus:WARNing.
+pub enum RegisterSet {
+    Operation,
+    Lock,
+    Warning,
 }
 
 // The registers that a command sets and a query asks.
 pub enum Register {
     Ese,
     Sre,
-    Enable,
-    Ntr,
-    Ptr,
+    Enable(RegisterSet),
+    Ntr(RegisterSet),
+    Ptr(RegisterSet),
 }
 
 // All but the first number, and a 0 behind them.
@@ -58,12 +66,53 @@ fn all_known(errors: [u16; 16], count: usize) -> bool
     true
 }
 
+// Every group with its event register read.
+fn all_read(groups: [Group; 3]) -> [Group; 3]
+    ensures { λ r. ⌜ r ≡ map eventRead groups ⌝ }
+{
+    [
+        groups[0].read_event(),
+        groups[1].read_event(),
+        groups[2].read_event(),
+    ]
+}
+
+// Refusal 4 on the groups.
+fn all_possible(groups: [Group; 3]) -> bool
+    ensures { λ r. ⌜ r ≡ every possibleGroup groups ⌝ }
+{
+    groups[0].possible() & groups[1].possible() & groups[2].possible()
+}
+
+// The groups' bits of the status byte.
+fn set_bits(groups: [Group; 3]) -> u8
+    ensures { λ r. ⌜ r ≡ setBits groups ⌝ }
+    ensures { λ r. ⌜ r ≤ 131 ⌝ }
+{
+    bit_if(groups[0].sums_up(), 128)
+        + bit_if(groups[1].sums_up(), 1)
+        + bit_if(groups[2].sums_up(), 2)
+}
+
 // A bit's weight where the bit is on.
 fn bit_if(on: bool, weight: u8) -> u8
     ensures { λ r. ⌜ r ≡ if on then weight else 0 ⌝ }
     ensures { λ r. ⌜ r ≤ weight ⌝ }
 {
     if on { weight } else { 0 }
+}
+
+impl RegisterSet {
+    // The set's place among the three.
+    pub fn place(self) -> usize
+        ensures { λ r. ⌜ r ≡ placeOf self ⌝ }
+    {
+        match self {
+            RegisterSet::Operation => 0,
+            RegisterSet::Lock => 1,
+            RegisterSet::Warning => 2,
+        }
+    }
 }
 
 impl Register {
@@ -74,9 +123,9 @@ impl Register {
         match self {
             Register::Ese => 255,
             Register::Sre => 255,
-            Register::Enable => 32_767,
-            Register::Ntr => 32_767,
-            Register::Ptr => 32_767,
+            Register::Enable(_) => 32_767,
+            Register::Ntr(_) => 32_767,
+            Register::Ptr(_) => 32_767,
         }
     }
 }
@@ -90,12 +139,12 @@ impl Status {
     pub fn power_up() -> Status
         ensures { λ r. ⌜ r ≡ atStart ⌝ }
     {
-        let operation = Group::power_up();
+        let group = Group::power_up();
         Status {
             events: 128,
             ese: 0,
             sre: 0,
-            operation,
+            groups: [group; 3],
             queued: 0,
             errors: [0u16; 16],
         }
@@ -122,7 +171,9 @@ impl Status {
     pub fn clear(mut self) -> Status
         ensures { λ r. ⌜ r ≡ clearedIn self ⌝ }
     {
-        self = self.read_operation();
+        let groups = self.groups;
+        let read = all_read(groups);
+        self.groups = read;
         self.events = 0;
         self.queued = 0;
         self
@@ -144,11 +195,29 @@ impl Status {
         self
     }
 
-    // The operation event register is read, and so cleared.
-    pub fn read_operation(mut self) -> Status
-        ensures { λ r. ⌜ r ≡ withRegisters (operationRead (registersOf self)) self ⌝ }
+    // A set's event register is read, and so cleared.
+    pub fn read_event(self, set: RegisterSet) -> Status
+        ensures { λ r. ⌜ r ≡ withRegisters (setRead set (registersOf self)) self ⌝ }
     {
-        self.operation = self.operation.read_event();
+        let group = self.group(set).read_event();
+        self.with_group(set, group)
+    }
+
+    // A set's registers.
+    pub fn group(self, set: RegisterSet) -> Group
+        ensures { λ r. ⌜ r ≡ groupIn set (registersOf self) ⌝ }
+    {
+        let i = set.place();
+        let groups = self.groups;
+        groups[i]
+    }
+
+    // The record with other registers of a set.
+    fn with_group(mut self, set: RegisterSet, group: Group) -> Status
+        ensures { λ r. ⌜ r ≡ withRegisters (withGroup set group (registersOf self)) self ⌝ }
+    {
+        let i = set.place();
+        self.groups[i] = group;
         self
     }
 
@@ -178,15 +247,15 @@ impl Status {
         self
     }
 
-    // The operation condition is reported; a value above 32,767 is no report.
-    pub fn report(mut self, condition: u16) -> Status
-        ensures { λ r. ⌜ r ≡ reportedIn condition self ⌝ }
+    // A set's condition is reported; a value above 32,767 is no report.
+    pub fn report(self, set: RegisterSet, condition: u16) -> Status
+        ensures { λ r. ⌜ r ≡ reportedIn set condition self ⌝ }
     {
         if Group::WIDEST < condition {
             return self;
         }
-        self.operation = self.operation.report(condition);
-        self
+        let group = self.group(set).report(condition);
+        self.with_group(set, group)
     }
 
     // A register's value.
@@ -196,9 +265,9 @@ impl Status {
         match register {
             Register::Ese => self.ese,
             Register::Sre => self.sre,
-            Register::Enable => self.operation.enable,
-            Register::Ntr => self.operation.ntr,
-            Register::Ptr => self.operation.ptr,
+            Register::Enable(set) => self.group(set).enable,
+            Register::Ntr(set) => self.group(set).ntr,
+            Register::Ptr(set) => self.group(set).ptr,
         }
     }
 
@@ -212,32 +281,40 @@ impl Status {
         match register {
             Register::Ese => {
                 self.ese = value;
+                return self;
             }
             Register::Sre => {
                 self.sre = value - (value & 64);
+                return self;
             }
-            Register::Enable => {
-                self.operation.enable = value;
+            Register::Enable(set) => {
+                let mut group = self.group(set);
+                group.enable = value;
+                return self.with_group(set, group);
             }
-            Register::Ntr => {
-                self.operation.ntr = value;
+            Register::Ntr(set) => {
+                let mut group = self.group(set);
+                group.ntr = value;
+                return self.with_group(set, group);
             }
-            Register::Ptr => {
-                self.operation.ptr = value;
+            Register::Ptr(set) => {
+                let mut group = self.group(set);
+                group.ptr = value;
+                return self.with_group(set, group);
             }
         }
-        self
     }
 
     // The status byte, with its summary in bit 6.
     pub fn status_byte(self, answers: bool) -> u8
         ensures { λ r. ⌜ r ≡ statusByte (registersOf self) (troubleOf self) answers ⌝ }
     {
-        let operation = bit_if(self.operation.event & self.operation.enable != 0, 128);
+        let groups = self.groups;
+        let sets = set_bits(groups);
         let standard = bit_if(self.events & self.ese != 0, 32);
         let answer = bit_if(answers, 16);
         let queue = bit_if(self.queued != 0, 4);
-        let summary = operation + standard + answer + queue;
+        let summary = sets + standard + answer + queue;
         summary + bit_if(summary as u16 & self.sre != 0, 64)
     }
 
@@ -251,7 +328,8 @@ impl Status {
         }
         let registers = (self.ese <= 255) & (self.sre <= 255) & (self.sre & 64 == 0);
         let errors = self.errors;
+        let groups = self.groups;
         let trouble = (self.events <= 255) & all_known(errors, count);
-        registers & self.operation.possible() & trouble
+        registers & all_possible(groups) & trouble
     }
 }

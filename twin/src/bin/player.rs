@@ -3,7 +3,7 @@
 
 use std::io::{self, BufRead, BufWriter, Write};
 
-use twin::{Refusal, State, QUEUE_LIMIT, SETTINGS};
+use twin::{Refusal, RegisterSet, SetName, State, QUEUE_LIMIT, SETTINGS};
 
 const LONGEST_BUFFER: usize = 4096;
 const LONGEST_LENGTH: usize = 65_535;
@@ -13,7 +13,7 @@ enum Event<'script> {
     PowerUp,
     Piece(Vec<u8>),
     Take(usize),
-    Condition(u16),
+    Condition(SetName, u16),
     Look,
     State,
     Overwrite(&'script str, &'script str),
@@ -31,7 +31,9 @@ fn read_event(line: &[u8]) -> Option<Event<'_>> {
             let length: usize = read_decimal(length)?;
             (length <= LONGEST_BUFFER).then_some(Event::Take(length))
         }
-        ["c", value] => Some(Event::Condition(read_decimal(value)?)),
+        ["c", value] => Some(Event::Condition(SetName::Operation, read_decimal(value)?)),
+        ["k", value] => Some(Event::Condition(SetName::Lock, read_decimal(value)?)),
+        ["w", value] => Some(Event::Condition(SetName::Warning, read_decimal(value)?)),
         ["l"] => Some(Event::Look),
         ["s"] => Some(Event::State),
         ["x", field, value] => Some(Event::Overwrite(field, value)),
@@ -84,17 +86,37 @@ fn overwrite(state: &mut State, field: &str, value: &str) -> Option<()> {
         "esr" => status.esr = read_decimal(value)?,
         "ese" => status.ese = read_decimal(value)?,
         "sre" => status.sre = read_decimal(value)?,
-        "condition" => status.condition = read_decimal(value)?,
-        "event" => status.event = read_decimal(value)?,
-        "enable" => status.enable = read_decimal(value)?,
-        "ptr" => status.ptr = read_decimal(value)?,
-        "ntr" => status.ntr = read_decimal(value)?,
         "queued" => status.queued = read_length(value)?,
         "line" => state.line.length = read_length(value)?,
         "answer" => state.instrument.answer.length = read_length(value)?,
-        _ => return None,
+        _ => {
+            let (name, register) = read_set(field);
+            *find_register(status.set_mut(name), register)? = read_decimal(value)?;
+        }
     }
     Some(())
+}
+
+/// The set in a field such as `lock_ptr`, `warning_ptr`, or plainly `ptr`, and the rest of it.
+fn read_set(field: &str) -> (SetName, &str) {
+    if let Some(register) = field.strip_prefix("lock_") {
+        (SetName::Lock, register)
+    } else if let Some(register) = field.strip_prefix("warning_") {
+        (SetName::Warning, register)
+    } else {
+        (SetName::Operation, field)
+    }
+}
+
+fn find_register<'set>(set: &'set mut RegisterSet, register: &str) -> Option<&'set mut u16> {
+    match register {
+        "condition" => Some(&mut set.condition),
+        "event" => Some(&mut set.event),
+        "enable" => Some(&mut set.enable),
+        "ptr" => Some(&mut set.ptr),
+        "ntr" => Some(&mut set.ntr),
+        _ => None,
+    }
 }
 
 /// The place in `setting.0` to `setting.16` or `error.0` to `error.15`.
@@ -115,7 +137,10 @@ fn play(state: &mut State, line: &[u8]) -> Option<String> {
             format!("p {} {}", number(&result), result.unwrap_or(0))
         }
         Event::Take(length) => play_take(state, length),
-        Event::Condition(value) => format!("c {}", number(&state.condition(value))),
+        Event::Condition(name, value) => {
+            let result = state.condition(name, value);
+            format!("{} {}", letter(name), number(&result))
+        }
         Event::Look => {
             let result = state.look();
             format!("l {} {}", number(&result), result.unwrap_or(0))
@@ -126,6 +151,15 @@ fn play(state: &mut State, line: &[u8]) -> Option<String> {
             "x".to_string()
         }
     })
+}
+
+/// The letter of a set's condition event.
+fn letter(name: SetName) -> char {
+    match name {
+        SetName::Operation => 'c',
+        SetName::Lock => 'k',
+        SetName::Warning => 'w',
+    }
 }
 
 fn play_take(state: &mut State, length: usize) -> String {
@@ -150,21 +184,30 @@ fn write_state(state: &State) -> String {
     let answer = &state.instrument.answer;
     let line = &state.line;
     format!(
-        "s {} {} {} {} {} {} {} {} {} {} {} {} {}",
+        "s {} {} {} {} {} {} {} {} {} {} {}",
         write_list(&state.instrument.settings.values),
         status.esr,
         status.ese,
         status.sre,
-        status.condition,
-        status.event,
-        status.enable,
-        status.ptr,
-        status.ntr,
+        write_set(status.set(SetName::Operation)),
         write_list(up_to(&status.errors, status.queued)),
         u8::from(line.overlong),
         write_hex(up_to(&line.bytes, line.length)),
         write_hex(up_to(&answer.bytes, answer.length)),
+        write_set(status.set(SetName::Lock)),
+        write_set(status.set(SetName::Warning)),
     )
+}
+
+fn write_set(set: &RegisterSet) -> String {
+    let RegisterSet {
+        condition,
+        event,
+        enable,
+        ptr,
+        ntr,
+    } = set;
+    format!("{condition} {event} {enable} {ptr} {ntr}")
 }
 
 /// A hand-made length may be beyond the array.

@@ -1,20 +1,19 @@
 -- Laws of the rows' roles, by computing them for all rows.
 use mathlib.Core.Path.{_≡_, refl}
-use mathlib.Core.Bool.{Bool, true, false, _&&_}
+use mathlib.Core.Bool.{Bool, true, false}
 use mathlib.Core.List.{List, [], _∷_}
-use Prim.Native.Nat.{ℕ, zero, suc, _+_, _-_, _<_}
+use Prim.Native.Nat.{ℕ, zero, suc, _+_, _-_, _/_, _%_, _<_}
 use native.Mathlib.Omega.{arith}
-use lib.Dec.{leb, ltb, eqb}
+use lib.Dec.{leb, eqb}
 use borrow.Author.Tests.{eqb-true, eqb-false}
 use Rattle.registers.specs.Text.{if_then_else_}
 use Rattle.registers.specs.Settings.{count, table}
-use Rattle.registers.specs.declared.status.Register.the-variants.{Ese, Sre, Enable, Ntr, Ptr}
+use Rattle.registers.specs.declared.status.Register.the-variants.{Ese, Sre}
 use Rattle.interpreter.specs.Rows.{rows, settingRows, otherRows}
-use Rattle.interpreter.specs.RowsParts.{rowCount, roleAt, deedIn}
-use Rattle.interpreter.specs.declared.deed.Deed.{Deed}
+use Rattle.interpreter.specs.RowsParts.{rowCount, roleAt, setAt, roleOfSet}
 use Rattle.interpreter.specs.declared.deed.Deed.the-variants.{Change, Complete, Clear, Query, Inquire}
 use Rattle.interpreter.specs.declared.deed.Change.the-variants.{Nothing, Reset}
-use Rattle.interpreter.specs.declared.deed.Query.the-variants.{Identity, SelfTest, Completed, Condition, OperationEvents}
+use Rattle.interpreter.specs.declared.deed.Query.the-variants.{Identity, SelfTest, Completed}
 use Rattle.interpreter.specs.declared.deed.Inquiry.the-variants.{StandardEvents, StatusByte, NextError}
 use Rattle.interpreter.specs.declared.deed.Role.{Role}
 use Rattle.interpreter.specs.declared.deed.Role.the-variants.{Setting, Register, Order, Question}
@@ -33,7 +32,7 @@ agree (suc n) f g e i h = go (eqb i n) refl (agree n f g (cc) i)
     go true q ih = rw (eqb-true i n q) cc
     go false q ih = ih (omega (arith, eqb-false i n q))
 
--- the code's two tables, by a row's place behind the settings
+-- the code's table, by a row's place behind the settings
 
 pub role-setting : (i : ℕ) → i < count → Setting i ≡ roleAt i
 unfolding listed roleAt rows settingRows otherRows table
@@ -41,33 +40,20 @@ role-setting i h = agree count Setting roleAt refl i h
 
 abbrev pub roleTold : ℕ → Role
 roleTold i =
-    if leb 3 i && ltb i 7 then Order (deedIn (roleAt (count + i)))
+    if leb 12 i then roleOfSet (setAt ((i - 12) / 5)) ((i - 12) % 5)
+    else if eqb i 0 then Question (Query Identity)
+    else if eqb i 1 then Question (Query SelfTest)
+    else if eqb i 2 then Question (Query Completed)
+    else if eqb i 3 then Order (Change Nothing)
+    else if eqb i 4 then Order Complete
+    else if eqb i 5 then Order (Change Reset)
+    else if eqb i 6 then Order Clear
     else if eqb i 7 then Register Ese
     else if eqb i 8 then Register Sre
-    else if eqb i 13 then Register Enable
-    else if eqb i 14 then Register Ntr
-    else if eqb i 15 then Register Ptr
-    else Question (deedIn (roleAt (count + i)))
+    else if eqb i 9 then Question (Inquire StandardEvents)
+    else if eqb i 10 then Question (Inquire StatusByte)
+    else Question (Inquire NextError)
 
 pub role-told : (i : ℕ) → count + i < rowCount → roleTold i ≡ roleAt (count + i)
 unfolding listed roleAt rows settingRows otherRows table if_then_else_
 role-told i h = agree (rowCount - count) roleTold (λ k. roleAt (count + k)) refl i (omega arith)
-
-abbrev pub deedTold : ℕ → Deed
-deedTold i =
-    if eqb i 0 then Query Identity
-    else if eqb i 1 then Query SelfTest
-    else if eqb i 2 then Query Completed
-    else if eqb i 3 then Change Nothing
-    else if eqb i 4 then Complete
-    else if eqb i 5 then Change Reset
-    else if eqb i 6 then Clear
-    else if eqb i 9 then Inquire StandardEvents
-    else if eqb i 10 then Inquire StatusByte
-    else if eqb i 11 then Query Condition
-    else if eqb i 12 then Query OperationEvents
-    else Inquire NextError
-
-pub deed-told : (i : ℕ) → count + i < rowCount → deedTold i ≡ deedIn (roleAt (count + i))
-unfolding listed roleAt rows settingRows otherRows table if_then_else_
-deed-told i h = agree (rowCount - count) deedTold (λ k. deedIn (roleAt (count + k))) refl i (omega arith)

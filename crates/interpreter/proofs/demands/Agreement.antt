@@ -10,6 +10,7 @@ use Rattle.registers.specs.Text.{Text, if_then_else_, empty}
 use Rattle.registers.specs.Check.{Checked, refused, passed, _>>=_}
 use Rattle.registers.specs.Group.{widestGroup}
 use Rattle.registers.specs.Status.{Trouble, raised}
+use Rattle.registers.specs.declared.status.RegisterSet.{RegisterSet}
 use Rattle.interpreter.specs.Box.{Core, Box, box, withLine, withAnswer, raise}
 use Rattle.interpreter.specs.Unit.{Read, readUnit}
 use Rattle.interpreter.specs.Deeds.{replyTo, afterQuery, reply, perform}
@@ -140,16 +141,16 @@ unfolding taken
 taken-alike buffer c t t′ =
     if₂ Alike (empty (c .answer)) (refl, refl) (if₂ Alike (leb (length (c .answer)) (length buffer)) (refl, refl) (refl, refl))
 
-reported-core : (n : ℕ) (c : Core) (t t′ : Trouble) → SameCore (reported n (box c t) .box) (reported n (box c t′) .box)
+reported-core : (r : RegisterSet) (n : ℕ) (c : Core) (t t′ : Trouble) → SameCore (reported r n (box c t) .box) (reported r n (box c t′) .box)
 unfolding reported
-reported-core n c t t′ = if₂ (λ (x y : Happened). SameCore (x .box) (y .box)) (leb n widestGroup) refl refl
+reported-core r n c t t′ = if₂ (λ (x y : Happened). SameCore (x .box) (y .box)) (leb n widestGroup) refl refl
 
 pub event-agree : (e : Event) (c : Core) (t t′ : Trouble) → Agree (watchEvent (box c t) e) (happens (box c t) e .box) (happens (box c t′) e .box)
 unfolding watchEvent happens
 event-agree started c t t′ = refl
 event-agree (received xs) c t t′ = piece-agree xs c t t′
 event-agree (take buffer) c t t′ = taken-alike buffer c t t′ .0
-event-agree (condition n) c t t′ = reported-core n c t t′
+event-agree (condition r n) c t t′ = reported-core r n c t t′
 event-agree look c t t′ = refl
 
 -- ---- histories
@@ -181,7 +182,7 @@ unfolding happens if_then_else_
 answer-more started w c t t′ x y f = f
 answer-more (received xs) w c t t′ x y f = f
 answer-more (take buffer) w c t t′ x y f = one-more w _ _ x y (taken-alike buffer c t t′ .1) f
-answer-more (condition n) w c t t′ x y f = f
+answer-more (condition r n) w c t t′ x y f = f
 answer-more look w c t t′ x y f = f
 
 pub history-agree : (es : List Event) (c : Core) (t t′ : Trouble) → AgreeBoth (watch (box c t) es) es (box c t) (box c t′)

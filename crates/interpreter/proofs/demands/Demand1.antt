@@ -50,9 +50,9 @@ listed b (take buffer) =
     if₂ (Listed b e) (empty a) (refl, λ _. refl)
     (if-opposite (Listed b e) (leb (length a) (length buffer)) (ltb (length buffer) (length a)) (leb-not (length a) (length buffer))
     (none b e _ refl) (refl, λ _. refl))
-listed b (condition n) =
-    if-opposite (Listed b (condition n)) (leb n widestGroup) (ltb widestGroup n) (leb-not n widestGroup)
-    (none b (condition n) _ refl) (refl, λ _. refl)
+listed b (condition x n) =
+    if-opposite (Listed b (condition x n)) (leb n widestGroup) (ltb widestGroup n) (leb-not n widestGroup)
+    (none b (condition x n) _ refl) (refl, λ _. refl)
 listed b look = none b look _ refl
 
 -- ---- number 4 first
@@ -64,7 +64,7 @@ below-four b (received xs) z = omega (arith, z)
 below-four b (take buffer) z =
     if-elim (λ n. n ≡ 4 → ⊥) (empty (b .core .answer)) (λ _ z. omega (arith, z)) (λ _.
     if-elim (λ n. n ≡ 4 → ⊥) (ltb (length buffer) (length (b .core .answer))) (λ _ z. omega (arith, z)) (λ _ z. omega (arith, z))) z
-below-four b (condition n) z = if-elim (λ n. n ≡ 4 → ⊥) (ltb widestGroup n) (λ _ z. omega (arith, z)) (λ _ z. omega (arith, z)) z
+below-four b (condition x n) z = if-elim (λ n. n ≡ 4 → ⊥) (ltb widestGroup n) (λ _ z. omega (arith, z)) (λ _ z. omega (arith, z)) z
 below-four b look z = omega (arith, z)
 
 event-refusals : EventRefusals

@@ -17,7 +17,7 @@ use Rattle.interpreter.specs.declared.deed.Deed.the-variants.{Change, Co
 use Rattle.interpreter.specs.declared.deed.Change as changes
 use Rattle.interpreter.specs.declared.deed.Change.the-variants.{Nothing, Put, Reset, Store}
 use Rattle.interpreter.specs.declared.deed.Query as queries
-use Rattle.interpreter.specs.declared.deed.Query.the-variants.{Identity, SelfTest, Completed, Limit, Value, Stored, Condition, OperationEvents}
+use Rattle.interpreter.specs.declared.deed.Query.the-variants.{Identity, SelfTest, Completed, Limit, Value, Stored, Condition, SetEvents}
 use Rattle.interpreter.proofs.Choices.{if-elim}
 use Rattle.interpreter.proofs.unit.Checks.{Holds, Any, passes, hold-bind, hold-check, holds-from}
 use Rattle.interpreter.proofs.unit.Allowed.{read-known}
@@ -40,8 +40,8 @@ query-fresh Completed c f = f
 query-fresh (Limit i v) c f = f
 query-fresh (Value i) c f = f
 query-fresh (Stored x) c f = f
-query-fresh Condition c f = f
-query-fresh OperationEvents c f = f
+query-fresh (Condition x) c f = f
+query-fresh (SetEvents x) c f = f
 
 reply-fresh : (t : Text) (c : Core) → Fresh c → Holds Fresh (reply t c)
 unfolding reply known queueable

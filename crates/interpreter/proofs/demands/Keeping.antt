@@ -14,6 +14,7 @@ use Rattle.registers.specs.Text.{Text, if_then_else_, every, empty}
 use Rattle.registers.specs.Group.{widestGroup}
 use Rattle.registers.specs.Status.{Trouble}
 use Rattle.registers.proofs.Tests.{and-both}
+use Rattle.registers.specs.declared.status.RegisterSet.{RegisterSet}
 use Rattle.interpreter.specs.Box.{Core, Box, box, withLine, mostLine}
 use Rattle.interpreter.specs.Line.{held, byte, piece}
 use Rattle.interpreter.specs.Events.{Event, started, received, take, condition, look, Happened, Result, taken, reported, happens, after}
@@ -114,9 +115,9 @@ module _ (k : ℕ) (most : k ≤ mostLine) where
       if₂ (Blind b) (empty (b .core .answer)) (refl, refl, refl)
       (if₂ (Blind b) (leb (length (b .core .answer)) (length buffer)) (refl, refl, refl) (refl, refl, refl))
 
-  reported-blind : (n : ℕ) (b : Box) → Blind b (reported n (cutTo k b)) (reported n b)
+  reported-blind : (x : RegisterSet) (n : ℕ) (b : Box) → Blind b (reported x n (cutTo k b)) (reported x n b)
   unfolding reported cutTo
-  reported-blind n b = if₂ (Blind b) (leb n widestGroup) (refl, refl, refl) (refl, refl, refl)
+  reported-blind x n b = if₂ (Blind b) (leb n widestGroup) (refl, refl, refl) (refl, refl, refl)
 
   look-blind : (b : Box) → Blind b (happens (cutTo k b) look) (happens b look)
   unfolding happens cutTo
@@ -165,5 +166,5 @@ module _ (k : ℕ) (most : k ≤ mostLine) where
   during-kept b (received xs ∷ es) t =
       let p = and-both (every plain xs) _ t in piece-first b xs es (kept b xs (p .0)) (during-kept (piece b xs) es (p .1))
   during-kept b (take buffer ∷ es) t = blind-first b (take buffer) es (λ j. refl) (taken-blind buffer b) (during-kept _ es t)
-  during-kept b (condition n ∷ es) t = blind-first b (condition n) es (λ j. refl) (reported-blind n b) (during-kept _ es t)
+  during-kept b (condition x n ∷ es) t = blind-first b (condition x n) es (λ j. refl) (reported-blind x n b) (during-kept _ es t)
   during-kept b (look ∷ es) t = blind-first b look es (λ j. refl) (look-blind b) (during-kept _ es t)

@@ -37,5 +37,5 @@ others-keep k [] = refl
 others-keep k (started ∷ es) = ap suc (others-keep k es)
 others-keep k (received xs ∷ es) = others-keep (k - length xs) es
 others-keep k (take buffer ∷ es) = ap suc (others-keep k es)
-others-keep k (condition n ∷ es) = ap suc (others-keep k es)
+others-keep k (condition x n ∷ es) = ap suc (others-keep k es)
 others-keep k (look ∷ es) = ap suc (others-keep k es)

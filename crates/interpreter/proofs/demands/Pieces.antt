@@ -65,7 +65,7 @@ after-moments b (started ∷ es) = after-moments _ es
 after-moments b (received xs ∷ es) =
     after-append b (map single xs) (moments es) ∙ ap (λ (c : Box). after c (moments es)) (singles-after b xs) ∙ after-moments (piece b xs) es
 after-moments b (take buffer ∷ es) = after-moments _ es
-after-moments b (condition n ∷ es) = after-moments _ es
+after-moments b (condition x n ∷ es) = after-moments _ es
 after-moments b (look ∷ es) = after-moments b es
 
 -- of results that are no pieces'
@@ -86,7 +86,7 @@ module _ (p : Event → Bool) (silent : (xs : Text) → p (received xs) ≡ fals
       results-append p b (map single xs) (moments es)
       ∙ rw (silent xs, singles-results b xs, singles-after b xs) (results-moments (piece b xs) es)
   results-moments b (take buffer ∷ es) = one-more (take buffer) _ (results-moments _ es)
-  results-moments b (condition n ∷ es) = one-more (condition n) _ (results-moments _ es)
+  results-moments b (condition x n ∷ es) = one-more (condition x n) _ (results-moments _ es)
   results-moments b (look ∷ es) = one-more look _ (results-moments b es)
 
   pub recut-results : (b : Box) (h g : List Event) → Recut h g → resultsOf p b h ≡ resultsOf p b g
@@ -103,7 +103,7 @@ ends-append [] fs = omega arith
 ends-append (started ∷ es) fs = ends-append es fs
 ends-append (received xs ∷ es) fs = omega (arith, ends-append es fs)
 ends-append (take buffer ∷ es) fs = ends-append es fs
-ends-append (condition n ∷ es) fs = ends-append es fs
+ends-append (condition x n ∷ es) fs = ends-append es fs
 ends-append (look ∷ es) fs = ends-append es fs
 
 singles-ends : (xs : Text) → ends (map single xs) ≡ newlines xs
@@ -117,7 +117,7 @@ ends-moments [] = refl
 ends-moments (started ∷ es) = ends-moments es
 ends-moments (received xs ∷ es) = omega (arith, ends-append (map single xs) (moments es), singles-ends xs, ends-moments es)
 ends-moments (take buffer ∷ es) = ends-moments es
-ends-moments (condition n ∷ es) = ends-moments es
+ends-moments (condition x n ∷ es) = ends-moments es
 ends-moments (look ∷ es) = ends-moments es
 
 pub recut-ends : (h g : List Event) → Recut h g → ends h ≡ ends g

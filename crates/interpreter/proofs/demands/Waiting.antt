@@ -11,6 +11,7 @@ use lib.Seq.{take-at}
 use Rattle.registers.specs.Text.{Text, every, empty}
 use Rattle.registers.specs.Group.{widestGroup}
 use Rattle.registers.proofs.Tests.{and-both}
+use Rattle.registers.specs.declared.status.RegisterSet.{RegisterSet}
 use Rattle.interpreter.specs.Box.{Core, Box, box, mostLine}
 use Rattle.interpreter.specs.Line.{held, byte, piece}
 use Rattle.interpreter.specs.Events.{Event, started, received, take, condition, look, Happened, taken, reported, happens, after}
@@ -63,9 +64,9 @@ taken-quiet buffer b =
     (λ _. if-elim (λ (h : Happened). Quiet b (h .box)) (leb (length (b .core .answer)) (length buffer))
     (λ _. record { settings = refl; answer = gone refl }) (λ _. same b))
 
-reported-quiet : (n : ℕ) (b : Box) → Quiet b (reported n b .box)
+reported-quiet : (x : RegisterSet) (n : ℕ) (b : Box) → Quiet b (reported x n b .box)
 unfolding reported
-reported-quiet n b =
+reported-quiet x n b =
     if-elim (λ (h : Happened). Quiet b (h .box)) (leb n widestGroup) (λ _. record { settings = refl; answer = waits refl }) (λ _. same b)
 
 pub quiet : (b : Box) (es : List Event) → every inLine es ≡ true → Quiet b (after b es)
@@ -75,7 +76,7 @@ quiet b (started ∷ es) t = absurd (false≢true t)
 quiet b (received xs ∷ es) t =
     let p = and-both (every plain xs) (every inLine es) t in quiet-then (piece-quiet b xs (p .0)) (quiet (piece b xs) es (p .1))
 quiet b (take buffer ∷ es) t = quiet-then (taken-quiet buffer b) (quiet _ es t)
-quiet b (condition n ∷ es) t = quiet-then (reported-quiet n b) (quiet _ es t)
+quiet b (condition x n ∷ es) t = quiet-then (reported-quiet x n b) (quiet _ es t)
 quiet b (look ∷ es) t = quiet b es t
 
 -- ---- a take that succeeds

@@ -88,7 +88,7 @@ unfolding watchEvent
 event-watch started c t t′ = refl
 event-watch (received xs) c t t′ = piece-watch xs c t t′
 event-watch (take buffer) c t t′ = refl
-event-watch (condition n) c t t′ = refl
+event-watch (condition x n) c t t′ = refl
 event-watch look c t t′ = refl
 
 pub history-watch : (es : List Event) (c : Core) (t t′ : Trouble) → watch (box c t) es ≡ watch (box c t′) es

@@ -89,9 +89,9 @@ fit-put s i v x = go (within s i v)
 widest-small : (x : Register) → widest x ≤ 32767
 widest-small Ese = omega arith
 widest-small Sre = omega arith
-widest-small Enable = omega arith
-widest-small Ntr = omega arith
-widest-small Ptr = omega arith
+widest-small (Enable y) = omega arith
+widest-small (Ntr y) = omega arith
+widest-small (Ptr y) = omega arith
 
 pub widest-back : (x : Register) → toZ w32 (widest x) ≡ pos (widest x)
 widest-back x = toZ-pos w32 {n = widest x} (omega (arith, widest-small x))

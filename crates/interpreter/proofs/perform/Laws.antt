@@ -28,7 +28,7 @@ use Rattle.interpreter.specs.declared.deed.Deed.the-variants.{Change, Co
 use Rattle.interpreter.specs.declared.deed.Change as changes
 use Rattle.interpreter.specs.declared.deed.Change.the-variants.{Nothing as noChange, Put, Reset, Store}
 use Rattle.interpreter.specs.declared.deed.Query as queries
-use Rattle.interpreter.specs.declared.deed.Query.the-variants.{Identity, SelfTest, Completed, Limit, Value, Stored, Condition, OperationEvents}
+use Rattle.interpreter.specs.declared.deed.Query.the-variants.{Identity, SelfTest, Completed, Limit, Value, Stored, Condition, SetEvents}
 use Rattle.interpreter.specs.declared.deed.Inquiry as inquiries
 use Rattle.interpreter.specs.declared.deed.Inquiry.the-variants.{StandardEvents, StatusByte, NextError}
 use Rattle.interpreter.specs.declared.perform.Done.{Done}
@@ -70,8 +70,8 @@ module _ (s : Status) (k : s .queued ≤ most) where
   only-asked (Limit i v) h = record { registers = λ _ _. refl; trouble = refl; queued = k }
   only-asked (Value i) h = record { registers = λ _ _. refl; trouble = refl; queued = k }
   only-asked (Stored x) h = record { registers = λ _ _. refl; trouble = refl; queued = k }
-  only-asked Condition h = record { registers = λ _ _. refl; trouble = refl; queued = k }
-  only-asked OperationEvents h = absurd (miss (0 ∷ 1 ∷ 2 ∷ 3 ∷ 4 ∷ 5 ∷ 6 ∷ []) 7 tt h)
+  only-asked (Condition y) h = record { registers = λ _ _. refl; trouble = refl; queued = k }
+  only-asked (SetEvents y) h = absurd (miss (0 ∷ 1 ∷ 2 ∷ 3 ∷ 4 ∷ 5 ∷ 6 ∷ []) 7 tt h)
 
 pub stored-left : (x : Register) (n : ℕ) (side : Side) (s : Status) → s .queued ≤ most → StatusLeft (Change (Store x n side)) s (registerSet x n s)
 stored-left x n side s k = go (leb n (widest x)) refl
@@ -105,8 +105,8 @@ apart Completed = record { unseen = λ s r a. refl; left = λ s r a. refl }
 apart (Limit i v) = record { unseen = λ s r a. refl; left = λ s r a. refl }
 apart (Value i) = record { unseen = λ s r a. refl; left = λ s r a. refl }
 apart (Stored x) = record { unseen = λ s r a. refl; left = λ s r a. refl }
-apart Condition = record { unseen = λ s r a. refl; left = λ s r a. refl }
-apart OperationEvents = record { unseen = λ s r a. refl; left = λ s r a. refl }
+apart (Condition y) = record { unseen = λ s r a. refl; left = λ s r a. refl }
+apart (SetEvents y) = record { unseen = λ s r a. refl; left = λ s r a. refl }
 
 inquiry-same : (q : inquiries.Inquiry) (p : Present) (a : Text) → inquiryReply q (boxIn p a) ≡ inquiryText q (p .status) (not (empty a))
 unfolding inquiryReply

@@ -15,6 +15,7 @@ use Rattle.registers.specs.declared.status.Status.{Status}
 use Rattle.registers.proofs.settings.Possible.{reset-possible}
 use Rattle.registers.proofs.status.Laws.{reported-yes}
 use Rattle.registers.proofs.status.Means.{raised-trouble, raised-registers}
+use Rattle.registers.specs.declared.status.RegisterSet.{RegisterSet}
 use Rattle.interpreter.specs.Box.{box}
 use Rattle.interpreter.specs.Line.{newlines}
 use Rattle.interpreter.specs.Events.{Event, received, take as takes, condition, look, Result, result, happened, happens, taken, reported, lent}
@@ -81,18 +82,18 @@ module _ (s : State) (room : 0 < length (s .answer)) where
 
 -- ---- condition
 
-module _ (s : State) (v : ℕ) where
-  pub condition-wide : widestGroup < v → happened (result 3 0 []) (boxOf s) ≡ happens (boxOf s) (condition v)
+module _ (s : State) (x : RegisterSet) (v : ℕ) where
+  pub condition-wide : widestGroup < v → happened (result 3 0 []) (boxOf s) ≡ happens (boxOf s) (condition x v)
   unfolding happens reported if_then_else_
   condition-wide h = rw (lt-leb v widestGroup h)
 
-  pub condition-on : (t : Status) → t ≡ reportedIn v (s .status) → v ≤ widestGroup
-      → happened (result 0 0 []) (boxOf (withStatus t s)) ≡ happens (boxOf s) (condition v)
+  pub condition-on : (t : Status) → t ≡ reportedIn x v (s .status) → v ≤ widestGroup
+      → happened (result 0 0 []) (boxOf (withStatus t s)) ≡ happens (boxOf s) (condition x v)
   unfolding happens reported if_then_else_
-  condition-on t is h = rw (le-leb v widestGroup h, is, reported-yes (s .status) v h)
+  condition-on t is h = rw (le-leb v widestGroup h, is, reported-yes (s .status) v x h)
 
-  pub condition-short : (t : Status) → t ≡ reportedIn v (s .status) → v ≤ widestGroup → Short s → Short (withStatus t s)
-  condition-short t is h w = record { queued = rw (is, reported-yes (s .status) v h) (w .queued); filled = w .filled; waiting = w .waiting }
+  pub condition-short : (t : Status) → t ≡ reportedIn x v (s .status) → v ≤ widestGroup → Short s → Short (withStatus t s)
+  condition-short t is h w = record { queued = rw (is, reported-yes (s .status) v x h) (w .queued); filled = w .filled; waiting = w .waiting }
 
 -- ---- power-up
 

@@ -1,8 +1,8 @@
 -- The status record by cases: an error raised, the oldest removed, a condition reported, a register set, the status byte, and
 -- refusal 4.
-use mathlib.Core.Path.{_≡_, refl, sym}
+use mathlib.Core.Path.{_≡_, refl, sym, ap}
 use mathlib.Core.Bool.{Bool, true, false, not, _&&_}
-use mathlib.Core.List.{List, [], _∷_, _++_}
+use mathlib.Core.List.{List, [], _∷_, _++_, map}
 use Prim.Native.Nat.{ℕ, zero, suc, _+_, _-_, _*_, _^_, _≤_, _<_}
 use native.Mathlib.Omega.{arith}
 use lib.Bits.{bitOr}
@@ -15,9 +15,12 @@ use mir.Val.{Fits}
 use borrow.Author.Tests.{lt-ltb, le-ltb, le-leb, lt-leb, eq-eqb, ne-eqb}
 use Rattle.registers.specs.Text.{if_then_else_, first, empty, every}
 use Rattle.registers.specs.Errors.{eventBit, overflow, known}
-use Rattle.registers.specs.Group.{conditionIs, widestGroup}
-use Rattle.registers.specs.Status.{registersOf, troubleOf, raisedIn, oldestReadIn, reportedIn, registerSet, storedIn, withTrouble, withRegisters, withOperation, most, widest, bitIf, meet, summary, statusByte, possibleRegisters, possibleTrouble, possibleStatus}
+use Rattle.registers.specs.Group.{meet, widestGroup, eventRead, possibleGroup, noGroup}
+use Rattle.registers.specs.Status.{registersOf, troubleOf, raisedIn, oldestReadIn, reportedIn, registerSet, storedIn, withTrouble, withRegisters, setReported, setBits, placeOf, most, widest, bitIf, summary, statusByte, possibleRegisters, possibleTrouble, possibleStatus}
 use Rattle.registers.specs.declared.status.Register.{Register}
+use Rattle.registers.specs.declared.status.RegisterSet.{RegisterSet}
+use Rattle.registers.specs.declared.status.RegisterSet.the-variants.{Operation, Lock, Warning}
+use Rattle.registers.specs.declared.group.Group.{Group}
 use Rattle.registers.specs.declared.status.Status.{Status}
 use Rattle.registers.proofs.Tests.{every-skip, every-miss}
 
@@ -76,13 +79,13 @@ shift-end e i long h = rw (h, take-all 15 (drop 1 e) (rw length-drop (omega arit
 -- ---- a condition reported and a register set, by the width
 
 module _ (s : Status) (n : ℕ) where
-  pub reported-yes : n ≤ widestGroup → reportedIn n s ≡ withRegisters (withOperation (conditionIs n (s .operation)) (registersOf s)) s
+  pub reported-yes : (x : RegisterSet) → n ≤ widestGroup → reportedIn x n s ≡ withRegisters (setReported x n (registersOf s)) s
   unfolding reportedIn if_then_else_
-  reported-yes h = rw (le-leb n widestGroup h)
+  reported-yes x h = rw (le-leb n widestGroup h)
 
-  pub reported-no : widestGroup < n → reportedIn n s ≡ s
+  pub reported-no : (x : RegisterSet) → widestGroup < n → reportedIn x n s ≡ s
   unfolding reportedIn if_then_else_
-  reported-no h = rw (lt-leb n widestGroup h)
+  reported-no x h = rw (lt-leb n widestGroup h)
 
   pub set-yes : (x : Register) → n ≤ widest x → registerSet x n s ≡ withRegisters (storedIn x n (registersOf s)) s
   unfolding registerSet if_then_else_
@@ -95,13 +98,13 @@ module _ (s : Status) (n : ℕ) where
 -- ---- the status byte
 
 -- a bit that is on has its weight
-bit-is : (on : Bool) (k : ℕ) → (if on then 2 ^ k else 0) ≡ bitIf on k
+pub bit-is : (on : Bool) (k : ℕ) → (if on then 2 ^ k else 0) ≡ bitIf on k
 unfolding if_then_else_
 bit-is true k = refl
 bit-is false k = refl
 
 -- bits of which none has more than its weight: each sum of them fits its type
-module _ {a b : ℕ} (h : a ≤ 128) (k : b ≤ 32) where
+module _ {a b : ℕ} (h : a ≤ 131) (k : b ≤ 32) where
   pub two-fit : Fits w8 (a + b)
   two-fit = omega arith
 
@@ -123,14 +126,14 @@ queue-empty (x ∷ l) (suc q) h = sym (ne-eqb (suc q) 0 (λ e. omega arith))
 
 module _ (s : Status) (answers : Bool) (long : length (s .errors) ≡ 16) where
   pub summary-is :
-      (if meet (s .operation .event) (s .operation .enable) then 128 else 0)
+      setBits (s .groups)
       + (if meet (s .events) (s .ese) then 32 else 0)
       + (if answers then 16 else 0)
       + (if not (eqb (s .queued) 0) then 4 else 0)
       ≡ summary (registersOf s) (troubleOf s) answers
   unfolding summary
   summary-is =
-      rw (queue-empty (s .errors) (s .queued) (omega arith), bit-is (meet (s .operation .event) (s .operation .enable)) 7, bit-is (meet (s .events) (s .ese)) 5, bit-is answers 4, bit-is (not (eqb (s .queued) 0)) 2)
+      rw (queue-empty (s .errors) (s .queued) (omega arith), bit-is (meet (s .events) (s .ese)) 5, bit-is answers 4, bit-is (not (eqb (s .queued) 0)) 2)
 
   pub byte-is : (n : ℕ) → n ≡ summary (registersOf s) (troubleOf s) answers
       → n + (if meet n (s .sre) then 64 else 0) ≡ statusByte (registersOf s) (troubleOf s) answers
@@ -169,3 +172,43 @@ module _ (s : Status) where
       → possibleRegisters (registersOf s) && (leb (s .events) 255 && every known (take (s .queued) (s .errors))) ≡ possibleStatus s
   unfolding possibleStatus possibleTrouble
   queue-within h = rw (le-leb (s .queued) most h, front-short (s .errors) (s .queued) h)
+
+-- ---- the three groups
+
+-- a set's place is one of the three
+pub place-within : (x : RegisterSet) → placeOf x < 3
+place-within Operation = omega arith
+place-within Lock = omega arith
+place-within Warning = omega arith
+
+-- the three by their places
+pub three : (l : List Group) → length l ≡ 3 → l ≡ getD l 0 noGroup ∷ getD l 1 noGroup ∷ getD l 2 noGroup ∷ []
+three [] e = absurd (omega arith)
+three (a ∷ []) e = absurd (omega arith)
+three (a ∷ b ∷ []) e = absurd (omega arith)
+three (a ∷ b ∷ c ∷ []) e = refl
+three (a ∷ b ∷ c ∷ d ∷ l) e = absurd (omega arith)
+
+pub three-read : (l : List Group) → length l ≡ 3
+    → eventRead (getD l 0 noGroup) ∷ eventRead (getD l 1 noGroup) ∷ eventRead (getD l 2 noGroup) ∷ [] ≡ map eventRead l
+three-read l e = sym (ap (map eventRead) (three l e))
+
+pub three-possible : (l : List Group) → length l ≡ 3
+    → (possibleGroup (getD l 0 noGroup) && possibleGroup (getD l 1 noGroup) && possibleGroup (getD l 2 noGroup)) ≡ every possibleGroup l
+three-possible [] e = absurd (omega arith)
+three-possible (a ∷ []) e = absurd (omega arith)
+three-possible (a ∷ b ∷ []) e = absurd (omega arith)
+three-possible (a ∷ b ∷ c ∷ []) e = shape (possibleGroup a) (possibleGroup b) (possibleGroup c)
+  where
+    shape : (a b c : Bool) → (a && b && c) ≡ (a && (b && (c && true)))
+    shape true true true = refl
+    shape true true false = refl
+    shape true false c = refl
+    shape false b c = refl
+three-possible (a ∷ b ∷ c ∷ d ∷ l) e = absurd (omega arith)
+
+-- the weights of the three bits
+pub bits-are : (l : List Group) → let bit : ℕ → ℕ → ℕ = λ i w. if meet (getD l i noGroup .event) (getD l i noGroup .enable) then w else 0 in
+    bit 0 128 + bit 1 1 + bit 2 2 ≡ setBits l
+unfolding setBits
+bits-are l = rw (bit-is (meet (getD l 0 noGroup .event) (getD l 0 noGroup .enable)) 7, bit-is (meet (getD l 1 noGroup .event) (getD l 1 noGroup .enable)) 0, bit-is (meet (getD l 2 noGroup .event) (getD l 2 noGroup .enable)) 1)

@@ -12,7 +12,7 @@ use lib.Seq.{take-suc-set, take-all, take-take, take-append-le}
 use borrow.Author.Tests.{lt-ltb, le-ltb, ltb-true, ltb-false, eqb-true, eqb-false}
 use Rattle.registers.specs.Text.{if_then_else_, rest}
 use Rattle.registers.specs.Errors.{overflow}
-use Rattle.registers.specs.Status.{registersOf, troubleOf, raised, noTrouble, completed, eventsRead, oldestRead, operationRead, raisedIn, clearedIn, eventsIn, oldestReadIn, most}
+use Rattle.registers.specs.Status.{registersOf, troubleOf, raised, noTrouble, completed, eventsRead, oldestRead, allRead, raisedIn, clearedIn, eventsIn, oldestReadIn, most}
 use Rattle.registers.specs.declared.status.Status.{Status}
 use Rattle.registers.proofs.status.Laws.{raised-more, raised-full, oldest-none, oldest-some}
 
@@ -69,7 +69,7 @@ module _ (s : Status) where
   unfolding clearedIn
   cleared-trouble = refl
 
-  pub cleared-registers : registersOf (clearedIn s) ≡ operationRead (registersOf s)
+  pub cleared-registers : registersOf (clearedIn s) ≡ allRead (registersOf s)
   unfolding clearedIn
   cleared-registers = refl
 

@@ -1,22 +1,24 @@
 -- Refusal 4 never comes by what the box does: registers and trouble that could be the box's stay so.
 use mathlib.Core.Path.{_≡_, refl}
-use mathlib.Core.Bool.{Bool, true, false, _&&_}
-use mathlib.Core.List.{List, [], _∷_, _++_}
-use Prim.Native.Nat.{ℕ, _^_, _≤_, zero-le}
+use mathlib.Core.Bool.{Bool, true, false, not, _&&_, _||_}
+use mathlib.Core.List.{List, [], _∷_, _++_, map}
+use Prim.Native.Nat.{ℕ, zero, suc, _^_, _≤_, _<_, zero-le}
 use native.Mathlib.Omega.{arith}
 use lib.Bits.{bitAnd, bitOr, or-lt}
 use lib.Dec.{leb, ltb, eqb, lit≤}
-use lib.ListN.{length, take, length-append, length-take}
+use lib.ListN.{length, take, set, getD, length-append, length-take}
+use lib.Seq.{getD-set-same, getD-set-other}
 use borrow.Author.Tests.{le-leb, leb-true, ltb-true, eqb-true}
 use Rattle.registers.specs.Text.{if_then_else_, every, rest, below}
 use Rattle.registers.specs.Errors.{eventBit, overflow, known, queueable}
-use Rattle.registers.specs.Group.{widestGroup, conditionIs, possibleGroup}
-use Rattle.registers.specs.Status.{Trouble, Registers, raised, noTrouble, completed, eventsRead, oldestRead, withOperation, operationRead, storedIn, withoutBit6, widest, most, possibleRegisters, possibleTrouble}
+use Rattle.registers.specs.Group.{widestGroup, conditionIs, eventRead, possibleGroup, noGroup}
+use Rattle.registers.specs.Status.{Trouble, Registers, raised, noTrouble, completed, eventsRead, oldestRead, groupIn, withGroup, setRead, allRead, setReported, placeOf, storedIn, withoutBit6, widest, most, possibleRegisters, possibleTrouble}
 use Rattle.registers.specs.declared.status.Register.{Register}
 use Rattle.registers.specs.declared.status.Register.the-variants.{Ese, Sre, Enable, Ntr, Ptr}
+use Rattle.registers.specs.declared.status.RegisterSet.{RegisterSet}
 use Rattle.registers.specs.declared.group.Group.{Group}
-use Rattle.registers.proofs.Tests.{and-both, every-append, every-take, every-rest, below-at}
-use Rattle.registers.proofs.group.Laws.{Widths, widths-from, widths-to, condition-widths, read-widths}
+use Rattle.registers.proofs.Tests.{and-both, and-true, every-append, every-take, every-rest, below-at}
+use Rattle.registers.proofs.group.Laws.{has, transition-bit, Widths, widths-from, widths-to, condition-widths, read-widths}
 
 -- ---- trouble
 
@@ -101,28 +103,51 @@ pub record Fit (r : Registers) : Type 0 where
   pub ese : r .ese ≤ 255
   pub sre : r .sre ≤ 255
   pub bit6 : bitAnd (r .sre) (2 ^ 6) ≡ 0
-  pub operation : Widths (r .operation)
+  pub groups : every possibleGroup (r .groups) ≡ true
 
 pub fit-from : (r : Registers) → possibleRegisters r ≡ true → Fit r
 unfolding possibleRegisters
 fit-from r e =
-    let a = and-both _ (possibleGroup (r .operation)) e in
+    let a = and-both _ (every possibleGroup (r .groups)) e in
     let b = and-both _ (eqb (bitAnd (r .sre) (2 ^ 6)) 0) (a .0) in
     let c = and-both (leb (r .ese) 255) (leb (r .sre) 255) (b .0) in
     record {
       ese = leb-true (r .ese) 255 (c .0);
       sre = leb-true (r .sre) 255 (c .1);
       bit6 = eqb-true (bitAnd (r .sre) (2 ^ 6)) 0 (b .1);
-      operation = widths-from (r .operation) (a .1);
+      groups = a .1;
     }
 
 pub fit-to : (r : Registers) → Fit r → possibleRegisters r ≡ true
 unfolding possibleRegisters
 fit-to r f =
-    rw (le-leb (r .ese) 255 (f .ese), le-leb (r .sre) 255 (f .sre), f .bit6, widths-to (r .operation) (f .operation))
+    rw (le-leb (r .ese) 255 (f .ese), le-leb (r .sre) 255 (f .sre), f .bit6, f .groups)
 
-pub group-fit : (g : Group) (r : Registers) → Widths g → Fit r → Fit (withOperation g r)
-group-fit g r w f = record { ese = f .ese; sre = f .sre; bit6 = f .bit6; operation = w }
+-- every group by its place, and with another at a place
+every-set : (gs : List Group) (i : ℕ) (g : Group) → every possibleGroup gs ≡ true → possibleGroup g ≡ true → every possibleGroup (set gs i g) ≡ true
+every-set [] i g e f = refl
+every-set (x ∷ gs) zero g e f = and-true f (and-both (possibleGroup x) (every possibleGroup gs) e .1)
+every-set (x ∷ gs) (suc i) g e f =
+    let p = and-both (possibleGroup x) (every possibleGroup gs) e in
+    and-true (p .0) (every-set gs i g (p .1) f)
+
+every-get : (gs : List Group) (i : ℕ) → every possibleGroup gs ≡ true → possibleGroup (getD gs i noGroup) ≡ true
+unfolding possibleGroup
+every-get [] i e = refl
+every-get (x ∷ gs) zero e = and-both (possibleGroup x) (every possibleGroup gs) e .0
+every-get (x ∷ gs) (suc i) e = every-get gs i (and-both (possibleGroup x) (every possibleGroup gs) e .1)
+
+every-read : (gs : List Group) → every possibleGroup gs ≡ true → every possibleGroup (map eventRead gs) ≡ true
+every-read [] e = refl
+every-read (x ∷ gs) e =
+    let p = and-both (possibleGroup x) (every possibleGroup gs) e in
+    and-true (widths-to _ (read-widths x (widths-from x (p .0)))) (every-read gs (p .1))
+
+pub widths-in : (x : RegisterSet) (r : Registers) → Fit r → Widths (groupIn x r)
+widths-in x r f = widths-from _ (every-get (r .groups) (placeOf x) (f .groups))
+
+pub group-fit : (x : RegisterSet) (g : Group) (r : Registers) → Widths g → Fit r → Fit (withGroup x g r)
+group-fit x g r w f = record { ese = f .ese; sre = f .sre; bit6 = f .bit6; groups = every-set (r .groups) (placeOf x) g (f .groups) (widths-to g w) }
 
 -- *SRE without bit 6, at each of its 256 values
 sre-table : below 256 (λ n. leb (withoutBit6 n) 255 && eqb (bitAnd (withoutBit6 n) (2 ^ 6)) 0) ≡ true
@@ -137,14 +162,28 @@ sre-stored n h =
 
 pub stored-fit : (x : Register) (n : ℕ) (r : Registers) → n ≤ widest x → Fit r → Fit (storedIn x n r)
 unfolding storedIn
-stored-fit Ese n r h f = record { ese = h; sre = f .sre; bit6 = f .bit6; operation = f .operation }
-stored-fit Sre n r h f = record { ese = f .ese; sre = sre-stored n h .0; bit6 = sre-stored n h .1; operation = f .operation }
-stored-fit Enable n r h f = let w = f .operation in group-fit _ r (record { condition = w .condition; event = w .event; enable = h; ptr = w .ptr; ntr = w .ntr }) f
-stored-fit Ntr n r h f = let w = f .operation in group-fit _ r (record { condition = w .condition; event = w .event; enable = w .enable; ptr = w .ptr; ntr = h }) f
-stored-fit Ptr n r h f = let w = f .operation in group-fit _ r (record { condition = w .condition; event = w .event; enable = w .enable; ptr = h; ntr = w .ntr }) f
+stored-fit Ese n r h f = record { ese = h; sre = f .sre; bit6 = f .bit6; groups = f .groups }
+stored-fit Sre n r h f = record { ese = f .ese; sre = sre-stored n h .0; bit6 = sre-stored n h .1; groups = f .groups }
+stored-fit (Enable x) n r h f = let w = widths-in x r f in group-fit x _ r (record { condition = w .condition; event = w .event; enable = h; ptr = w .ptr; ntr = w .ntr }) f
+stored-fit (Ntr x) n r h f = let w = widths-in x r f in group-fit x _ r (record { condition = w .condition; event = w .event; enable = w .enable; ptr = w .ptr; ntr = h }) f
+stored-fit (Ptr x) n r h f = let w = widths-in x r f in group-fit x _ r (record { condition = w .condition; event = w .event; enable = w .enable; ptr = h; ntr = w .ntr }) f
 
-pub condition-fit : (n : ℕ) (r : Registers) → n ≤ widestGroup → Fit r → Fit (withOperation (conditionIs n (r .operation)) r)
-condition-fit n r h f = group-fit _ r (condition-widths (r .operation) (f .operation) n h) f
+pub condition-fit : (x : RegisterSet) (n : ℕ) (r : Registers) → n ≤ widestGroup → Fit r → Fit (setReported x n r)
+condition-fit x n r h f = group-fit x _ r (condition-widths (groupIn x r) (widths-in x r f) n h) f
 
-pub read-fit : (r : Registers) → Fit r → Fit (operationRead r)
-read-fit r f = group-fit _ r (read-widths (r .operation) (f .operation)) f
+pub read-fit : (x : RegisterSet) (r : Registers) → Fit r → Fit (setRead x r)
+read-fit x r f = group-fit x _ r (read-widths (groupIn x r) (widths-in x r f)) f
+
+pub cleared-fit : (r : Registers) → Fit r → Fit (allRead r)
+cleared-fit r f = record { ese = f .ese; sre = f .sre; bit6 = f .bit6; groups = every-read (r .groups) (f .groups) }
+
+-- 01's transition rule, once over the three sets: a report of one sets its event bits, and leaves the others alone
+module _ (x : RegisterSet) (n : ℕ) (r : Registers) (h : placeOf x < length (r .groups)) where
+  pub transition : (k : ℕ) → let g = groupIn x r in
+      has k (groupIn x (setReported x n r) .event)
+      ≡ (has k (g .event) || (not (has k (g .condition)) && has k n && has k (g .ptr) || has k (g .condition) && not (has k n) && has k (g .ntr)))
+  transition k =
+      rw (getD-set-same (r .groups) (placeOf x) (conditionIs n (groupIn x r)) noGroup h) (transition-bit k n (groupIn x r))
+
+  pub others-stay : (y : RegisterSet) → (placeOf y ≡ placeOf x → ⊥) → groupIn y (setReported x n r) ≡ groupIn y r
+  others-stay y ne = getD-set-other (r .groups) (placeOf x) (placeOf y) (conditionIs n (groupIn x r)) noGroup ne

@@ -4,7 +4,7 @@
 use std::io;
 
 use twin::paper::{nodes, suffixes, Use, HEADERS};
-use twin::SETTINGS;
+use twin::{SetName, SETTINGS};
 
 use crate::dice::Dice;
 use crate::lines::{mix_case, spell, with_suffix, Lines, Manner};
@@ -121,6 +121,8 @@ fn full_answer(dice: &mut Dice) -> Vec<u8> {
         "*ESR?",
         "*STB?",
         ":STAT:OPER?",
+        ":STAT:LOCK?",
+        ":STAT:WARN?",
         "FOO",
         "*OPC?",
     ]));
@@ -183,6 +185,7 @@ fn near_miss(dice: &mut Dice) -> Vec<u8> {
         "VOLT:LEV 1;",
         "CURR:LIM:RMS 1;",
         "STAT:OPER?;",
+        "STAT:LOCK:COND?;",
     ]);
     let form = dice.pick(&["? ", " ", "?", "", "?? ", " ?"]);
     format!("{lead}{}{form}{parameter}", words.join(colon)).into_bytes()
@@ -203,7 +206,7 @@ fn nearly(dice: &mut Dice, word: &str) -> String {
     letters.into_iter().collect()
 }
 
-static NUMBER_HEADERS: [&str; 17] = [
+static NUMBER_HEADERS: [&str; 20] = [
     "VOLT",
     "FREQ",
     "CURR:LIM:RMS",
@@ -219,6 +222,9 @@ static NUMBER_HEADERS: [&str; 17] = [
     "*SRE",
     "STAT:OPER:ENAB",
     "STAT:OPER:NTR",
+    "STAT:LOCK:ENAB",
+    "STAT:LOCK:PTR",
+    "STAT:WARN:NTR",
     "VOLT:RANG",
     "VOLT?",
 ];
@@ -304,6 +310,8 @@ fn near_limit(dice: &mut Dice) -> Vec<u8> {
         ("*ESE", NO_SETTING, 0, 2550, false),
         ("*SRE", NO_SETTING, 0, 2550, false),
         ("STAT:OPER:PTR", NO_SETTING, 0, 327_670, false),
+        ("STAT:LOCK:ENAB", NO_SETTING, 0, 327_670, false),
+        ("STAT:WARN:NTR", NO_SETTING, 0, 327_670, false),
     ]);
     let off = dice.pick(&[-501, -500, -499, -1, 0, 1, 499, 500, 501]);
     let off = if tenth { off } else { 10 * off };
@@ -325,12 +333,19 @@ fn exam_or_not(dice: &mut Dice, header: &str) -> String {
 
 /// A query that would clear something if its answer fitted, which it mostly doesn't.
 fn query_that_does_not_fit(script: &mut Script) -> io::Result<()> {
-    let condition = script.dice.below(32_768) as u16;
-    script.condition(condition)?;
+    for name in SetName::ALL {
+        let condition = script.dice.below(32_768) as u16;
+        script.condition(name, condition)?;
+    }
     script.send(b"*OPC;*WAI\n")?;
-    let query = script
-        .dice
-        .pick(&[":SYST:ERR?", "*ESR?", ":STAT:OPER?", ":STAT:OPER:EVEN?"]);
+    let query = script.dice.pick(&[
+        ":SYST:ERR?",
+        "*ESR?",
+        ":STAT:OPER?",
+        ":STAT:OPER:EVEN?",
+        ":STAT:LOCK?",
+        ":STAT:WARN:EVEN?",
+    ]);
     let before = script.dice.pick(&[
         "VOLT?;VOLT?;VOLT?",
         "VOLT?;VOLT?;*TST?",
@@ -367,16 +382,8 @@ static ALLOWED_ERRORS: [i32; 19] = [
     101, 102, 104, 108, 109, 113, 121, 123, 124, 131, 138, 141, 221, 222, 350, 363, 410, 420, 430,
 ];
 
-static REGISTERS: [&str; 8] = [
-    "esr",
-    "ese",
-    "sre",
-    "condition",
-    "event",
-    "enable",
-    "ptr",
-    "ntr",
-];
+static REGISTERS: [&str; 3] = ["esr", "ese", "sre"];
+static SET_REGISTERS: [&str; 5] = ["condition", "event", "enable", "ptr", "ntr"];
 
 /// The settings' limits, and the voltage's in both ranges.
 static SETTING_LIMITS: [(usize, i32, i32); 18] = [
@@ -408,15 +415,16 @@ fn number_for_any_time(dice: &mut Dice) -> (Field, i32) {
             let around = [lowest, highest, lowest - 1, highest + 1, i32::MIN, i32::MAX];
             (Field::Setting(place), dice.pick(&around))
         }
-        1 => {
-            let (name, around) = match dice.below(8) {
-                place @ 0..=2 => (REGISTERS[place], [0, 63, 64, 127, 191, 192, 255, 256]),
-                place => (
-                    REGISTERS[place],
-                    [0, 1, 255, 256, 32_767, 32_768, 40_000, 65_535],
-                ),
-            };
+        1 if dice.chance(30) => {
+            let around = [0, 63, 64, 127, 191, 192, 255, 256];
+            let name = dice.pick(&REGISTERS);
             (Field::Register(name), dice.pick(&around))
+        }
+        1 => {
+            let around = [0, 1, 255, 256, 32_767, 32_768, 40_000, 65_535];
+            let set = dice.pick(&SetName::ALL);
+            let name = dice.pick(&SET_REGISTERS);
+            (Field::OfSet(set, name), dice.pick(&around))
         }
         _ => {
             let number = match dice.below(3) {

@@ -230,7 +230,7 @@ impl Lines {
     }
 
     fn any_header(&self, dice: &mut Dice) -> Printed {
-        if self.manner == Manner::Varied && dice.chance(10) {
+        if self.manner == Manner::Varied && dice.chance(20) {
             return dice.pick(&HEADERS[OF_01..]);
         }
         // The settings come twice as often as the rest.

@@ -3,7 +3,7 @@
 
 use std::io::{self, Write};
 
-use twin::State;
+use twin::{SetName, State};
 
 use crate::dice::Dice;
 
@@ -60,9 +60,14 @@ impl<'output> Script<'output> {
         self.count()
     }
 
-    pub fn condition(&mut self, value: u16) -> io::Result<()> {
-        let _ = self.box_state.condition(value);
-        writeln!(self.output, "c {value}")?;
+    pub fn condition(&mut self, name: SetName, value: u16) -> io::Result<()> {
+        let _ = self.box_state.condition(name, value);
+        let letter = match name {
+            SetName::Operation => 'c',
+            SetName::Lock => 'k',
+            SetName::Warning => 'w',
+        };
+        writeln!(self.output, "{letter} {value}")?;
         self.count()
     }
 
@@ -119,8 +124,9 @@ impl<'output> Script<'output> {
         match self.dice.below(10) {
             0..=2 => self.look(),
             3..=5 => {
+                let name = self.dice.pick(&SetName::ALL);
                 let value = self.random_condition();
-                self.condition(value)
+                self.condition(name, value)
             }
             6 => self.state(),
             7 => {
@@ -146,6 +152,7 @@ impl<'output> Script<'output> {
 pub enum Field {
     Setting(usize),
     Register(&'static str),
+    OfSet(SetName, &'static str),
     Error(usize),
     Queued,
     Line,
@@ -156,7 +163,9 @@ impl Field {
     fn name(self) -> String {
         match self {
             Field::Setting(place) => format!("setting.{place}"),
-            Field::Register(name) => name.to_string(),
+            Field::Register(name) | Field::OfSet(SetName::Operation, name) => name.to_string(),
+            Field::OfSet(SetName::Lock, name) => format!("lock_{name}"),
+            Field::OfSet(SetName::Warning, name) => format!("warning_{name}"),
             Field::Error(place) => format!("error.{place}"),
             Field::Queued => "queued".to_string(),
             Field::Line => "line".to_string(),
@@ -169,12 +178,18 @@ impl Field {
         match name {
             "esr" => &mut status.esr,
             "ese" => &mut status.ese,
-            "sre" => &mut status.sre,
-            "condition" => &mut status.condition,
-            "event" => &mut status.event,
-            "enable" => &mut status.enable,
-            "ptr" => &mut status.ptr,
-            _ => &mut status.ntr,
+            _ => &mut status.sre,
+        }
+    }
+
+    fn of_set<'state>(name: SetName, register: &str, state: &'state mut State) -> &'state mut u16 {
+        let set = state.instrument.status.set_mut(name);
+        match register {
+            "condition" => &mut set.condition,
+            "event" => &mut set.event,
+            "enable" => &mut set.enable,
+            "ptr" => &mut set.ptr,
+            _ => &mut set.ntr,
         }
     }
 
@@ -182,6 +197,7 @@ impl Field {
         match self {
             Field::Setting(place) => state.instrument.settings.values[place] = value,
             Field::Register(name) => *Field::register(name, state) = value as u16,
+            Field::OfSet(set, name) => *Field::of_set(set, name, state) = value as u16,
             Field::Error(place) => state.instrument.status.errors[place] = value as u16,
             Field::Queued => state.instrument.status.queued = value as usize,
             Field::Line => state.line.length = value as usize,
@@ -193,6 +209,7 @@ impl Field {
         match self {
             Field::Setting(place) => state.instrument.settings.values[place],
             Field::Register(name) => i32::from(*Field::register(name, state)),
+            Field::OfSet(set, name) => i32::from(*Field::of_set(set, name, state)),
             Field::Error(place) => i32::from(state.instrument.status.errors[place]),
             Field::Queued => state.instrument.status.queued as i32,
             Field::Line => state.line.length as i32,

@@ -50,15 +50,15 @@ returns-4 c = rw (c .before .enum-told2 .given .1, c .clear .ensures)
 enum-known-deed-2 : tie.Need-enum-known-deed-2
 enum-known-deed-2 c = c .match .keys4
 
-enum-told-3 : tie.Need-enum-told-3
-enum-told-3 c = omega arith
+enum-known-query : tie.Need-enum-known-query
+enum-known-query c = omega arith
 
-read-operation-requires : tie.Need-read-operation-requires
-read-operation-requires c κs = tt
+read-event-requires : tie.Need-read-event-requires
+read-event-requires c κs = tt
 
 returns-5 : tie.Need-returns-5
-returns-5 c = rw (c .before .before .before .before .deed2 .given .1, c .before .enum-told3 .given .1, c .read-operation .ensures)
-    (record { registers = λ _ _. refl; trouble = refl; queued = c .before .before .before .before .before .before .pre })
+returns-5 c = rw (c .before .before .before .before .before .deed2 .given .1, c .before .before .query .given .1, c .read-event .ensures)
+    (record { registers = λ _ _. refl; trouble = refl; queued = c .before .before .before .before .before .before .before .pre })
 
 returns-6 : tie.Need-returns-6
 returns-6 c = rw (c .before .before .deed2 .given .1) (only-asked (c .before .before .before .before .args .status) (c .before .before .before .before .pre) _ (c .match3 .keys2))
@@ -66,26 +66,26 @@ returns-6 c = rw (c .before .before .deed2 .given .1) (only-asked (c .before .be
 enum-known-deed-3 : tie.Need-enum-known-deed-3
 enum-known-deed-3 c = c .match .keys5
 
-enum-told-4 : tie.Need-enum-told-4
-enum-told-4 c = omega arith
+enum-told-3 : tie.Need-enum-told-3
+enum-told-3 c = omega arith
 
 read-events-requires : tie.Need-read-events-requires
 read-events-requires c κs = tt
 
 returns-7 : tie.Need-returns-7
 unfolding eventsIn eventsRead
-returns-7 c = rw (c .before .before .before .before .deed3 .given .1, c .before .enum-told4 .given .1, c .read-events .ensures)
+returns-7 c = rw (c .before .before .before .before .deed3 .given .1, c .before .enum-told3 .given .1, c .read-events .ensures)
     (record { registers = λ _ _. refl; trouble = refl; queued = c .before .before .before .before .before .before .pre })
+
+enum-told-4 : tie.Need-enum-told-4
+enum-told-4 c = omega arith
+
+returns-8 : tie.Need-returns-8
+returns-8 c = rw (c .before .before .before .deed3 .given .1, c .enum-told4 .given .1)
+    (record { registers = λ _ _. refl; trouble = refl; queued = c .before .before .before .before .before .pre })
 
 enum-told-5 : tie.Need-enum-told-5
 enum-told-5 c = omega arith
-
-returns-8 : tie.Need-returns-8
-returns-8 c = rw (c .before .before .before .deed3 .given .1, c .enum-told5 .given .1)
-    (record { registers = λ _ _. refl; trouble = refl; queued = c .before .before .before .before .before .pre })
-
-enum-told-6 : tie.Need-enum-told-6
-enum-told-6 c = omega arith
 
 read-oldest-requires : tie.Need-read-oldest-requires
 read-oldest-requires c κs = tt
@@ -94,7 +94,7 @@ returns-9 : tie.Need-returns-9
 returns-9 c =
     let t = c .before .before .before .before .before .before .args .status in
     let long : length (t .errors) ≡ 16 = search needs in
-    rw (c .before .before .before .before .deed3 .given .1, c .before .enum-told6 .given .1, c .read-oldest .ensures)
+    rw (c .before .before .before .before .deed3 .given .1, c .before .enum-told5 .given .1, c .read-oldest .ensures)
     (record {
       registers = λ _ _. oldest-registers t long (c .before .before .before .before .before .before .pre);
       trouble = oldest-trouble t long (c .before .before .before .before .before .before .pre);
@@ -117,16 +117,16 @@ status-after-spec =
     clear-requires
     returns-4
     enum-known-deed-2
-    enum-told-3
-    read-operation-requires
+    enum-known-query
+    read-event-requires
     returns-5
     returns-6
     enum-known-deed-3
-    enum-told-4
+    enum-told-3
     read-events-requires
     returns-7
-    enum-told-5
+    enum-told-4
     returns-8
-    enum-told-6
+    enum-told-5
     read-oldest-requires
     returns-9)

@@ -40,11 +40,17 @@ enum-known-query-3 c = c .match .keys6
 register-requires : tie.Need-register-requires
 register-requires c κs = tt
 
-enum-told-4 : tie.Need-enum-told-4
-enum-told-4 c = c .match .keys7
+enum-known-query-4 : tie.Need-enum-known-query-4
+enum-known-query-4 c = c .match .keys7
 
-enum-told-5 : tie.Need-enum-told-5
-enum-told-5 c = c .match .keys8
+group-requires : tie.Need-group-requires
+group-requires c κs = tt
+
+enum-known-query-5 : tie.Need-enum-known-query-5
+enum-known-query-5 c = c .match .keys8
+
+group-requires-2 : tie.Need-group-requires-2
+group-requires-2 c κs = tt
 
 returns : tie.Need-returns
 unfolding textOf replyTo
@@ -77,11 +83,11 @@ returns-6 c = rw (c .before .before .query3 .given .1, c .register .ensures) (re
 
 returns-7 : tie.Need-returns-7
 unfolding textOf replyTo
-returns-7 c = rw (c .enum-told4 .given .1) (record { is = refl; some = refl; stands = tt })
+returns-7 c = rw (c .before .before .query4 .given .1, c .group .ensures) (record { is = refl; some = refl; stands = tt })
 
 returns-8 : tie.Need-returns-8
 unfolding textOf replyTo
-returns-8 c = rw (c .enum-told5 .given .1) (record { is = refl; some = refl; stands = tt })
+returns-8 c = rw (c .before .before .query5 .given .1, c .group2 .ensures) (record { is = refl; some = refl; stands = tt })
 
 pub to-query-spec : {M : Type 1} → statement M
 to-query-spec =
@@ -97,8 +103,10 @@ to-query-spec =
     to-value-requires-2
     enum-known-query-3
     register-requires
-    enum-told-4
-    enum-told-5
+    enum-known-query-4
+    group-requires
+    enum-known-query-5
+    group-requires-2
     returns
     returns-2
     returns-3

@@ -1,21 +1,32 @@
+use mathlib.Core.Path.{_≡_, refl, sym, _∙_, ap}
 use Rattle.registers.specs.Status.{registerIn}
+use borrow.Author.Needs.{needs}
 use Rattle.registers.proofs.status.Status.register.Statement.{statement}
 use Rattle.registers.proofs.status.Status.register.Tie as tie
 
 enum-told : tie.Need-enum-told
-enum-told c = c .match .keys1
+enum-told c = search needs
 
 enum-told-2 : tie.Need-enum-told-2
-enum-told-2 c = c .match .keys2
+enum-told-2 c = search needs
 
-enum-told-3 : tie.Need-enum-told-3
-enum-told-3 c = c .match .keys3
+enum-known-register : tie.Need-enum-known-register
+enum-known-register c = search needs
 
-enum-told-4 : tie.Need-enum-told-4
-enum-told-4 c = c .match .keys4
+group-requires : tie.Need-group-requires
+group-requires c κs = tt
 
-enum-told-5 : tie.Need-enum-told-5
-enum-told-5 c = c .match .keys5
+enum-known-register-2 : tie.Need-enum-known-register-2
+enum-known-register-2 c = search needs
+
+group-requires-2 : tie.Need-group-requires-2
+group-requires-2 c κs = tt
+
+enum-known-register-3 : tie.Need-enum-known-register-3
+enum-known-register-3 c = search needs
+
+group-requires-3 : tie.Need-group-requires-3
+group-requires-3 c κs = tt
 
 returns : tie.Need-returns
 unfolding registerIn
@@ -27,15 +38,15 @@ returns-2 c = rw (c .enum-told2 .given .1)
 
 returns-3 : tie.Need-returns-3
 unfolding registerIn
-returns-3 c = rw (c .enum-told3 .given .1)
+returns-3 c = rw (c .before .before .register .given .1, c .group .ensures)
 
 returns-4 : tie.Need-returns-4
 unfolding registerIn
-returns-4 c = rw (c .enum-told4 .given .1)
+returns-4 c = rw (c .before .before .register2 .given .1, c .group2 .ensures)
 
 returns-5 : tie.Need-returns-5
 unfolding registerIn
-returns-5 c = rw (c .enum-told5 .given .1)
+returns-5 c = rw (c .before .before .register3 .given .1, c .group3 .ensures)
 
 pub register-spec : {M : Type 1} → statement M
 register-spec =
@@ -43,9 +54,12 @@ register-spec =
     (tie.spec
     enum-told
     enum-told-2
-    enum-told-3
-    enum-told-4
-    enum-told-5
+    enum-known-register
+    group-requires
+    enum-known-register-2
+    group-requires-2
+    enum-known-register-3
+    group-requires-3
     returns
     returns-2
     returns-3

@@ -1,8 +1,9 @@
+use mathlib.Core.Path.{_≡_, refl, sym, _∙_, ap}
 use lib.Bits.{and-le-l}
 use Prim.Native.Nat.{_<_}
-use Rattle.registers.proofs.status.Laws.{set-yes, set-no}
-use mathlib.Core.Path.{_≡_, sym, _∙_}
 use Rattle.registers.specs.Status.{registersOf, withRegisters, storedIn, registerSet, withoutBit6, widest}
+use Rattle.registers.proofs.status.Laws.{set-yes, set-no}
+use borrow.Author.Needs.{needs}
 use Rattle.registers.proofs.status.Status.store.Statement.{statement}
 use Rattle.registers.proofs.status.Status.store.Tie as tie
 
@@ -10,56 +11,69 @@ use Rattle.registers.proofs.status.Status.store.Tie as tie
 fits : (e : tie.Else1)
     → let a = e .before .before .args in
     registerSet (a .register) (a .value) (a .self) ≡ withRegisters (storedIn (a .register) (a .value) (registersOf (a .self))) (a .self)
-fits e =
-    let a = e .before .before .args in
-    set-yes (a .self) (a .value) (a .register) (rw (e .before .widest .ensures) at (e .if1 .left))
+fits e = let a = e .before .before .args in set-yes (a .self) (a .value) (a .register) (rw (e .before .widest .ensures) at (e .if1 .left))
 
 widest-requires : tie.Need-widest-requires
 widest-requires c κs = tt
 
 returns : tie.Need-returns
-returns c =
-    let a = c .before .before .args in
-    let h : widest (a .register) < a .value = rw (c .before .widest .ensures) at (c .if1 .taken) in
-    sym (set-no (a .self) (a .value) (a .register) h)
+returns c = let a = c .before .before .args in let h : widest (a .register) < a .value = rw (c .before .widest .ensures) at (c .if1 .taken) in sym (set-no (a .self) (a .value) (a .register) h)
 
 enum-told : tie.Need-enum-told
-enum-told c = c .match .keys1
-
-enum-told-2 : tie.Need-enum-told-2
-enum-told-2 c = c .match .keys2
-
-sub-self : tie.Need-sub-self
-sub-self c = and-le-l (c .before .before .before .before .args .value) _
-
-enum-told-3 : tie.Need-enum-told-3
-enum-told-3 c = c .match .keys3
-
-enum-told-4 : tie.Need-enum-told-4
-enum-told-4 c = c .match .keys4
-
-enum-told-5 : tie.Need-enum-told-5
-enum-told-5 c = c .match .keys5
+enum-told c = search needs
 
 returns-2 : tie.Need-returns-2
 unfolding storedIn
 returns-2 c = sym (fits (c .before .before) ∙ rw (c .enum-told .given .1))
 
+enum-told-2 : tie.Need-enum-told-2
+enum-told-2 c = search needs
+
+sub-self : tie.Need-sub-self
+sub-self c = and-le-l (c .before .before .before .before .args .value) _
+
 returns-3 : tie.Need-returns-3
 unfolding storedIn withoutBit6
 returns-3 c = sym (fits (c .before .before) ∙ rw (c .enum-told2 .given .1))
 
+enum-known-register : tie.Need-enum-known-register
+enum-known-register c = search needs
+
+group-requires : tie.Need-group-requires
+group-requires c κs = tt
+
+with-group-requires : tie.Need-with-group-requires
+with-group-requires c κs = tt
+
 returns-4 : tie.Need-returns-4
 unfolding storedIn
-returns-4 c = sym (fits (c .before .before .before) ∙ rw (c .before .enum-told3 .given .1))
+returns-4 c = let e = c .before .before .before .before .before in sym (fits e ∙ rw (c .before .before .before .register .given .1, c .with-group .ensures, c .before .group .ensures))
+
+enum-known-register-2 : tie.Need-enum-known-register-2
+enum-known-register-2 c = search needs
+
+group-requires-2 : tie.Need-group-requires-2
+group-requires-2 c κs = tt
+
+with-group-requires-2 : tie.Need-with-group-requires-2
+with-group-requires-2 c κs = tt
 
 returns-5 : tie.Need-returns-5
 unfolding storedIn
-returns-5 c = sym (fits (c .before .before .before) ∙ rw (c .before .enum-told4 .given .1))
+returns-5 c = let e = c .before .before .before .before .before in sym (fits e ∙ rw (c .before .before .before .register2 .given .1, c .with-group2 .ensures, c .before .group2 .ensures))
+
+enum-known-register-3 : tie.Need-enum-known-register-3
+enum-known-register-3 c = search needs
+
+group-requires-3 : tie.Need-group-requires-3
+group-requires-3 c κs = tt
+
+with-group-requires-3 : tie.Need-with-group-requires-3
+with-group-requires-3 c κs = tt
 
 returns-6 : tie.Need-returns-6
 unfolding storedIn
-returns-6 c = sym (fits (c .before .before .before) ∙ rw (c .before .enum-told5 .given .1))
+returns-6 c = let e = c .before .before .before .before .before in sym (fits e ∙ rw (c .before .before .before .register3 .given .1, c .with-group3 .ensures, c .before .group3 .ensures))
 
 pub store-spec : {M : Type 1} → statement M
 store-spec =
@@ -68,13 +82,19 @@ store-spec =
     widest-requires
     returns
     enum-told
+    returns-2
     enum-told-2
     sub-self
-    enum-told-3
-    enum-told-4
-    enum-told-5
-    returns-2
     returns-3
+    enum-known-register
+    group-requires
+    with-group-requires
     returns-4
+    enum-known-register-2
+    group-requires-2
+    with-group-requires-2
     returns-5
+    enum-known-register-3
+    group-requires-3
+    with-group-requires-3
     returns-6)
