@@ -108,6 +108,11 @@ impl Status {
         &mut self.sets[name as usize]
     }
 
+    /// 02, #105: whether any lock condition bit is 1.
+    pub(crate) fn is_locked(&self) -> bool {
+        self.set(SetName::Lock).condition != 0
+    }
+
     /// 01, refusal 4, as far as it concerns registers and queue.
     pub(crate) fn could_be_the_boxs(&self) -> bool {
         let eight = self.esr | self.ese | self.sre;

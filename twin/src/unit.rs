@@ -1,4 +1,4 @@
-//! One line run unit by unit, and the nine checks on one unit.
+//! One line run unit by unit, and the checks on one unit: 01's nine, and the lock's (02, #105).
 
 use std::cmp::Ordering;
 
@@ -83,18 +83,31 @@ impl Instrument {
             Row::Register(register) => self.write_register(register, parameters.one()?)?,
             _ => {
                 parameters.none()?;
-                self.obey_common(row);
+                self.obey_common(row)?;
             }
         }
         Ok(())
     }
 
-    fn obey_common(&mut self, row: Row) {
+    fn obey_common(&mut self, row: Row) -> Result<(), Error> {
         match row {
             Row::OperationComplete => self.status.operation_complete(),
-            Row::Reset => self.settings = Settings::reset(),
+            Row::Reset => {
+                self.must_not_be_locked()?;
+                self.settings = Settings::reset();
+            }
             Row::Clear => self.status.clear(),
             _ => {}
+        }
+        Ok(())
+    }
+
+    /// 02, #105: the check between 7 and 8.
+    fn must_not_be_locked(&self) -> Result<(), Error> {
+        if self.status.is_locked() {
+            Err(Error::SettingsConflict)
+        } else {
+            Ok(())
         }
     }
 
@@ -106,6 +119,11 @@ impl Instrument {
                 self.read_number(setting, step, quantity, parameter)?
             }
         };
+        // Switching off is never blocked.
+        let switches_off = setting == Setting::OutputState && value == 0;
+        if !switches_off {
+            self.must_not_be_locked()?;
+        }
         if setting == Setting::VoltageRange
             && value == R12V
             && self.settings.voltage_is_above_r12v()

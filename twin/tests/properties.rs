@@ -7,7 +7,7 @@ use bench::*;
 use twin::paper::{nodes, suffixes, Use, HEADERS};
 use twin::{SetName, State, SETTINGS};
 
-static UNITS: [&str; 75] = [
+static UNITS: [&str; 77] = [
     "VOLT 5",
     "VOLT 12.04",
     "VOLT 12.05",
@@ -32,6 +32,8 @@ static UNITS: [&str; 75] = [
     "TIME 4",
     ":CURR:LIM:PEAK:TIME 7",
     "OUTP 1",
+    "OUTP 0",
+    ":OUTP OFF",
     "OUTP:STAT 0.4",
     "REL 0.5",
     "PON ON",
@@ -450,10 +452,43 @@ fn refused_line_is_its_first_units() {
                 bench.answer();
             }
             let name = *dice.pick(&SetName::ALL);
-            bench.state.condition(name, dice.below(8) as u16).unwrap();
+            // Unlocked most of the time, or no setting would change any more.
+            let value = match name {
+                SetName::Lock if dice.below(4) > 0 => 0,
+                _ => dice.below(8) as u16,
+            };
+            bench.state.condition(name, value).unwrap();
         }
     }
     assert!(refused_lines > 5000);
+}
+
+/// A teacher's lock key holds: no line changes a setting, but that the output may go off.
+#[test]
+fn nothing_changes_under_lock() {
+    let mut dice = Dice(6);
+    let mut switched_off = 0;
+    let mut blocked = 0;
+    for _ in 0..2000 {
+        let mut bench = after("OUTP 1");
+        for _ in 0..3 {
+            bench.send(random_line(&mut dice).join(";"));
+        }
+        let bit = 1 << dice.below(15);
+        bench.state.condition(SetName::Lock, bit).unwrap();
+        let before = bench.settings();
+        for _ in 0..3 {
+            let line = random_line(&mut dice).join(";");
+            blocked += usize::from(play(&mut bench.state, &line) == [221]);
+        }
+        let mut allowed = before;
+        allowed[0] = bench.setting(0);
+        assert!(bench.setting(0) <= before[0]);
+        assert_eq!(bench.settings(), allowed);
+        switched_off += before[0] - bench.setting(0);
+    }
+    assert!(switched_off > 50);
+    assert!(blocked > 1000);
 }
 
 /// Runs a line from an emptied queue and event status register, so that what it raises shows.

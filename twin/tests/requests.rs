@@ -317,6 +317,178 @@ mod lock_and_warning_registers {
     }
 }
 
+/// #105: no changes under lock, but switching off.
+mod no_changes_under_lock {
+    use super::*;
+    use twin::paper::{Use, HEADERS};
+    use twin::{SetName, State};
+
+    /// A box that has obeyed a line and is then locked by these condition bits.
+    fn locked(line: &str, bits: u16) -> Bench {
+        let mut bench = after(line);
+        assert_eq!(bench.errors(), [], "{line}");
+        bench.state.condition(SetName::Lock, bits).unwrap();
+        bench
+    }
+
+    /// The line is refused under lock and changes nothing but the queue and its event bit.
+    #[track_caller]
+    fn refused_under_lock(mut bench: Bench, line: &str, number: u16) {
+        let mut expected: State = bench.state.clone();
+        bench.send(line);
+        assert_eq!(bench.errors(), [number], "{line}");
+        expected.instrument.status.queued = 1;
+        expected.instrument.status.errors[0] = number;
+        expected.instrument.status.esr = bench.esr();
+        assert!(same(&bench.state, &expected), "{line}");
+    }
+
+    /// A good parameter for each row of the settings.
+    fn parameters(takes: Use) -> [&'static str; 2] {
+        match takes {
+            Use::Bool => ["1", "OFF"],
+            Use::Words(words) => [words[0], words[1]],
+            _ => ["MIN", "MAX"],
+        }
+    }
+
+    #[test]
+    fn every_setting_command_and_every_bit() {
+        for (place, header, takes) in HEADERS {
+            let Some(place) = place else { continue };
+            let header = header.replace(['[', ']'], "");
+            for parameter in parameters(takes) {
+                if place == 0 && parameter == "OFF" {
+                    continue;
+                }
+                let line = format!("{header} {parameter}");
+                for bit in 0..15 {
+                    refused_under_lock(locked("*WAI", 1 << bit), &line, 221);
+                }
+            }
+        }
+        for bit in 0..15 {
+            refused_under_lock(locked("VOLT 5;OUTP 1", 1 << bit), "*RST", 221);
+        }
+    }
+
+    #[test]
+    fn switching_off_is_never_blocked() {
+        for off in ["OFF", "0", "0.0", "0.4", "-0.4", "1E-9", "-0", "off"] {
+            for header in ["OUTP", "OUTPut:STATe", "outp:stat"] {
+                let mut bench = locked("OUTP 1", 1);
+                bench.send(format!("{header} {off}"));
+                assert_eq!(bench.errors(), [], "{header} {off}");
+                assert_eq!(bench.setting(0), 0, "{header} {off}");
+            }
+        }
+        for on in ["ON", "1", "0.5", "-0.5", "1E9"] {
+            refused_under_lock(locked("*WAI", 1), &format!("OUTP {on}"), 221);
+            refused_under_lock(locked("OUTP 1", 1), &format!("OUTP {on}"), 221);
+        }
+        for line in ["OUTP:PON 0", "OUTP:REL 0", "SYST:KLOC 0", "SYST:EXAM 0"] {
+            refused_under_lock(locked("*WAI", 1), line, 221);
+        }
+    }
+
+    #[test]
+    fn a_value_that_would_change_nothing() {
+        for line in [
+            "VOLT 0",
+            "FREQ 50",
+            "DISP:BRIG 50",
+            "VOLT:RANG R12V",
+            "OUTP:MON:MODE VOLT",
+        ] {
+            refused_under_lock(locked("*WAI", 16_384), line, 221);
+        }
+    }
+
+    #[test]
+    fn order_of_checks() {
+        let lines = [
+            ("VOLT 99", 222),
+            ("VOLT FOO", 141),
+            ("VOLT", 109),
+            ("VOLT 1,2", 108),
+            ("VOLT \"5\"", 104),
+            ("VOLT 5A", 131),
+            ("VOLT 1E10", 123),
+            ("OUTP 0E10", 123),
+            ("OUTP FOO", 141),
+            ("*RST", 221),
+            ("*RST 1", 108),
+            ("*RST?", 113),
+        ];
+        for (line, number) in lines {
+            refused_under_lock(locked("*WAI", 1), line, number);
+        }
+        let bench = locked("VOLT:RANG R24V;LEV 20", 1);
+        refused_under_lock(bench, "VOLT:RANG R12V", 221);
+    }
+
+    #[test]
+    fn exam_mode_and_lock() {
+        refused_under_lock(locked("SYST:EXAM 1", 1), "VOLT 5.05", 222);
+        refused_under_lock(locked("SYST:EXAM 1", 1), "VOLT 5.1", 221);
+        refused_under_lock(locked("SYST:EXAM 1", 1), "SYST:EXAM 0", 221);
+    }
+
+    #[test]
+    fn the_rest_of_the_line_is_dropped() {
+        refused_under_lock(locked("OUTP 1", 1), "OUTP 1;OUTP 0", 221);
+        let mut bench = locked("OUTP 1", 1);
+        bench.send("OUTP 0;OUTP 1;*ESE 5");
+        assert_eq!(bench.errors(), [221]);
+        assert_eq!(bench.setting(0), 0);
+        assert_eq!(bench.state.instrument.status.ese, 0);
+    }
+
+    #[test]
+    fn what_still_works() {
+        let mut bench = locked("*WAI", 32_767);
+        for (place, header, takes) in HEADERS {
+            let header = header.replace(['[', ']'], "");
+            match takes {
+                Use::Register(_) => bench.send(format!("{header} 3")),
+                Use::Both => bench.send(&header),
+                Use::CommandOnly if header != "*RST" => bench.send(&header),
+                _ => {}
+            }
+            if takes != Use::CommandOnly {
+                assert!(bench.ask(format!("{header}?")).is_some());
+            }
+            if let (Some(_), Use::Number(..)) = (place, takes) {
+                assert!(bench.ask(format!("{header}? MAX")).is_some());
+            }
+        }
+        assert_eq!(bench.errors(), []);
+        let status = &bench.state.instrument.status;
+        assert_eq!((status.ese, status.sre), (3, 3));
+        for set in &status.sets {
+            assert_eq!((set.enable, set.ntr, set.ptr), (3, 3, 3));
+        }
+    }
+
+    #[test]
+    fn only_the_lock_condition_locks() {
+        // An event left over, and the other sets' conditions, lock nothing.
+        let mut bench = locked("*WAI", 1);
+        bench.state.condition(SetName::Lock, 0).unwrap();
+        bench.state.condition(SetName::Operation, 32_767).unwrap();
+        bench.state.condition(SetName::Warning, 32_767).unwrap();
+        bench.send("VOLT 5;*RST;FREQ 60");
+        assert_eq!(bench.errors(), []);
+        assert_eq!(bench.setting(FREQUENCY), 600);
+        // A filter masks the event, not the lock; *CLS takes neither away.
+        refused_under_lock(locked("STAT:LOCK:PTR 0", 1), "VOLT 5", 221);
+        let mut bench = locked("*WAI", 1);
+        bench.send("*CLS");
+        bench.send("VOLT 5");
+        assert_eq!(bench.errors(), [221]);
+    }
+}
+
 /// #107: exam mode, in which an off-step number on a settings row is out of range.
 mod exam_mode {
     use super::*;

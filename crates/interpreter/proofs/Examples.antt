@@ -1,4 +1,4 @@
--- The P lines of 01 and the lines of exam mode, computed from the definitions.
+-- The worked lines of 01 and 02, computed from the definitions.
 use mathlib.Core.Path.{refl}
 use Rattle.registers.specs.Text.{if_then_else_, bytes, same, white, printable, digit, letter, wordByte, small, capital}
 use Rattle.registers.specs.Check.{_>>=_, _>>_, check}
@@ -9,26 +9,27 @@ use Rattle.registers.specs.Rounding.{switchedOn, nearest, sizeIn, rounded, size
 use Rattle.registers.specs.Answer.{inPlaces, decimal, tenths}
 use Rattle.registers.specs.Errors.{eventBit}
 use Rattle.registers.specs.Settings.{table, settingAt, atReset, wideRange, lowest, highest, within, conflict, examined, accepted, answerOf}
-use Rattle.registers.specs.Status.{raised, setBits, summary, statusByte, storedIn, registerIn, atStart}
+use Rattle.registers.specs.Group.{rises, falls, eventsAfter, conditionIs, eventRead}
+use Rattle.registers.specs.Status.{raised, completed, withoutBit6, setBits, summary, statusByte, storedIn, registerIn, atStart}
 use Rattle.interpreter.specs.Cuts.{cutAt, trimEnd, trim}
 use Rattle.interpreter.specs.Header.{name, placed, header, spells}
 use Rattle.interpreter.specs.Rows.{settingRows, otherRows, rows, fitsRow, findRow}
 use Rattle.interpreter.specs.Parameter.{parameters, least, greatest, findWord, parameter, valueGiven, settingDeed, limitDeed, registerDeed, deedOf}
 use Rattle.interpreter.specs.Unit.{readUnit}
 use Rattle.interpreter.specs.Box.{powerUp}
-use Rattle.interpreter.specs.Deeds.{changed, replyTo, inquiryReply, joined, fitsAnswer, reply, perform}
+use Rattle.interpreter.specs.Deeds.{permitted, changed, replyTo, inquiryReply, joined, fitsAnswer, reply, perform}
 use Rattle.interpreter.specs.Line.{attempt, refuse, runUnits, interrupted, finished, unitsOf, runLine, endLine, held, byte, piece}
-use Rattle.interpreter.specs.Events.{happens}
+use Rattle.interpreter.specs.Events.{reported, happens, after}
 use Rattle.interpreter.specs.Examples.{examples, outcome, ran, allSet, expected, AllHold}
 
 pub all-hold : AllHold
 unfolding if_then_else_ bytes same white printable digit letter wordByte small capital _>>=_ _>>_ check shortForm longForm matches
     afterSign fractionOf afterFraction exponentOf afterExponent lowering written numeralFrom decimalOf valueOf scaled suffixes noSuffix powerIn remains number
     switchedOn nearest sizeIn rounded sizeSide sideIn inPlaces decimal tenths eventBit
-    table settingAt atReset wideRange lowest highest within conflict examined accepted answerOf raised setBits summary statusByte storedIn registerIn atStart
+    table settingAt atReset wideRange lowest highest within conflict examined accepted answerOf raised completed withoutBit6 rises falls eventsAfter conditionIs eventRead setBits summary statusByte storedIn registerIn atStart
     cutAt trimEnd trim name placed header spells settingRows otherRows rows fitsRow findRow
     parameters least greatest findWord parameter valueGiven settingDeed limitDeed registerDeed deedOf readUnit powerUp
-    changed replyTo inquiryReply joined fitsAnswer reply perform
-    attempt refuse runUnits interrupted finished unitsOf runLine endLine held byte piece happens
+    permitted changed replyTo inquiryReply joined fitsAnswer reply perform
+    attempt refuse runUnits interrupted finished unitsOf runLine endLine held byte piece reported happens after
     examples outcome ran allSet expected
 all-hold = refl

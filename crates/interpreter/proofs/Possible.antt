@@ -22,7 +22,7 @@ use Rattle.registers.proofs.status.Possible.{raised-good, completed-good, event
 use Rattle.interpreter.specs.Box.{Core, Box, box, withSettings, withRegisters, withLine, withAnswer, answerIs, raise, powerUp, mostLine, mostAnswer}
 use Rattle.interpreter.specs.Unit.{Read, readUnit}
 use Rattle.interpreter.specs.UnitParts.{Allowed, AllowedChange}
-use Rattle.interpreter.specs.Deeds.{changed, setCleared, allCleared, afterQuery, afterInquiry, joined, fitsAnswer, reply, perform}
+use Rattle.interpreter.specs.Deeds.{conflictingChange, conflicting, changed, setCleared, allCleared, afterQuery, afterInquiry, joined, fitsAnswer, reply, perform}
 use Rattle.interpreter.specs.Line.{Obeyed, attempt, refuse, next, runUnits, unitsOf, interrupted, finished, runLine, endLine, held, byte, piece}
 use Rattle.interpreter.specs.Events.{Event, started, received, take, condition, look, Happened, taken, reported, happens, possibleCore, possible, after}
 use Rattle.interpreter.specs.declared.deed.Deed.{Deed}
@@ -36,6 +36,7 @@ use Rattle.interpreter.specs.declared.deed.Inquiry.the-variants.{Standar
 use Rattle.interpreter.proofs.Choices.{if-elim}
 use Rattle.interpreter.proofs.unit.Checks.{Holds, passes, hold-bind, hold-check, holds-from}
 use Rattle.interpreter.proofs.unit.Allowed.{read-allowed, read-known}
+use Rattle.interpreter.proofs.perform.Permitted.{hold-permitted}
 
 -- ---- the bounds of a state as facts; its answer has at most k bytes, and there are seventeen settings
 
@@ -79,14 +80,15 @@ reset-long : length (atReset .values) ≡ count
 unfolding atReset table
 reset-long = refl
 
-pub change-fit : (k : ℕ) (x : changes.Change) (c : Core) → AllowedChange (c .settings) x → FitCore k c → FitCore k (changed x c)
+pub change-fit : (k : ℕ) (x : changes.Change) (c : Core) → AllowedChange (c .settings) x → conflictingChange x (c .settings) ≡ false
+    → FitCore k c → FitCore k (changed x c)
 unfolding changed
-change-fit k Nothing c a f = f
-change-fit k (Put i v side) c a f =
-    fit-settings k c f _ (value-good (c .settings) i v (f .long) (f .settings) (a .1) (a .2) (a .0))
+change-fit k Nothing c a n f = f
+change-fit k (Put i v side) c a n f =
+    fit-settings k c f _ (value-good (c .settings) i v (f .long) (f .settings) (a .1) n (a .0))
     (length-set (c .settings .values) i v ∙ f .long)
-change-fit k Reset c a f = fit-settings k c f atReset (limits.good-from atReset reset-possible) reset-long
-change-fit k (Store x n side) c a f = fit-registers k c f _ (stored-fit x n (c .registers) a (f .registers))
+change-fit k Reset c a n f = fit-settings k c f atReset (limits.good-from atReset reset-possible) reset-long
+change-fit k (Store x m side) c a n f = fit-registers k c f _ (stored-fit x m (c .registers) a (f .registers))
 
 cleared-fit : (k : ℕ) (c : Core) → FitCore k c → FitCore k (allCleared c)
 cleared-fit k c f = fit-registers k c f _ (status.cleared-fit (c .registers) (f .registers))
@@ -114,15 +116,16 @@ reply-fit t c f =
     let l = ltb-true (length (joined (c .answer) t)) mostAnswer e in
     passes (fit-answer running c f running (joined (c .answer) t) (omega arith)))
 
-pub perform-fit : (d : Deed) (b : Box) → Allowed (b .core .settings) d → Fit running b → Holds (Fit running) (perform d b)
+pub perform-fit : (d : Deed) (b : Box) → Allowed (b .core .settings) d → conflicting d (b .core .settings) ≡ false → Fit running b
+    → Holds (Fit running) (perform d b)
 unfolding perform
-perform-fit (Change x) b a f = passes (fit running _ _ (change-fit running x (b .core) a (f .core)) (f .trouble))
-perform-fit Complete b a f = passes (fit running _ _ (f .core) (completed-good (b .trouble) (f .trouble)))
-perform-fit Clear b a f = passes (fit running _ _ (cleared-fit running (b .core) (f .core)) none-good)
-perform-fit (Query q) b a f =
+perform-fit (Change x) b a n f = passes (fit running _ _ (change-fit running x (b .core) a n (f .core)) (f .trouble))
+perform-fit Complete b a n f = passes (fit running _ _ (f .core) (completed-good (b .trouble) (f .trouble)))
+perform-fit Clear b a n f = passes (fit running _ _ (cleared-fit running (b .core) (f .core)) none-good)
+perform-fit (Query q) b a n f =
     hold-bind (FitCore running) (Fit running) _ _ (reply-fit _ _ (query-fit running q (b .core) (f .core)))
     (λ c g. passes (fit running c _ g (f .trouble)))
-perform-fit (Inquire q) b a f =
+perform-fit (Inquire q) b a n f =
     hold-bind (FitCore running) (Fit running) _ _ (reply-fit _ _ (f .core))
     (λ c g. passes (fit running c _ g (inquiry-good q (b .trouble) (f .trouble))))
 
@@ -137,7 +140,8 @@ attempt-fit path b u f =
     let s = b .core .settings in
     hold-bind (λ (r : Read). Allowed s (r .deed)) FitObeyed _ _
     (holds-from (readUnit s path u) (λ r e. read-allowed s path u e) (λ n e. read-known s path u e)) (λ r a.
-    hold-bind (Fit running) FitObeyed _ _ (perform-fit (r .deed) b a f) (λ c g. passes g))
+    hold-permitted (r .deed) (b .core) FitObeyed _ (λ l.
+    hold-bind (Fit running) FitObeyed _ _ (perform-fit (r .deed) b a (l .clear) f) (λ c g. passes g)))
 
 pub raise-fit : (n k : ℕ) (b : Box) → known n ≡ true → Fit k b → Fit k (raise n b)
 raise-fit n k b e f = fit k _ _ (f .core) (raised-good (b .trouble) (f .trouble) n e)

@@ -19,3 +19,4 @@ pub mod Demand3
 pub mod Met
 pub mod Dummies
 pub mod Calls
+pub mod Lock

@@ -1,15 +1,19 @@
--- The seventeen settings and "Registers and queue": what a unit that passed checks 1 to 8 does to the box; and check 9.
-use mathlib.Core.Bool.{Bool, not}
+-- The seventeen settings and "Registers and queue": what a unit that passed checks 1 to 7 does to the box, with the lock and check 8
+-- before it and check 9.
+use mathlib.Core.Bool.{Bool, true, false, not, _&&_}
 use mathlib.Core.List.{_∷_, _++_}
 use Prim.Native.Char.{code}
-use lib.Dec.{ltb}
+use lib.Dec.{ltb, eqb}
+use lib.IntN.{pos}
+use lib.Signed.{leZ}
 use lib.ListN.{length}
 use Rattle.registers.specs.Text.{Text, if_then_else_, bytes, empty, first}
 use Rattle.registers.specs.Check.{Checked, passed, _>>=_, _>>_, check}
 use Rattle.registers.specs.Answer.{decimal}
 use Rattle.registers.specs.Errors.{errorText}
-use Rattle.registers.specs.Settings.{kindOf, valueAt, withValue, atReset, answerOf}
-use Rattle.registers.specs.Status.{Trouble, noTrouble, completed, eventsRead, oldestRead, groupIn, setRead, allRead, storedIn, registerIn, statusByte}
+use Rattle.registers.specs.Settings.{output, kindOf, valueAt, withValue, atReset, conflict, answerOf}
+use Rattle.registers.specs.Status.{locked, Trouble, noTrouble, completed, eventsRead, oldestRead, groupIn, setRead, allRead, storedIn, registerIn, statusByte}
+use Rattle.registers.specs.declared.settings.Settings.{Settings}
 use Rattle.registers.specs.declared.status.RegisterSet.{RegisterSet}
 use Rattle.interpreter.specs.Box.{Core, Box, box, withSettings, withRegisters, withAnswer, mostAnswer}
 use Rattle.interpreter.specs.declared.deed.Deed.{Deed}
@@ -29,6 +33,41 @@ changed Nothing c = c
 changed (Put i v x) c = withSettings (withValue i v (c .settings)) c
 changed Reset c = withSettings atReset c
 changed (Store r n x) c = withRegisters (storedIn r n (c .registers)) c
+
+-- ---- the lock (02, #105), then check 8
+
+-- what it blocks: "every setting command and *RST"; "Queries, *CLS, the register commands and OUTPut 0 still work". Off is 0, and check 7
+-- lets nothing below it pass
+abbrev pub blockedChange : changes.Change → Bool
+blockedChange Nothing = false
+blockedChange (Put i v x) = not (eqb i output && leZ v (pos 0))
+blockedChange Reset = true
+blockedChange (Store r n x) = false
+
+abbrev pub blocked : Deed → Bool
+blocked (Change x) = blockedChange x
+blocked Complete = false
+blocked Clear = false
+blocked (Query q) = false
+blocked (Inquire q) = false
+
+-- check 8: "range R12V while the voltage is above 12.0"
+abbrev pub conflictingChange : changes.Change → Settings → Bool
+conflictingChange Nothing s = false
+conflictingChange (Put i v x) s = conflict s i v
+conflictingChange Reset s = false
+conflictingChange (Store r n x) s = false
+
+abbrev pub conflicting : Deed → Settings → Bool
+conflicting (Change x) s = conflictingChange x s
+conflicting Complete s = false
+conflicting Clear s = false
+conflicting (Query q) s = false
+conflicting (Inquire q) s = false
+
+-- "While any lock condition bit is 1, every setting command and *RST is refused with -221 after its value checks and before check 8"
+unfoldable pub permitted : Deed → Core → Checked (Unit {0})
+permitted d c = check 221 (not (blocked d && locked (c .registers))) >> check 221 (not (conflicting d (c .settings)))
 
 -- ---- queries that see the core alone: "*IDN? answers `COURSE,BENCH24,0,4.00`; *TST? `0`; *OPC? `1`", "Register answers are decimal"
 
@@ -86,7 +125,8 @@ fitsAnswer a t = ltb (length (joined a t)) mostAnswer
 unfoldable pub reply : Text → Core → Checked Core
 reply t c = check 430 (fitsAnswer (c .answer) t) >> passed (withAnswer (joined (c .answer) t) c)
 
--- ---- the deed: "*OPC sets event bit 0"; "*CLS clears the event status register, the operation event register and the queue, nothing else"
+-- ---- the deed: "*OPC sets event bit 0"; "*CLS clears the event status register, the operation event register and the queue, nothing
+-- else", by 02 "all three event registers"
 
 unfoldable pub perform : Deed → Box → Checked Box
 perform (Change x) b = passed (box (changed x (b .core)) (b .trouble))

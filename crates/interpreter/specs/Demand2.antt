@@ -9,7 +9,7 @@ use lib.Signed.{leZ}
 use Rattle.registers.specs.Text.{Text, white, every, empty}
 use Rattle.registers.specs.Check.{passed}
 use Rattle.registers.specs.Settings.{count, voltage, twelveVolts, wideRange, kindOf, valueAt, within, answerOf, atReset}
-use Rattle.registers.specs.Status.{allRead}
+use Rattle.registers.specs.Status.{allRead, locked}
 use Rattle.interpreter.specs.Header.{Header, header, isCommon, fullNames}
 use Rattle.interpreter.specs.Rows.{rows, findRow}
 use Rattle.interpreter.specs.Box.{Box, box, withSettings, withRegisters, withLine, powerUp}
@@ -35,7 +35,8 @@ abbrev pub WithinRange : Type 0
 WithinRange = (es : List Event) →
     let s = after powerUp es .core .settings in wideRange s ≡ false → leZ (valueAt s voltage) twelveVolts ≡ true
 
--- ---- "*RST the settings only"; "*CLS clears the event status register, the operation event register and the queue, nothing else"
+-- ---- "*RST the settings only"; "*CLS clears the event status register, the operation event register and the queue, nothing else", by 02
+-- "all three event registers"
 
 abbrev pub ResetsOnly : Type 0
 ResetsOnly = (b : Box) → perform (Change Reset) b ≡ passed (box (withSettings atReset (b .core)) (b .trouble))
@@ -107,13 +108,23 @@ pub record Back (asking sending back : Box) : Type 0 where
   pub accepted : lineRefusal sending ≡ 0
   pub rest : back ≡ box (withLine [] false (sending .core)) (sending .trouble)
 
+-- a setting's answer is asked for, taken, and sent back
+pub record Trip (i : ℕ) (a buffer : Text) (before early late : List Event) : Type 0 where
+  pub first : every inLine early ≡ true
+  pub second : every inLine late ≡ true
+  pub asks : Asks i (after powerUp before)
+  pub took : Took a (happens (after powerUp (queried before ++ early)) (take buffer) .result)
+  pub sends : Sends i a (after powerUp (sentBack before early buffer late))
+
+-- the round trip's premises; "no lock bit is 1" (02, #105) as the line that sends the answer back ends
+pub record Premises (i : ℕ) (a buffer : Text) (before early late : List Event) : Type 0 where
+  pub trip : Trip i a buffer before early late
+  pub free : locked (after powerUp (sentBack before early buffer late) .core .registers) ≡ false
+
 abbrev pub RoundTrip : Type 0
 RoundTrip =
     (i : ℕ) (a buffer : Text) (before early late h : List Event)
-    → every inLine early ≡ true → every inLine late ≡ true
-    → Asks i (after powerUp before)
-    → Took a (happens (after powerUp (queried before ++ early)) (take buffer) .result)
-    → Sends i a (after powerUp (sentBack before early buffer late))
+    → Premises i a buffer before early late
     → Recut h (sentBack before early buffer late ++ newline ∷ [])
     → Back (after powerUp before) (after powerUp (sentBack before early buffer late)) (after powerUp h)
 

@@ -111,7 +111,7 @@ watchDeed Clear = cleared
 watchDeed (Query q) = neither
 watchDeed (Inquire q) = asked
 
--- a unit asks if checks 1 to 8 accept it as such a query, even if -430 then refuses it
+-- a unit asks if checks 1 to 7 accept it as such a query, even if -430 then refuses it: the lock and check 8 refuse no query
 abbrev pub watchRead : Checked Read → Watch
 watchRead (refused n) = neither
 watchRead (passed r) = watchDeed (r .deed)

@@ -1,24 +1,39 @@
--- 01's "Lines to try" that are marked P, and lines of exam mode (02, #107) and with suffixes (02, #101), as one table: each is
--- run from power-up and compared with what it must leave.
+-- 01's "Lines to try" that are marked P, and lines of 02: exam mode (#107), suffixes (#101), the lock and warning registers (#104) and
+-- the lock (#105). One table: each line is run from power-up, behind other events where its row says so, and compared with what it
+-- must leave.
 use mathlib.Core.Path.{_≡_}
 use mathlib.Core.List.{List, [], _∷_, _++_, map}
-use Prim.Native.Nat.{ℕ}
+use Prim.Native.Nat.{ℕ, _+_}
 use Prim.Native.String.{String}
 use lib.ListN.{set}
 use lib.IntN.{ℤ, pos}
-use Rattle.registers.specs.Text.{Text, bytes}
+use Rattle.registers.specs.Text.{Text, if_then_else_, bytes, empty}
 use Rattle.registers.specs.Settings.{atReset, minus}
+use Rattle.registers.specs.declared.status.RegisterSet.the-variants.{Operation, Lock, Warning}
 use Rattle.interpreter.specs.Box.{Box, powerUp}
-use Rattle.interpreter.specs.Events.{received, happens}
+use Rattle.interpreter.specs.Events.{Event, received, condition, look, happens, after}
 
 pub record Example : Type 0 where
+  pub before : List Event
   pub line : String
   pub answer : String  -- the waiting answer with its newline
   pub errors : List ℕ  -- the error queue; 222 stands for -222
   pub sets : List (ℕ × ℤ)  -- settings by their row, in steps; all others are as at *RST
+  pub bits : ℕ  -- of the status byte, those beside bit 4, an answer, and bit 2, an error
 
 abbrev example : String → String → List ℕ → List (ℕ × ℤ) → Example
-example l a e s = record { line = l; answer = a; errors = e; sets = s }
+example l a e s = record { before = []; line = l; answer = a; errors = e; sets = s; bits = 0 }
+
+abbrev behind : List Event → String → String → List ℕ → List (ℕ × ℤ) → ℕ → Example
+behind h l a e s n = record { before = h; line = l; answer = a; errors = e; sets = s; bits = n }
+
+-- a line with its newline, received in one piece
+abbrev sent : String → Event
+sent l = received (bytes l ++ 10 ∷ [])
+
+-- the key turned
+abbrev locked : Event
+locked = condition Lock 4
 
 unfoldable pub examples : List Example
 examples =
@@ -65,27 +80,66 @@ examples =
     -- the scaled value is what exam mode holds to the step
     ∷ example "SYST:EXAM 1\nVOLT 5050 MV" "" (222 ∷ []) ((16, pos 1) ∷ [])
     ∷ example "SYST:EXAM 1\nVOLT 5100 MV;:FREQ 0.0601 KHZ" "" [] ((4, pos 51) ∷ (6, pos 601) ∷ (16, pos 1) ∷ [])
+    -- the lock and warning registers: each set has the five commands of STATus:OPERation and its own condition event
+    ∷ example "STAT:LOCK:COND?;ENAB?;NTR?;PTR?;:STAT:WARN:ENAB?;NTR?;PTR?" "0;0;0;32767;0;0;32767\n" [] []
+    ∷ example "STAT:LOC?" "" (113 ∷ []) []
+    ∷ behind (condition Lock 4 ∷ condition Warning 3 ∷ []) "STAT:LOCK:COND?;EVEN?;:STAT:WARN:COND?;EVEN?;:STAT:OPER?" "4;4;3;3;0\n" [] [] 0
+    ∷ behind (condition Warning 4 ∷ []) "STAT:WARN?;WARN?;WARN:COND?" "4;0;4\n" [] [] 0
+    ∷ behind (sent "STAT:LOCK:NTR 4;PTR 0" ∷ condition Lock 4 ∷ condition Lock 0 ∷ []) "STAT:LOCK:COND?;EVEN?" "0;4\n" [] [] 0
+    ∷ behind (condition Lock 32768 ∷ []) "STAT:LOCK:COND?;EVEN?" "0;0\n" [] [] 0
+    ∷ behind (condition Operation 1 ∷ condition Lock 2 ∷ condition Warning 4 ∷ []) "*CLS;:STAT:OPER?;LOCK?;WARN?;WARN:COND?" "0;0;0;4\n" [] [] 0
+    -- their summaries: WARNing in bit 1, LOCK in bit 0, where the event is enabled
+    ∷ behind (sent "STAT:WARN:ENAB 5" ∷ condition Warning 4 ∷ []) "*STB?" "2\n" [] [] 2
+    ∷ behind (sent "STAT:LOCK:ENAB 5" ∷ condition Lock 4 ∷ []) "*STB?" "1\n" [] [] 1
+    ∷ behind (condition Lock 4 ∷ condition Warning 4 ∷ []) "*STB?" "0\n" [] [] 0
+    ∷ behind (sent "STAT:LOCK:ENAB 1;*SRE 1" ∷ condition Lock 1 ∷ []) "" "" [] [] 65
+    -- the lock: after the value's checks and before check 8, whatever the value is; *RST after -108
+    ∷ behind (locked ∷ []) "VOLT 99" "" (222 ∷ []) [] 0
+    ∷ behind (sent "SYST:EXAM 1" ∷ locked ∷ []) "VOLT 5.05" "" (222 ∷ []) ((16, pos 1) ∷ []) 0
+    ∷ behind (locked ∷ []) "VOLT 5" "" (221 ∷ []) [] 0
+    ∷ behind (locked ∷ []) "VOLT 0" "" (221 ∷ []) [] 0
+    ∷ behind (sent "VOLT:RANG R24V;LEV 20" ∷ locked ∷ []) "VOLT:RANG R12V" "" (221 ∷ []) ((4, pos 200) ∷ (5, pos 1) ∷ []) 0
+    ∷ behind (sent "VOLT 5" ∷ locked ∷ []) "*RST" "" (221 ∷ []) ((4, pos 50) ∷ []) 0
+    ∷ behind (locked ∷ []) "*RST 1" "" (108 ∷ []) [] 0
+    -- "switching off is never blocked", in any spelling; no other bool can be switched off, and the rest of a refused line is dropped
+    ∷ behind (sent "OUTP 1" ∷ locked ∷ []) "OUTP:STAT OFF" "" [] [] 0
+    ∷ behind (sent "OUTP 1" ∷ locked ∷ []) "OUTP 0.4" "" [] [] 0
+    ∷ behind (sent "OUTP 1" ∷ locked ∷ []) "OUTP 1;OUTP 0" "" (221 ∷ []) ((0, pos 1) ∷ []) 0
+    ∷ behind (sent "OUTP:PON 1" ∷ locked ∷ []) "OUTP:PON 0" "" (221 ∷ []) ((1, pos 1) ∷ []) 0
+    ∷ behind (sent "SYST:KLOC 1" ∷ locked ∷ []) "SYST:KLOC 0" "" (221 ∷ []) ((15, pos 1) ∷ []) 0
+    -- queries, register commands, *CLS, *OPC and *WAI work
+    ∷ behind (sent "OUTP 2,3" ∷ locked ∷ []) "VOLT?;*ESE 4;*OPC;*WAI;*CLS;*ESE?;:STAT:LOCK:PTR 5;PTR?" "0.0;4;5\n" [] [] 0
+    -- an event that is left over doesn't lock, and a masked PTR doesn't unlock
+    ∷ behind (locked ∷ condition Lock 0 ∷ []) "VOLT 5;:STAT:LOCK?" "4\n" [] ((4, pos 50) ∷ []) 0
+    ∷ behind (sent "STAT:LOCK:PTR 0" ∷ condition Lock 16384 ∷ []) "STAT:LOCK?;:VOLT 5" "0\n" (221 ∷ []) [] 0
+    ∷ behind (condition Operation 4 ∷ condition Warning 4 ∷ []) "VOLT 5" "" [] ((4, pos 50) ∷ []) 0
     ∷ []
 
--- what is compared: the answer, the queue, and every setting
+-- what is compared: the answer, the queue, every setting, and the status byte that look then sees
 pub record Outcome : Type 0 where
   pub answer : Text
   pub queue : List ℕ
   pub values : List ℤ
+  pub byte : ℕ
 
 unfoldable pub outcome : Box → Outcome
-outcome b = record { answer = b .core .answer; queue = b .trouble .queue; values = b .core .settings .values }
+outcome b = record { answer = b .core .answer; queue = b .trouble .queue; values = b .core .settings .values; byte = happens b look .result .value }
 
--- the line with its newline, received in one piece by a box at power-up
 unfoldable pub ran : Example → Outcome
-ran e = outcome (happens powerUp (received (bytes (e .line) ++ 10 ∷ [])) .box)
+ran e = outcome (after powerUp (e .before ++ sent (e .line) ∷ []))
 
 unfoldable pub allSet : List (ℕ × ℤ) → List ℤ → List ℤ
 allSet [] vs = vs
 allSet (p ∷ ps) vs = allSet ps (set vs (p .0) (p .1))
 
 unfoldable pub expected : Example → Outcome
-expected e = record { answer = bytes (e .answer); queue = e .errors; values = allSet (e .sets) (atReset .values) }
+expected e =
+    record {
+      answer = bytes (e .answer);
+      queue = e .errors;
+      values = allSet (e .sets) (atReset .values);
+      byte = e .bits + (if empty (bytes (e .answer)) then 0 else 16) + (if empty (e .errors) then 0 else 4);
+    }
 
 -- every line of the table leaves what 01 and 02 say
 abbrev pub AllHold : Type 0

@@ -26,3 +26,4 @@ pub mod Demand3
 pub mod Server
 pub mod ServerParts
 pub mod Calls
+pub mod Lock

@@ -6,13 +6,13 @@ use Prim.Native.Char.{code}
 use lib.Dec.{ltb, eqb}
 use lib.ListN.{length}
 use Rattle.registers.specs.Text.{Text, if_then_else_, white, every, empty}
-use Rattle.registers.specs.Check.{Checked, refused, passed, _>>=_}
+use Rattle.registers.specs.Check.{Checked, refused, passed, _>>=_, _>>_}
 use Rattle.interpreter.specs.Cuts.{cutAt}
 use Rattle.interpreter.specs.Box.{Core, Box, box, raise, withLine, answerIs, mostLine}
 use Rattle.interpreter.specs.Unit.{readUnit}
-use Rattle.interpreter.specs.Deeds.{perform}
+use Rattle.interpreter.specs.Deeds.{permitted, perform}
 
--- ---- one unit: all nine checks
+-- ---- one unit: checks 1 to 7, the lock and check 8, and what it does with check 9
 
 -- an obeyed unit leaves the path for the next one, and the box
 pub record Obeyed : Type 0 where
@@ -22,6 +22,7 @@ pub record Obeyed : Type 0 where
 unfoldable pub attempt : List Text → Box → Text → Checked Obeyed
 attempt path b u =
     readUnit (b .core .settings) path u >>= λ r.
+    permitted (r .deed) (b .core) >>
     perform (r .deed) b >>= λ c.
     passed (record { path = r .path; box = c })
 

@@ -1,5 +1,5 @@
--- Checks 4 to 8 on the parameters of a unit: how many, what each is, and the value that it gives. Check 6 is the lower crate's.
-use mathlib.Core.Bool.{Bool, true, false, not, _&&_, _||_}
+-- Checks 4 to 7 on the parameters of a unit: how many, what each is, and the value that it gives. Check 6 is the lower crate's.
+use mathlib.Core.Bool.{Bool, true, false, _&&_, _||_}
 use mathlib.Core.List.{List, [], _∷_, map}
 use Prim.Native.Nat.{ℕ, zero, suc}
 use Prim.Native.Char.{code}
@@ -11,7 +11,7 @@ use Rattle.registers.specs.Check.{Checked, refused, passed, _>>=_, _>>_, check}
 use Rattle.registers.specs.Words.{matches}
 use Rattle.registers.specs.Number.{number as readNumber, sign, point}
 use Rattle.registers.specs.Rounding.{switchedOn, rounded, sideIn}
-use Rattle.registers.specs.Settings.{Kind, bool, words, number, kindOf, quantityOf, lowest, highest, within, conflict, accepted}
+use Rattle.registers.specs.Settings.{Kind, bool, words, number, kindOf, quantityOf, lowest, highest, within, accepted}
 use Rattle.registers.specs.Status.{widest}
 use Rattle.registers.specs.declared.number.Decimal.{Decimal}
 use Rattle.registers.specs.declared.rounding.Side.{Side}
@@ -86,7 +86,7 @@ takesNumbers bool = true
 takesNumbers (words ws) = false
 takesNumbers (number k low high) = true
 
--- ---- checks 7 and 8: a value is rounded, "and only then compared"
+-- ---- check 7: a value is rounded, "and only then compared"
 
 -- MINimum and MAXimum of a row
 abbrev pub limitAt : Settings → ℕ → ℕ → ℤ
@@ -117,7 +117,7 @@ settingDeed s i t =
     parameter (wordsOf (kindOf i)) (takesNumbers (kindOf i)) (quantityOf i) t >>= λ g.
     let v = valueGiven s i (kindOf i) g in
     let x = sideGiven (kindOf i) g in
-    check 222 (within s i v) >> check 222 (accepted s x) >> check 221 (not (conflict s i v)) >> passed (Change (Put i v x))
+    check 222 (within s i v) >> check 222 (accepted s x) >> passed (Change (Put i v x))
 
 -- the query of a number row with MINimum or MAXimum; a number in a query was refused by check 5
 abbrev pub limitGiven : Settings → ℕ → Given → ℤ
@@ -142,7 +142,7 @@ registerDeed r t =
     let v = registerGiven g in
     check 222 (leZ (pos 0) v && leZ v (pos (widest r))) >> passed (Change (Store r (natAbs v) (registerSide g)))
 
--- checks 5 to 8; a parameter is there where check 4 asked for one
+-- checks 5 to 7; a parameter is there where check 4 asked for one
 unfoldable pub deedOf : Settings → Role → Bool → List Text → Checked Deed
 deedOf s (setting i) true [] = passed (Query (Value i))
 deedOf s (setting i) true (t ∷ ts) = limitDeed s i t

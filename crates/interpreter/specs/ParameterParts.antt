@@ -12,7 +12,7 @@ use Rattle.registers.specs.Text.{Text, if_then_else_, wordByte, every, empty}
 use Rattle.registers.specs.Check.{Checked, refused, passed, _>>=_, _>>_, check}
 use Rattle.registers.specs.Errors.{numberOf}
 use Rattle.registers.specs.Number.{number as readNumber}
-use Rattle.registers.specs.Settings.{Kind, bool, words, number, within, conflict, accepted}
+use Rattle.registers.specs.Settings.{Kind, bool, words, number, within, accepted}
 use Rattle.registers.specs.Status.{widest}
 use Rattle.registers.specs.declared.rounding.Fit.{Fit}
 use Rattle.registers.specs.declared.rounding.Fit.the-variants.{Within, Outside}
@@ -80,11 +80,11 @@ fitIn s i v = if within s i v then Within v else Outside
 abbrev pub roundedTo : Settings → ℕ → ℤ → Side → Rounded
 roundedTo s i v x = record { fit = fitIn s i v; side = x }
 
--- exam mode and check 8 on a value of a setting that the limits let pass, or not; a query asks for it
+-- exam mode on a value of a setting that the limits let pass, or not; a query asks for it
 unfoldable pub putFit : Settings → ℕ → Bool → Fit → Side → Checked Deed
 putFit s i asked Outside x = refused 222
 putFit s i true (Within v) x = passed (Query (Limit i v))
-putFit s i false (Within v) x = check 222 (accepted s x) >> check 221 (not (conflict s i v)) >> passed (Change (Put i v x))
+putFit s i false (Within v) x = check 222 (accepted s x) >> passed (Change (Put i v x))
 
 -- check 7 on a number for a register
 unfoldable pub storeTo : Register → ℤ → Side → Checked Deed

@@ -1,4 +1,5 @@
--- Checks 1 to 8 on one unit. They see the settings, the path and the unit's bytes, and nothing else of the box.
+-- Checks 1 to 7 on one unit. They see the settings, the path and the unit's bytes, and nothing else of the box. The lock and check 8
+-- come behind them: see Deeds.permitted.
 use mathlib.Core.Bool.{not, _||_}
 use mathlib.Core.List.{List}
 use lib.Dec.{leb}
@@ -12,7 +13,7 @@ use Rattle.interpreter.specs.Rows.{rows, findRow}
 use Rattle.interpreter.specs.Parameter.{parameters, least, greatest, deedOf}
 use Rattle.interpreter.specs.declared.deed.Deed.{Deed}
 
--- what an accepted unit does, and the path that it leaves
+-- what a unit asks for, and the path that it leaves
 pub record Read : Type 0 where
   pub deed : Deed
   pub path : List Text
@@ -24,7 +25,7 @@ headerText u = start dark (after white u)
 abbrev pub parameterText : Text → Text
 parameterText u = trim (after dark (after white u))
 
--- the checks in 01's order: 1, 2, 3, 4, then 5 to 8 in deedOf
+-- the checks in 01's order: 1, 2, 3, 4, then 5 to 7 in deedOf
 unfoldable pub readUnit : Settings → List Text → Text → Checked Read
 readUnit s path u =
     check 101 (every (λ b. white b || printable b) u) >>

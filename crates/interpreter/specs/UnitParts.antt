@@ -1,13 +1,13 @@
 -- What the unit reader's own functions say. Nothing of 01 is defined here: see Unit.antt.
 use mathlib.Core.Path.{_≡_}
-use mathlib.Core.Bool.{Bool, true, false, not}
+use mathlib.Core.Bool.{Bool, true, not}
 use Prim.Native.Nat.{ℕ, _+_, _≤_, _<_}
 use lib.Dec.{leb, ltb}
 use lib.ListN.{length, take}
 use Rattle.registers.specs.Text.{Text, if_then_else_, every, empty}
 use Rattle.registers.specs.Check.{Checked, refused, passed, _>>=_, _>>_, check}
 use Rattle.registers.specs.Errors.{numberOf}
-use Rattle.registers.specs.Settings.{count, within, conflict, accepted}
+use Rattle.registers.specs.Settings.{count, within, accepted}
 use Rattle.registers.specs.Status.{widest}
 use Rattle.registers.specs.declared.settings.Settings.{Settings}
 use Rattle.interpreter.specs.Parameter.{parameters, least, greatest, deedOf}
@@ -45,12 +45,12 @@ UnitRead s path u (Obey d) used buffer =
     × (closed (take used buffer) ≡ true)
     × (used ≤ length path + length u)
 
--- ---- what an accepted unit may do: what it stores is within its limits and, in exam mode, on the step, and the settings that
--- it names are there
+-- ---- what a unit that was read asks for: what it stores is within its limits and, in exam mode, on the step, and the settings
+-- that it names are there
 
 abbrev pub AllowedChange : Settings → Change → Type 0
 AllowedChange s Nothing = Unit {0}
-AllowedChange s (Put i v x) = (i < count) × (within s i v ≡ true) × (conflict s i v ≡ false) × (accepted s x ≡ true)
+AllowedChange s (Put i v x) = (i < count) × (within s i v ≡ true) × (accepted s x ≡ true)
 AllowedChange s Reset = Unit {0}
 AllowedChange s (Store x n side) = n ≤ widest x
 

@@ -82,7 +82,12 @@ fn of_set(set: RegisterSet, place: usize) -> Role
     }
 }
 
-// What a row of 01's tables is for: the settings, then 'Registers and queue'.
+// How many rows of 'Registers and queue' stand before those of the register sets, and how many a set has.
+const COMMON_ROWS: usize = 12;
+
+const SET_ROWS: usize = 5;
+
+// What a row is for: the settings, then 'Registers and queue', the register sets last.
 pub(crate) fn role_of(row: usize) -> Role
     requires { ⌜ row < rowCount ⌝ }
     ensures { λ r. ⌜ r ≡ roleAt row ⌝ }
@@ -91,9 +96,9 @@ pub(crate) fn role_of(row: usize) -> Role
         return Role::Setting(row);
     }
     let place = row - Settings::COUNT;
-    if 12 <= place {
-        let within = place - 12;
-        return of_set(set_at(within / 5), within % 5);
+    if COMMON_ROWS <= place {
+        let within = place - COMMON_ROWS;
+        return of_set(set_at(within / SET_ROWS), within % SET_ROWS);
     }
     match place {
         0 => return Role::Question(Deed::Query(Query::Identity)),

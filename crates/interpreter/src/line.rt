@@ -36,7 +36,7 @@ fn refuse(mut done: Done, error: Error) -> Done
     done
 }
 
-// One unit behind those before it: all nine checks, and what it does.
+// One unit behind those before it: checks 1 to 7, then the lock and check 8, then what it does with check 9.
 fn run_unit(
     table: &[u8],
     mut done: Done,
@@ -56,6 +56,9 @@ fn run_unit(
             return refuse(done, error);
         }
         Decision::Obey(deed) => {
+            if !perform::is_permitted(done.present, deed) {
+                return refuse(done, Error::SettingsConflict);
+            }
             done.used = reading.used;
             return perform::perform(table, done, deed, out);
         }

@@ -1,4 +1,4 @@
-// Checks 4 to 8: how many parameters a unit has, what each is, and the value that it gives.
+// Checks 4 to 7: how many parameters a unit has, what each is, and the value that it gives.
 use crate::deed::Change;
 use crate::deed::Deed;
 use crate::deed::Query;
@@ -33,7 +33,7 @@ pub(crate) enum Parameter {
     Figure(Decimal),
 }
 
-// Checks 5 to 8 on a unit's parameters.
+// Checks 5 to 7 on a unit's parameters.
 pub(crate) enum Decision {
     Refused(Error),
     Obey(Deed),
@@ -214,7 +214,7 @@ fn obey_query(query: Query) -> Decision
     Decision::Obey(Deed::Query(query))
 }
 
-// Exam mode and check 8 on a value of a setting, where the limits let one pass. A query asks for it.
+// Exam mode on a value of a setting, where the limits let one pass. A query asks for it.
 fn put(settings: Settings, row: usize, asked: bool, fit: Fit, side: Side) -> Decision
     ensures { λ r. ⌜ meantDeed r ≡ putFit settings row asked fit side ⌝ }
 {
@@ -226,9 +226,6 @@ fn put(settings: Settings, row: usize, asked: bool, fit: Fit, side: Side) -> Dec
             }
             if !settings.accepts(side) {
                 return Decision::Refused(Error::DataOutOfRange);
-            }
-            if settings.conflicts(row, value) {
-                return Decision::Refused(Error::SettingsConflict);
             }
             return Decision::Obey(Deed::Change(Change::Put { row, value, side }));
         }
@@ -252,7 +249,7 @@ fn store(register: Register, d: Decimal) -> Decision
     }
 }
 
-// Checks 5 to 8 on a setting, where check 4 let the number of parameters pass.
+// Checks 5 to 7 on a setting, where check 4 let the number of parameters pass.
 pub(crate) fn decide_setting(
     table: &[u8],
     settings: Settings,

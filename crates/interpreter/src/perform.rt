@@ -1,4 +1,4 @@
-// What an accepted unit does, with check 9.
+// What a unit that was read may do, by the lock and check 8, and what it does, with check 9.
 use crate::deed::Change;
 use crate::deed::Deed;
 use crate::deed::Inquiry;
@@ -8,12 +8,15 @@ use registers::error::Error;
 use registers::settings::Settings;
 use registers::status::Status;
 ghost use mathlib.Core.Path.{_≡_};
+ghost use mathlib.Core.Bool.{false};
 ghost use Prim.Native.Nat.{_≤_, _<_};
 ghost use lib.ListN.{length};
+ghost use Rattle.registers.specs.Check.{check};
 ghost use Rattle.registers.specs.Status.{most};
+ghost use Rattle.interpreter.specs.Deeds.{conflicting, permitted};
 ghost use Rattle.interpreter.specs.Box.{mostAnswer};
 ghost use Rattle.interpreter.specs.RowsParts.{commandTable};
-ghost use Rattle.interpreter.specs.DeedsParts.{raisedWith, settingsLeft, StatusLeft, PerformedIn};
+ghost use Rattle.interpreter.specs.DeedsParts.{coreIn, raisedWith, settingsLeft, StatusLeft, PerformedIn};
 ghost use Rattle.interpreter.specs.UnitParts.{Allowed};
 
 // What the units of a line change. It is small and goes by value; the arrays are lent beside it.
@@ -40,9 +43,28 @@ pub(crate) fn raise(present: Present, error: Error) -> Present
     Present { settings, status }
 }
 
+// Whether a deed passes the lock, which lets the settings change only by switching the output off, and then check 8.
+// Both refuse by -221, so one answer serves for the two.
+pub(crate) fn is_permitted(present: Present, deed: Deed) -> bool
+    ensures { λ r. ⌜ permitted deed (coreIn (present .settings) (present .status)) ≡ check 221 r ⌝ }
+{
+    match deed {
+        Deed::Change(change) => match change {
+            Change::Put { row, value, .. } => {
+                let off = (row == Settings::OUTPUT) & (value <= 0);
+                let free = off | !present.status.is_locked();
+                return free & !present.settings.conflicts(row, value);
+            }
+            Change::Reset => return !present.status.is_locked(),
+            _ => return true,
+        },
+        _ => return true,
+    }
+}
+
 // What a deed leaves of the settings.
 fn settings_after(settings: Settings, deed: Deed) -> Settings
-    requires { ⌜ Allowed settings deed ⌝ }
+    requires { ⌜ Allowed settings deed × (conflicting deed settings ≡ false) ⌝ }
     ensures { λ r. ⌜ r ≡ settingsLeft deed settings ⌝ }
 {
     match deed {
@@ -85,7 +107,7 @@ fn status_after(status: Status, deed: Deed) -> Status
 
 // Performs a deed behind what the line's earlier units answered. The path stays: the unit's header set it.
 pub(crate) fn perform(table: &[u8], mut done: Done, deed: Deed, out: &mut [u8]) -> Done
-    requires { ⌜ (now table ≡ commandTable) × Allowed (done .present .settings) deed ⌝ }
+    requires { ⌜ (now table ≡ commandTable) × Allowed (done .present .settings) deed × (conflicting deed (done .present .settings) ≡ false) ⌝ }
     requires { ⌜ (done .answered < mostAnswer) × (length (now out) ≡ mostAnswer) × (done .present .status .queued ≤ most) ⌝ }
     ensures { λ r. ⌜ PerformedIn deed done (now (out .entry)) r (now (out .exit)) ⌝ }
 {

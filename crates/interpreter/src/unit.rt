@@ -1,4 +1,4 @@
-// Checks 1 to 8 on one unit, a part of the line where it stands.
+// Checks 1 to 7 on one unit, a part of the line where it stands.
 use crate::deed;
 use crate::deed::Role;
 use crate::header;
@@ -22,7 +22,7 @@ ghost use Rattle.interpreter.specs.HeaderParts.{closed};
 ghost use Rattle.interpreter.specs.ParameterParts.{meantDeed};
 ghost use Rattle.interpreter.specs.UnitParts.{decided, UnitRead};
 
-// What checks 1 to 8 say of a unit, and how much of the path's buffer the path takes that it leaves.
+// What checks 1 to 7 say of a unit, and how much of the path's buffer the path takes that it leaves.
 pub(crate) struct Reading {
     pub(crate) decision: Decision,
     pub(crate) used: usize,
@@ -56,7 +56,7 @@ fn trimmed_end(text: &[u8]) -> usize
     0
 }
 
-// Checks 2 to 8 behind the header, on the parameters' text without white space around it.
+// Checks 2 to 7 behind the header, on the parameters' text without white space around it.
 fn decide(table: &[u8], settings: Settings, row: usize, asked: bool, text: &[u8]) -> Decision
     requires { ⌜ (now table ≡ commandTable) × (row ≤ rowCount) × (trim (now text) ≡ now text) ⌝ }
     ensures { λ r. ⌜ meantDeed r ≡ decided settings row asked (now (text .entry)) ⌝ }

@@ -20,7 +20,7 @@ use Rattle.registers.specs.Suffix.{suffixes, noSuffix, powerIn, remains}
 use Rattle.registers.specs.Rounding.{nearest, sizeIn, rounded, fitted, sizeSide, sideIn, switchedOn}
 use Rattle.registers.specs.Settings.{Kind, bool, words, number as steps, Setting, minus, table, settingAt, kindOf, quantityOf, valueAt, atReset, wideRange, lowest, highest, within, conflict, examined, accepted, stored, answerOf}
 use Rattle.registers.specs.Group.{rises, falls, eventsAfter, conditionIs, eventRead, possibleGroup}
-use Rattle.registers.specs.Status.{registersOf, troubleOf, withoutBit6, storedIn, registerIn, summary, statusByte, possibleRegisters, possibleTrouble, possibleStatus, withTrouble, raisedIn, clearedIn, eventsIn, groupIn, setRead, setBits, withRegisters, oldestReadIn, reportedIn, registerSet, atStart}
+use Rattle.registers.specs.Status.{registersOf, troubleOf, withoutBit6, storedIn, registerIn, summary, statusByte, possibleRegisters, possibleTrouble, possibleStatus, withTrouble, raisedIn, clearedIn, eventsIn, groupIn, setRead, locked, setBits, withRegisters, oldestReadIn, reportedIn, registerSet, atStart}
 use Rattle.registers.specs.declared.error.Error.{Error}
 use Rattle.registers.specs.declared.error.Error.the-variants.{Syntax, DataOutOfRange, InputBufferOverrun, QueryUnterminated}
 use Rattle.registers.specs.declared.number.Decimal.{Decimal}
@@ -45,7 +45,7 @@ data Step : Type 0 where
   report : RegisterSet → ℕ → Step  -- a condition
   set : Register → ℕ → Step
   askEvents : Step  -- *ESR?
-  askSet : RegisterSet → Step  -- STATus:OPERation?
+  askSet : RegisterSet → Step  -- STATus:OPERation?, STATus:LOCK?, STATus:WARNing?
   askError : Step  -- SYSTem:ERRor?
   complete : Step  -- *OPC
   clear : Step  -- *CLS
@@ -69,6 +69,7 @@ data Example : Type 0 where
   queue : List Step → List ℕ → Example  -- .. the error queue
   register : List Step → Register → ℕ → Example  -- .. a register
   byte : List Step → Bool → ℕ → Example  -- .. the status byte where an answer has bytes (true) or not
+  locks : List Step → Bool → Example  -- .. does the lock hold
   possible : Status → Bool → Example  -- a status record: could it be the box's
 
 -- ---- the examples
@@ -225,6 +226,15 @@ examples =
     ∷ event Operation (set (Ntr Operation) 4 ∷ report Operation 4 ∷ askSet Operation ∷ report Operation 32768 ∷ []) 0
     ∷ event Operation (report Operation 1 ∷ report Operation 2 ∷ []) 3
     ∷ event Operation (report Operation 4 ∷ clear ∷ []) 0
+    -- the other two sets: a report reaches its own set alone, reading clears one, and *CLS all
+    ∷ event Lock (report Lock 4 ∷ report Warning 3 ∷ []) 4
+    ∷ event Warning (report Lock 4 ∷ report Warning 3 ∷ []) 3
+    ∷ event Operation (report Lock 4 ∷ report Warning 3 ∷ []) 0
+    ∷ event Lock (set (Ptr Lock) 0 ∷ set (Ntr Lock) 4 ∷ report Lock 4 ∷ report Lock 0 ∷ []) 4
+    ∷ event Warning (report Warning 4 ∷ askSet Warning ∷ []) 0
+    ∷ event Warning (report Warning 4 ∷ askSet Lock ∷ []) 4
+    ∷ event Lock (report Lock 4 ∷ clear ∷ []) 0
+    ∷ event Warning (report Warning 4 ∷ clear ∷ []) 0
     -- the event status register: 128 at power-up, and a bit by an error's hundreds
     ∷ events [] 128
     ∷ events (raise Syntax ∷ []) 160
@@ -261,12 +271,21 @@ examples =
     ∷ byte (raise DataOutOfRange ∷ []) false 4
     ∷ byte (set Sre 64 ∷ raise DataOutOfRange ∷ []) false 4
     ∷ byte (set Sre 32 ∷ set Ese 16 ∷ raise DataOutOfRange ∷ []) false 100
-    ∷ event Lock (report Lock 4 ∷ report Warning 3 ∷ []) 4
-    ∷ event Lock (report Lock 4 ∷ clear ∷ []) 0
+    ∷ byte (report Lock 4 ∷ report Warning 4 ∷ []) false 0
     ∷ byte (set (Enable Lock) 4 ∷ report Lock 4 ∷ []) false 1
-    ∷ byte (set (Enable Warning) 4 ∷ report Warning 4 ∷ []) false 2
+    ∷ byte (set (Enable Warning) 5 ∷ report Warning 4 ∷ []) false 2
+    ∷ byte (set (Enable Lock) 1 ∷ set Sre 1 ∷ report Lock 1 ∷ []) false 65
     ∷ byte (set (Enable Operation) 4 ∷ report Operation 4 ∷ []) false 128
     ∷ byte (set (Enable Operation) 4 ∷ set Sre 128 ∷ report Operation 4 ∷ []) true 208
+    -- the lock: any of the fifteen condition bits, and nothing else. An event that is left over doesn't lock, and a masked PTR doesn't unlock
+    ∷ locks [] false
+    ∷ locks (report Lock 1 ∷ []) true
+    ∷ locks (report Lock 16384 ∷ []) true
+    ∷ locks (report Lock 32768 ∷ []) false
+    ∷ locks (report Lock 4 ∷ report Lock 0 ∷ []) false
+    ∷ locks (set (Ptr Lock) 0 ∷ report Lock 4 ∷ []) true
+    ∷ locks (report Lock 4 ∷ askSet Lock ∷ clear ∷ []) true
+    ∷ locks (report Operation 4 ∷ report Warning 4 ∷ []) false
     -- refusal 4: -350 may stand anywhere in the queue, and places beyond its length mean nothing
     ∷ possible atStart true
     ∷ possible (registers 255 191) true
@@ -382,6 +401,7 @@ holds (events xs n) = eqb (stepsFrom atStart xs .events) n
 holds (queue xs ns) = same (troubleOf (stepsFrom atStart xs) .queue) ns
 holds (register xs x n) = eqb (registerIn x (registersOf (stepsFrom atStart xs))) n
 holds (byte xs on n) = eqb (statusByte (registersOf (stepsFrom atStart xs)) (troubleOf (stepsFrom atStart xs)) on) n
+holds (locks xs on) = alike (locked (registersOf (stepsFrom atStart xs))) on
 holds (possible s on) = alike (possibleStatus s) on
 
 all-hold : T (every holds examples)

@@ -1,4 +1,5 @@
--- "Registers and queue": a register group, the condition, event, enable, PTR and NTR of STATus:OPERation.
+-- "Registers and queue": a register group, the condition, event, enable, PTR and NTR of STATus:OPERation; STATus:LOCK and
+-- STATus:WARNing are each the same again (02, #104).
 use Prim.Native.Nat.{ℕ}
 use lib.Bits.{bitAnd, bitOr, bitXor}
 use mathlib.Core.Bool.{Bool, not, _&&_}

@@ -65,9 +65,12 @@ table =
     ∷ row (must "SYSTem" ∷ must "EXAM" ∷ []) bool Nothing (pos 0)
     ∷ []
 
--- how many there are, and the three that a rule names, by their place in the table
+-- how many there are, and the four that a rule names, by their place in the table
 abbrev pub count : ℕ
 count = 17
+
+abbrev pub output : ℕ
+output = 0
 
 abbrev pub voltage : ℕ
 voltage = 4

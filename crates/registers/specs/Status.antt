@@ -104,7 +104,7 @@ registerIn (Enable x) r = groupIn x r .enable
 registerIn (Ntr x) r = groupIn x r .ntr
 registerIn (Ptr x) r = groupIn x r .ptr
 
--- a set's event register read; all three cleared by *CLS
+-- a set's event register read; "*CLS clears all three event registers"
 abbrev pub setRead : RegisterSet → Registers → Registers
 setRead x r = withGroup x (eventRead (groupIn x r)) r
 
@@ -115,6 +115,10 @@ allRead r = record { ese = r .ese; sre = r .sre; groups = map eventRead (r .grou
 abbrev pub setReported : RegisterSet → ℕ → Registers → Registers
 setReported x n r = withGroup x (conditionIs n (groupIn x r)) r
 
+-- "While any lock condition bit is 1": its event, enable, PTR and NTR have no say
+abbrev pub locked : Registers → Bool
+locked r = not (eqb (groupIn Lock r .condition) 0)
+
 -- ---- the status byte
 
 -- the weight of bit k where it is set
@@ -122,7 +126,8 @@ abbrev pub bitIf : Bool → ℕ → ℕ
 bitIf true k = 2 ^ k
 bitIf false k = 0
 
--- a set's bit in the status byte, by Table 2.1 of source document 000
+-- a set's bit in the status byte: 02's bits 1 and 3 for LOCK and WARNing hold "unless Table 2.1 of source document 000 says
+-- otherwise", and it does
 abbrev pub bitOf : RegisterSet → ℕ
 bitOf Operation = 7
 bitOf Lock = 0
@@ -136,7 +141,7 @@ unfoldable pub setBits : List Group → ℕ
 setBits gs = summedUp Operation gs + summedUp Lock gs + summedUp Warning gs
 
 -- "bit 7 operation event AND its enable is not 0; bit 5 the same for *ESR and *ESE; bit 4 an answer has bytes, ..; bit 2 queue not
--- empty"
+-- empty"; bits 0 and 1 are LOCK's and WARNing's, and bit 3 is 0
 unfoldable pub summary : Registers → Trouble → Bool → ℕ
 summary r t answers =
     setBits (r .groups)
@@ -180,7 +185,7 @@ raisedIn n s =
     then withTrouble (bitOr (s .events) (eventBit n)) (s .queued + 1) (set (s .errors) (s .queued) n) s
     else withTrouble (bitOr (bitOr (s .events) (eventBit n)) (eventBit overflow)) (s .queued) (set (s .errors) 15 overflow) s
 
--- "*CLS clears the event status register, the operation event register and the queue, nothing else"
+-- "*CLS clears the event status register, the operation event register and the queue, nothing else"; by 02 "all three event registers"
 unfoldable pub clearedIn : Status → Status
 clearedIn s = withRegisters (allRead (registersOf s)) (withTrouble 0 0 (s .errors) s)
 

@@ -1,4 +1,4 @@
-// A register group: STATus:OPERation.
+// A register group: the five registers of STATus:OPERation, of STATus:LOCK or of STATus:WARNing.
 ghost use mathlib.Core.Path.{_≡_};
 ghost use Rattle.registers.specs.Group.{meet, conditionIs, eventRead, possibleGroup, groupAtStart};
 

@@ -29,6 +29,8 @@ const QUANTITIES: [u8; ROWS] = [0, 0, 0, 0, 1, 0, 3, 2, 0, 0, 4, 4, 2, 2, 0, 0, 
 impl Settings {
     pub const COUNT: usize = ROWS;
 
+    pub const OUTPUT: usize = 0;
+
     pub const VOLTAGE: usize = 4;
 
     pub const RANGE: usize = 5;

@@ -11,7 +11,7 @@ ghost use lib.ListN.{take, drop};
 ghost use Rattle.registers.specs.Text.{if_then_else_, every, first};
 ghost use Rattle.registers.specs.Errors.{numberOf, known};
 ghost use Rattle.registers.specs.Group.{eventRead, possibleGroup};
-ghost use Rattle.registers.specs.Status.{placeOf, groupIn, withGroup, setRead, setBits, registersOf, troubleOf, withRegisters, raisedIn, clearedIn, eventsIn, oldestReadIn, reportedIn, registerSet, registerIn, widest, statusByte, possibleStatus, atStart};
+ghost use Rattle.registers.specs.Status.{locked, placeOf, groupIn, withGroup, setRead, setBits, registersOf, troubleOf, withRegisters, raisedIn, clearedIn, eventsIn, oldestReadIn, reportedIn, registerSet, registerIn, widest, statusByte, possibleStatus, atStart};
 
 pub struct Status {
     pub events: u16,
@@ -84,7 +84,7 @@ fn all_possible(groups: [Group; 3]) -> bool
     groups[0].possible() & groups[1].possible() & groups[2].possible()
 }
 
-// The groups' bits of the status byte.
+// The groups' bits of the status byte: OPERation's is bit 7, LOCK's bit 0, WARNing's bit 1.
 fn set_bits(groups: [Group; 3]) -> u8
     ensures { λ r. ⌜ r ≡ setBits groups ⌝ }
     ensures { λ r. ⌜ r ≤ 131 ⌝ }
@@ -210,6 +210,13 @@ impl Status {
         let i = set.place();
         let groups = self.groups;
         groups[i]
+    }
+
+    // Whether the lock holds: a bit of its condition register is 1.
+    pub fn is_locked(self) -> bool
+        ensures { λ r. ⌜ r ≡ locked (registersOf self) ⌝ }
+    {
+        self.group(RegisterSet::Lock).condition != 0
     }
 
     // The record with other registers of a set.

@@ -7,13 +7,13 @@ use Prim.Native.Nat.{ℕ}
 use lib.Dec.{leb, eqb}
 use lib.ListN.{length}
 use Rattle.registers.specs.Text.{Text, if_then_else_, empty}
-use Rattle.registers.specs.Check.{Checked, refused, passed, _>>=_}
+use Rattle.registers.specs.Check.{Checked, refused, passed, _>>=_, _>>_, check}
 use Rattle.registers.specs.Group.{widestGroup}
 use Rattle.registers.specs.Status.{Trouble, raised}
 use Rattle.registers.specs.declared.status.RegisterSet.{RegisterSet}
 use Rattle.interpreter.specs.Box.{Core, Box, box, withLine, withAnswer, raise}
 use Rattle.interpreter.specs.Unit.{Read, readUnit}
-use Rattle.interpreter.specs.Deeds.{replyTo, afterQuery, reply, perform}
+use Rattle.interpreter.specs.Deeds.{permitted, replyTo, afterQuery, reply, perform}
 use Rattle.interpreter.specs.Line.{Obeyed, attempt, refuse, next, runUnits, unitsOf, interrupted, finished, runLine, endLine, atNewline, held, byte, piece}
 use Rattle.interpreter.specs.Events.{Event, started, received, take, condition, look, Happened, Result, taken, reported, happens, after}
 use Rattle.interpreter.specs.Histories.{isTake, resultsOf, answers}
@@ -45,7 +45,7 @@ abbrev pub leaving : List Text → Checked Box → Checked Obeyed
 leaving path m = m >>= λ b. passed (record { path = path; box = b })
 
 abbrev pub obeys : Core → Deed → List Text → Trouble → Checked Obeyed
-obeys c d path s = leaving path (perform d (box c s))
+obeys c d path s = permitted d c >> leaving path (perform d (box c s))
 
 abbrev pub attempted : Core → Checked Read → Trouble → Checked Obeyed
 attempted c m s = m >>= λ r. obeys c (r .deed) (r .path) s
@@ -59,11 +59,20 @@ module _ (run : List Text → Box → Box) (go : List Text → Box → Watch) (i
   query-agree path (refused n) = refuse-core n c t t′
   query-agree path (passed d) = ih path d t t′
 
+  -- a change, or its refusal by the lock or check 8
+  change-agree : (m : Checked (Unit {0})) (path : List Text) (d : Core)
+      → Agree (watchNext go (m >> passed (record { path = path; box = box d t })))
+      (next run (box c t) (m >> passed (record { path = path; box = box d t })))
+      (next run (box c t′) (m >> passed (record { path = path; box = box d t′ })))
+  unfolding _>>_
+  change-agree (passed u) path d = ih path d t t′
+  change-agree (refused n) path d = refuse-core n c t t′
+
   deed-agree : (d : Deed) (path : List Text)
       → Agree (thenWatch (watchDeed d) (watchNext go (obeys c d path t)))
       (next run (box c t) (obeys c d path t)) (next run (box c t′) (obeys c d path t′))
-  unfolding perform _>>=_
-  deed-agree (Change x) path = ih path _ t t′
+  unfolding permitted perform _>>=_ _>>_ check
+  deed-agree (Change x) path = change-agree (permitted (Change x) c) path _
   deed-agree Complete path = ih path c _ _
   deed-agree Clear path = refl
   deed-agree (Query q) path = query-agree path (reply (replyTo q c) (afterQuery q c))

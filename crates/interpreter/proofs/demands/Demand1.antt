@@ -22,6 +22,7 @@ use Rattle.interpreter.specs.declared.deed.Deed.the-variants.{Change, Co
 use Rattle.interpreter.specs.declared.state.State.{State}
 use Rattle.interpreter.proofs.unit.Checks.{Holds, Any, passes, hold-bind, hold-check, holds-from, at-refused}
 use Rattle.interpreter.proofs.unit.Allowed.{read-known}
+use Rattle.interpreter.proofs.perform.Permitted.{hold-permitted}
 use Rattle.interpreter.proofs.Choices.{if-elim, if₂, if-opposite}
 
 -- ---- numbers 1 to 3
@@ -109,7 +110,8 @@ unfolding attempt
 attempt-known path b u =
     let s = b .core .settings in
     hold-bind Any Any _ _ (holds-from (readUnit s path u) (λ r _. tt) (λ n e. read-known s path u e)) (λ r _.
-    hold-bind Any Any _ _ (perform-known (r .deed) b) (λ c _. passes tt))
+    hold-permitted (r .deed) (b .core) Any _ (λ _.
+    hold-bind Any Any _ _ (perform-known (r .deed) b) (λ c _. passes tt)))
 
 unit-refusals : UnitRefusals
 unfolding runUnits refuse if_then_else_

@@ -22,7 +22,7 @@ use Rattle.interpreter.specs.Rows.{settingRows, otherRows, rows, fitsRow
 use Rattle.interpreter.specs.Parameter.{parameters, least, greatest, findWord, parameter, valueGiven, settingDeed, deedOf}
 use Rattle.interpreter.specs.Unit.{readUnit}
 use Rattle.interpreter.specs.Box.{Box, powerUp}
-use Rattle.interpreter.specs.Deeds.{changed, replyTo, joined, fitsAnswer, reply, perform}
+use Rattle.interpreter.specs.Deeds.{permitted, changed, replyTo, joined, fitsAnswer, reply, perform}
 use Rattle.interpreter.specs.Line.{attempt, runUnits, interrupted, finished, unitsOf, runLine, endLine, held, byte, piece, newlines}
 use Rattle.interpreter.specs.Events.{Event, received, Happened, happens, possible, after}
 use Rattle.interpreter.proofs.Possible.{power-up-possible, history-possible}
@@ -67,7 +67,7 @@ unfolding if_then_else_ bytes same white printable digit letter wordByte small c
     table settingAt atReset wideRange lowest highest within conflict examined accepted answerOf atStart
     cutAt trimEnd trim name placed header spells settingRows otherRows rows fitsRow findRow
     parameters least greatest findWord parameter valueGiven settingDeed deedOf readUnit powerUp
-    changed replyTo joined fitsAnswer reply perform
+    permitted changed replyTo joined fitsAnswer reply perform
     attempt runUnits interrupted finished unitsOf runLine endLine held byte piece happens after
 computed =
     record {

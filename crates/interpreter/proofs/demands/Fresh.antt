@@ -21,6 +21,7 @@ use Rattle.interpreter.specs.declared.deed.Query.the-variants.{Identity,
 use Rattle.interpreter.proofs.Choices.{if-elim}
 use Rattle.interpreter.proofs.unit.Checks.{Holds, Any, passes, hold-bind, hold-check, holds-from}
 use Rattle.interpreter.proofs.unit.Allowed.{read-known}
+use Rattle.interpreter.proofs.perform.Permitted.{hold-permitted}
 use Rattle.interpreter.proofs.demands.Pieces.{newline-after}
 
 abbrev FreshBox : Box → Type 0
@@ -63,7 +64,8 @@ unfolding attempt
 attempt-fresh path b u f =
     let s = b .core .settings in
     hold-bind Any FreshObeyed _ _ (holds-from (readUnit s path u) (λ r _. tt) (λ n e. read-known s path u e)) (λ r _.
-    hold-bind FreshBox FreshObeyed _ _ (perform-fresh (r .deed) b f) (λ c g. passes g))
+    hold-permitted (r .deed) (b .core) FreshObeyed _ (λ _.
+    hold-bind FreshBox FreshObeyed _ _ (perform-fresh (r .deed) b f) (λ c g. passes g)))
 
 refuse-fresh : (n : ℕ) (b : Box) → FreshBox b → FreshBox (refuse n b)
 unfolding refuse

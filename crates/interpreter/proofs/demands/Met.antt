@@ -1,4 +1,4 @@
--- Computed histories that meet the premises of demands 2 and 3, so that neither holds for want of cases.
+-- Computed histories that meet the premises of demands 2 and 3 and of the lock's law, so that none holds for want of cases.
 use mathlib.Core.Path.{_≡_, refl, sym, _∙_, ap}
 use mathlib.Core.Bool.{Bool, true, false}
 use mathlib.Core.List.{List, [], _∷_, _++_, map}
@@ -7,6 +7,7 @@ use Prim.Native.String.{String}
 use native.Mathlib.Omega.{arith}
 use lib.ListN as L
 use lib.ListN.{length, getD, replicate}
+use lib.IntN.{ℤ, pos}
 use Rattle.registers.specs.Text.{Text, if_then_else_, bytes, same, white, printable, digit, letter, wordByte, small, capital, every}
 use Rattle.registers.specs.Check.{Checked, passed, _>>=_, _>>_, check}
 use Rattle.registers.specs.Words.{shortForm, longForm, matches}
@@ -15,24 +16,27 @@ use Rattle.registers.specs.Suffix.{suffixes, noSuffix, powerIn, remains}
 use Rattle.registers.specs.Rounding.{switchedOn, nearest, sizeIn, rounded, sizeSide, sideIn}
 use Rattle.registers.specs.Answer.{inPlaces, decimal, tenths}
 use Rattle.registers.specs.Errors.{eventBit}
-use Rattle.registers.specs.Settings.{count, table, settingAt, atReset, wideRange, lowest, highest, within, conflict, examined, accepted, answerOf}
-use Rattle.registers.specs.Status.{raised, atStart}
+use Rattle.registers.specs.Settings.{count, output, voltage, valueAt, table, settingAt, atReset, wideRange, lowest, highest, within, conflict, examined, accepted, answerOf}
+use Rattle.registers.specs.Group.{rises, falls, eventsAfter, conditionIs}
+use Rattle.registers.specs.Status.{raised, locked, atStart}
+use Rattle.registers.specs.declared.status.RegisterSet.the-variants.{Lock, Warning}
 use Rattle.interpreter.specs.Cuts.{front, cutAt, trimEnd, trim}
 use Rattle.interpreter.specs.Header.{Header, here, name, placed, header, spells}
 use Rattle.interpreter.specs.Rows.{settingRows, otherRows, rows, fitsRow, findRow}
 use Rattle.interpreter.specs.Parameter.{parameters, least, greatest, findWord, parameter, valueGiven, settingDeed, deedOf}
 use Rattle.interpreter.specs.Unit.{Read, readUnit}
 use Rattle.interpreter.specs.Box.{powerUp}
-use Rattle.interpreter.specs.Deeds.{changed, replyTo, inquiryReply, joined, fitsAnswer, reply, perform}
+use Rattle.interpreter.specs.Deeds.{permitted, changed, replyTo, inquiryReply, joined, fitsAnswer, reply, perform}
 use Rattle.interpreter.specs.Line.{attempt, refuse, runUnits, interrupted, finished, unitsOf, runLine, endLine, held, byte, piece}
-use Rattle.interpreter.specs.Events.{Event, received, take, Result, result, taken, happens, after}
+use Rattle.interpreter.specs.Events.{Event, received, take, condition, look, result, taken, reported, happens, after}
 use Rattle.interpreter.specs.Histories.{moments, Recut, resultsOf, answers}
 use Rattle.interpreter.specs.Demand3.{obeyed, refusal, joinUnits, cutLine, lineRefusal, keep, inLine, atEnd, asSent, asCut, ALine, Watch, neither, asked, cleared, watchUnits, watchLine, watchByte, watchPiece, watchEvent, watch}
 use Rattle.interpreter.specs.declared.deed.Deed.the-variants.{Query}
 use Rattle.interpreter.specs.declared.deed.Query.the-variants.{Value}
 use Rattle.interpreter.specs.declared.deed.Role.{Role}
 use Rattle.interpreter.specs.declared.deed.Role.the-variants.{Setting}
-use Rattle.interpreter.specs.Demand2.{Asks, Took, Sends, queried, sentBack}
+use Rattle.interpreter.specs.Demand2.{Trip, Premises, queried, sentBack}
+use Rattle.interpreter.specs.Lock.{leavesKey}
 
 abbrev text : String → Event
 text s = received (bytes s)
@@ -78,15 +82,8 @@ unfoldable pub sending : String × String → List Event
 sending t = received (bytes (t .0) ++ bytes " " ++ bytes (t .1)) ∷ []
 
 -- the premises of demand 2's round trip
-pub record Premises (i : ℕ) (a : Text) (before early late : List Event) : Type 0 where
-  pub first : every inLine early ≡ true
-  pub second : every inLine late ≡ true
-  pub asks : Asks i (after powerUp before)
-  pub took : Took a (happens (after powerUp (queried before ++ early)) (take buffer) .result)
-  pub sends : Sends i a (after powerUp (sentBack before early buffer late))
-
-abbrev pub Trip : ℕ → String × String → Type 0
-Trip i t = Premises i (bytes (t .1)) (asking t) [] (sending t)
+abbrev pub PremisesAt : ℕ → String × String → Type 0
+PremisesAt i t = Premises i (bytes (t .1)) buffer (asking t) [] (sending t)
 
 -- what they speak of
 record Seen : Type 0 where
@@ -98,6 +95,7 @@ record Seen : Type 0 where
   number : ℕ
   taken : Text
   line : Text
+  locks : Bool
   heading : Checked Header
   row : Checked Role
 
@@ -115,6 +113,7 @@ seenAt t =
       number = r .number;
       taken = L.take (r .value) (r .buffer);
       line = c .core .line;
+      locks = locked (c .core .registers);
       heading = header (bytes (t .0));
       row = findRow false (cutAt 58 (bytes (t .0))) false rows;
     }
@@ -130,6 +129,7 @@ expectedAt i t =
       number = 0;
       taken = bytes (t .1) ++ 10 ∷ [];
       line = bytes (t .0) ++ (bytes " " ++ (bytes (t .1) ++ []));
+      locks = false;
       heading = passed (record { place = here; names = cutAt 58 (bytes (t .0)); query = false });
       row = passed (Setting i);
     }
@@ -159,11 +159,47 @@ inExam = text "SYST:EXAM 1\nVOLT 5.1\nVOLT?" ∷ []
 abbrev sentInExam : List Event
 sentInExam = text "VOLT 5.1" ∷ []
 
+-- and of one that lacks the lock's premise alone, and is refused for it
+abbrev unlocked : List Event
+unlocked = text "VOLT?" ∷ []
+
+abbrev sentLocked : List Event
+sentLocked = condition Lock 1 ∷ text "VOLT 0.0" ∷ []
+
+pub record LockMatters : Type 0 where
+  pub trip : Trip 4 (bytes "0.0") buffer unlocked [] sentLocked
+  pub locks : locked (after powerUp (sentBack unlocked [] buffer sentLocked) .core .registers) ≡ true
+  pub refusedBy : lineRefusal (after powerUp (sentBack unlocked [] buffer sentLocked)) ≡ 221
+
 pub record Met2 : Type 0 where
-  pub everyRow : (i : ℕ) → i < count → Trip i (tripAt trips i)
-  pub oneMore : Premises 4 (bytes "0.0") before early late
+  pub everyRow : (i : ℕ) → i < count → PremisesAt i (tripAt trips i)
+  pub oneMore : Premises 4 (bytes "0.0") buffer before early late
   pub examOn : examined (after powerUp inExam .core .settings) ≡ true
-  pub examTrip : Premises 4 (bytes "5.1") inExam [] sentInExam
+  pub examTrip : Premises 4 (bytes "5.1") buffer inExam [] sentInExam
+  pub lockMatters : LockMatters
+
+-- ---- the lock: lines that try to change the settings of a box whose output is on, and one that switches it off
+
+abbrev locking : List Event
+locking = text "OUTP 1;:VOLT 5\n" ∷ condition Lock 4 ∷ []
+
+abbrev tried : List Event
+tried = text "VOLT 6\n*RST\nOUTP 1;OUTP 0\n" ∷ condition Warning 1 ∷ look ∷ []
+
+abbrev switched : List Event
+switched = text "OUTP 0.4\nOUTP:PON 0\n" ∷ take [] ∷ []
+
+-- a setting after these events
+abbrev settingAfter : ℕ → List Event → ℤ
+settingAfter i es = valueAt (after powerUp es .core .settings) i
+
+pub record MetLock : Type 0 where
+  pub locks : locked (after powerUp locking .core .registers) ≡ true
+  pub leaves : every leavesKey (tried ++ switched) ≡ true
+  pub on : settingAfter output (locking ++ tried) ≡ pos 1
+  pub off : settingAfter output (locking ++ tried ++ switched) ≡ pos 0
+  pub stays : settingAfter voltage (locking ++ tried ++ switched) ≡ pos 50
+  pub errors : after powerUp (locking ++ tried ++ switched) .trouble .queue ≡ 221 ∷ 221 ∷ 221 ∷ 221 ∷ 420 ∷ []
 
 -- ---- computed
 
@@ -171,19 +207,21 @@ record Computed : Type 0 where
   met3 : Met3
   seen : map seenAt trips ≡ numbered 0 trips
   long : length trips ≡ count
-  oneMore : Premises 4 (bytes "0.0") before early late
+  oneMore : Premises 4 (bytes "0.0") buffer before early late
   examOn : examined (after powerUp inExam .core .settings) ≡ true
-  examTrip : Premises 4 (bytes "5.1") inExam [] sentInExam
+  examTrip : Premises 4 (bytes "5.1") buffer inExam [] sentInExam
+  lockMatters : LockMatters
+  metLock : MetLock
 
 computed : Computed
 unfolding if_then_else_ bytes same white printable digit letter wordByte small capital _>>=_ _>>_ check shortForm longForm matches
     afterSign fractionOf afterFraction exponentOf afterExponent lowering written numeralFrom decimalOf valueOf scaled suffixes noSuffix powerIn remains number switchedOn
     nearest sizeIn rounded sizeSide sideIn inPlaces decimal tenths eventBit
-    table settingAt atReset wideRange lowest highest within conflict examined accepted answerOf raised atStart
+    table settingAt atReset wideRange lowest highest within conflict examined accepted answerOf raised rises falls eventsAfter conditionIs atStart
     cutAt trimEnd trim name placed header spells settingRows otherRows rows fitsRow findRow
     parameters least greatest findWord parameter valueGiven settingDeed deedOf readUnit powerUp
-    changed replyTo inquiryReply joined fitsAnswer reply perform
-    attempt refuse runUnits interrupted finished unitsOf runLine endLine held byte piece taken happens after resultsOf moments
+    permitted changed replyTo inquiryReply joined fitsAnswer reply perform
+    attempt refuse runUnits interrupted finished unitsOf runLine endLine held byte piece taken reported happens after resultsOf moments
     inLine obeyed refusal joinUnits cutLine lineRefusal keep watchUnits watchLine watchByte watchPiece watchEvent watch
     watched trips asking sending seenAt expectedAt numbered
 computed =
@@ -200,48 +238,81 @@ computed =
       seen = refl;
       long = refl;
       oneMore = record {
-        first = refl;
-        second = refl;
-        asks = record { whole = refl; alone = refl; path = _; asks = refl };
-        took = record { number = refl; bytes = refl };
-        sends = record {
-          whole = refl;
-          left = bytes "\t";
-          header = bytes ":SOURce:volt:AMPL";
-          gap = bytes "  ";
-          right = bytes " ";
-          line = refl;
-          spelling = record { read = _; reads = refl; sets = refl; row = refl };
-          leftWhite = refl;
-          gapWhite = refl;
-          gapThere = refl;
-          rightWhite = refl;
+        trip = record {
+          first = refl;
+          second = refl;
+          asks = record { whole = refl; alone = refl; path = _; asks = refl };
+          took = record { number = refl; bytes = refl };
+          sends = record {
+            whole = refl;
+            left = bytes "\t";
+            header = bytes ":SOURce:volt:AMPL";
+            gap = bytes "  ";
+            right = bytes " ";
+            line = refl;
+            spelling = record { read = _; reads = refl; sets = refl; row = refl };
+            leftWhite = refl;
+            gapWhite = refl;
+            gapThere = refl;
+            rightWhite = refl;
+          };
         };
+        free = refl;
       };
       examOn = refl;
       examTrip = record {
-        first = refl;
-        second = refl;
-        asks = record { whole = refl; alone = refl; path = _; asks = refl };
-        took = record { number = refl; bytes = refl };
-        sends = record {
-          whole = refl;
-          left = [];
-          header = bytes "VOLT";
-          gap = bytes " ";
-          right = [];
-          line = refl;
-          spelling = record { read = _; reads = refl; sets = refl; row = refl };
-          leftWhite = refl;
-          gapWhite = refl;
-          gapThere = refl;
-          rightWhite = refl;
+        trip = record {
+          first = refl;
+          second = refl;
+          asks = record { whole = refl; alone = refl; path = _; asks = refl };
+          took = record { number = refl; bytes = refl };
+          sends = record {
+            whole = refl;
+            left = [];
+            header = bytes "VOLT";
+            gap = bytes " ";
+            right = [];
+            line = refl;
+            spelling = record { read = _; reads = refl; sets = refl; row = refl };
+            leftWhite = refl;
+            gapWhite = refl;
+            gapThere = refl;
+            rightWhite = refl;
+          };
         };
+        free = refl;
       };
+      lockMatters = record {
+        trip = record {
+          first = refl;
+          second = refl;
+          asks = record { whole = refl; alone = refl; path = _; asks = refl };
+          took = record { number = refl; bytes = refl };
+          sends = record {
+            whole = refl;
+            left = [];
+            header = bytes "VOLT";
+            gap = bytes " ";
+            right = [];
+            line = refl;
+            spelling = record { read = _; reads = refl; sets = refl; row = refl };
+            leftWhite = refl;
+            gapWhite = refl;
+            gapThere = refl;
+            rightWhite = refl;
+          };
+        };
+        locks = refl;
+        refusedBy = refl;
+      };
+      metLock = record { locks = refl; leaves = refl; on = refl; off = refl; stays = refl; errors = refl };
     }
 
 pub met3 : Met3
 met3 = computed .met3
+
+pub met-lock : MetLock
+met-lock = computed .metLock
 
 -- ---- the table's places
 
@@ -257,38 +328,48 @@ seen-at (t ∷ ts) n (suc i) h e =
     let q : n + suc i ≡ suc n + i = omega arith in
     rw q (seen-at ts (suc n) i (omega arith) z)
 
-trip-at : (i : ℕ) (t : String × String) → seenAt t ≡ expectedAt i t → Trip i t
+trip-at : (i : ℕ) (t : String × String) → seenAt t ≡ expectedAt i t → PremisesAt i t
 unfolding seenAt expectedAt bytes white
 trip-at i t e =
     record {
-      first = refl;
-      second = ap (λ (x : Seen). x .inLine) e;
-      asks = record {
-        whole = ap (λ (x : Seen). x .whole .0) e;
-        alone = ap (λ (x : Seen). x .units) e ∙ sym (ap (λ (x : Seen). x .asked ∷ []) e);
-        path = front (cutAt 58 (bytes (t .0)));
-        asks = ap (λ (x : Seen). x .read) e;
+      trip = record {
+        first = refl;
+        second = ap (λ (x : Seen). x .inLine) e;
+        asks = record {
+          whole = ap (λ (x : Seen). x .whole .0) e;
+          alone = ap (λ (x : Seen). x .units) e ∙ sym (ap (λ (x : Seen). x .asked ∷ []) e);
+          path = front (cutAt 58 (bytes (t .0)));
+          asks = ap (λ (x : Seen). x .read) e;
+        };
+        took = record { number = ap (λ (x : Seen). x .number) e; bytes = ap (λ (x : Seen). x .taken) e };
+        sends = record {
+          whole = ap (λ (x : Seen). x .whole .1) e;
+          left = [];
+          header = bytes (t .0);
+          gap = bytes " ";
+          right = [];
+          line = ap (λ (x : Seen). x .line) e;
+          spelling = record { read = _; reads = ap (λ (x : Seen). x .heading) e; sets = refl; row = ap (λ (x : Seen). x .row) e };
+          leftWhite = refl;
+          gapWhite = refl;
+          gapThere = refl;
+          rightWhite = refl;
+        };
       };
-      took = record { number = ap (λ (x : Seen). x .number) e; bytes = ap (λ (x : Seen). x .taken) e };
-      sends = record {
-        whole = ap (λ (x : Seen). x .whole .1) e;
-        left = [];
-        header = bytes (t .0);
-        gap = bytes " ";
-        right = [];
-        line = ap (λ (x : Seen). x .line) e;
-        spelling = record { read = _; reads = ap (λ (x : Seen). x .heading) e; sets = refl; row = ap (λ (x : Seen). x .row) e };
-        leftWhite = refl;
-        gapWhite = refl;
-        gapThere = refl;
-        rightWhite = refl;
-      };
+      free = ap (λ (x : Seen). x .locks) e;
     }
 
 pub met2 : Met2
-met2 = record { everyRow = at; oneMore = computed .oneMore; examOn = computed .examOn; examTrip = computed .examTrip }
+met2 =
+    record {
+      everyRow = at;
+      oneMore = computed .oneMore;
+      examOn = computed .examOn;
+      examTrip = computed .examTrip;
+      lockMatters = computed .lockMatters;
+    }
   where
-    at : (i : ℕ) → i < count → Trip i (tripAt trips i)
+    at : (i : ℕ) → i < count → PremisesAt i (tripAt trips i)
     at i h =
         let l = computed .long in
         let q : 0 + i ≡ i = omega arith in

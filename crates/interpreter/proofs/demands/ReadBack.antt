@@ -18,7 +18,7 @@ use Rattle.registers.specs.Suffix.{suffixes, noSuffix, powerIn, remains}
 use Rattle.registers.specs.NumberParts.{held}
 use Rattle.registers.specs.Rounding.{switchedOn, nearest, sizeIn, rounded, sizeSide, sideIn}
 use Rattle.registers.specs.Answer.{inPlaces, decimal, tenths, signedText}
-use Rattle.registers.specs.Settings.{count, Kind, bool, words, number, table, settingAt, kindOf, quantityOf, lowestOf, highestOf, voltage, twelveVolts, wideRange, lowest, highest, within, conflict, answerOf, onStep, accepted}
+use Rattle.registers.specs.Settings.{count, Kind, bool, words, number, table, settingAt, kindOf, quantityOf, lowestOf, highestOf, voltage, twelveVolts, wideRange, lowest, highest, within, answerOf, onStep, accepted}
 use Rattle.registers.specs.declared.rounding.Side.{Side}
 use Rattle.registers.specs.declared.rounding.Side.the-variants.{On, Below, Above}
 use Rattle.registers.specs.declared.settings.Settings.{Settings}
@@ -181,15 +181,15 @@ reads-back q (number k low high) c v t =
     (λ e c. let l = size-is q row v t in let h = ltb-true (sizeOf row) held c in rw (eqb-true k 10 e) (by-law v (omega arith) q low high))
     (λ _ c. by-test q row v t c) c
 
-read-deed : (s : Settings) (i : ℕ) (v : ℤ) (m : Checked Given) → readTo (kindOf i) v m ≡ true → within s i v ≡ true → conflict s i v ≡ false
+read-deed : (s : Settings) (i : ℕ) (v : ℤ) (m : Checked Given) → readTo (kindOf i) v m ≡ true → within s i v ≡ true
     → (m >>= λ g.
     let z = valueGiven s i (kindOf i) g in
     let x = sideGiven (kindOf i) g in
-    check 222 (within s i z) >> check 222 (accepted s x) >> check 221 (not (conflict s i z)) >> passed (Change (Put i z x)))
+    check 222 (within s i z) >> check 222 (accepted s x) >> passed (Change (Put i z x)))
     ≡ passed (Change (Put i v On))
 unfolding readTo accepted _>>=_ _>>_ check
-read-deed s i v (refused n) t w c = absurd (false≢true t)
-read-deed s i v (passed g) t w c = rw (gives-value s i (kindOf i) v g t, gives-side (kindOf i) v g t, w, c)
+read-deed s i v (refused n) t w = absurd (false≢true t)
+read-deed s i v (passed g) t w = rw (gives-value s i (kindOf i) v g t, gives-side (kindOf i) v g t, w)
 
 -- a voltage within any range is in the table
 wider : (v : ℤ) → leZ v twelveVolts ≡ true → leZ v (pos 240) ≡ true
@@ -216,9 +216,9 @@ module _ (s : Settings) (i : ℕ) (h : i < count) (v : ℤ) (w : within s i v �
       let c = below-at count (λ i. covered (quantityOf i) (kindOf i)) all-covered i h in
       and-both _ (plainText (answerOf (kindOf i) v)) (reads-back (quantityOf i) (kindOf i) c v (under-table s i v w))
 
-  pub answer-sets : conflict s i v ≡ false → settingDeed s i (answerOf (kindOf i) v) ≡ passed (Change (Put i v On))
+  pub answer-sets : settingDeed s i (answerOf (kindOf i) v) ≡ passed (Change (Put i v On))
   unfolding settingDeed
-  answer-sets c = read-deed s i v (parameter (wordsOf (kindOf i)) (takesNumbers (kindOf i)) (quantityOf i) (answerOf (kindOf i) v)) (both .0) w c
+  answer-sets = read-deed s i v (parameter (wordsOf (kindOf i)) (takesNumbers (kindOf i)) (quantityOf i) (answerOf (kindOf i) v)) (both .0) w
 
   pub answer-plain : plainText (answerOf (kindOf i) v) ≡ true
   answer-plain = both .1

@@ -1,6 +1,6 @@
 -- Demand 2, the round trip, proved.
 use mathlib.Core.Path.{_≡_, refl, sym, _∙_, ap, subst}
-use mathlib.Core.Bool.{true, false, not, false≢true}
+use mathlib.Core.Bool.{true, false, not, and-false, false≢true}
 use mathlib.Core.List.{List, [], _∷_, _++_}
 use Prim.Native.Nat.{ℕ, _<_}
 use native.Mathlib.Omega.{arith}
@@ -11,15 +11,15 @@ use lib.IntN.{pos}
 use borrow.Author.Tests.{lt-ltb, leb-true, not-true}
 use Rattle.registers.specs.Text.{Text, if_then_else_, every, empty}
 use Rattle.registers.specs.Check.{passed, check, _>>=_, _>>_}
-use Rattle.registers.specs.Settings.{count, kindOf, valueAt, withValue, answerOf}
-use Rattle.registers.specs.Status.{Trouble}
+use Rattle.registers.specs.Settings.{count, kindOf, valueAt, withValue, conflict, answerOf}
+use Rattle.registers.specs.Status.{Trouble, locked}
 use Rattle.registers.specs.declared.rounding.Side.the-variants.{On}
 use Rattle.registers.specs.declared.settings.Settings.{Settings}
 use Rattle.registers.proofs.Tests.{and-both}
 use Rattle.interpreter.specs.Cuts.{front}
 use Rattle.interpreter.specs.Box.{Core, Box, box, withSettings, withLine, withAnswer, powerUp, mostAnswer}
 use Rattle.interpreter.specs.Unit.{readUnit}
-use Rattle.interpreter.specs.Deeds.{changed, replyTo, joined, fitsAnswer, reply, perform}
+use Rattle.interpreter.specs.Deeds.{blocked, permitted, changed, replyTo, joined, fitsAnswer, reply, perform}
 use Rattle.interpreter.specs.Line.{attempt, runUnits, interrupted, finished, runLine, endLine, atNewline}
 use Rattle.interpreter.specs.Events.{Event, take, happens, after}
 use Rattle.interpreter.specs.Histories.{newline}
@@ -51,7 +51,7 @@ module _ (i : ℕ) (c : Core) (t : Trouble) (a u : Text) (path : List Text) (som
   -- a setting's query, alone, with no answer waiting
   answered : readUnit (c .settings) [] u ≡ passed (record { deed = Query (Value i); path = path }) → a ≡ answerOf (kindOf i) (valueAt (c .settings) i)
       → finished (runUnits (u ∷ []) [] (box (withAnswer [] c) t)) ≡ box (withAnswer (a ++ 10 ∷ []) c) t
-  unfolding runUnits attempt perform reply replyTo fitsAnswer joined finished check _>>=_ _>>_ if_then_else_
+  unfolding runUnits attempt permitted perform reply replyTo fitsAnswer joined finished check _>>=_ _>>_ if_then_else_
   answered e v = rw (e, sym v, lt-ltb (length a) mostAnswer short, some)
 
 answer-of : Settings → ℕ → Text
@@ -102,20 +102,25 @@ none-finished c t e =
 
 -- a setting given the value that it has
 module _ (i : ℕ) (c : Core) (t : Trouble) (u : Text) (path : List Text)
-    (e : readUnit (c .settings) [] u ≡ passed (record { deed = Change (Put i (valueAt (c .settings) i) On); path = path })) where
+    (e : readUnit (c .settings) [] u ≡ passed (record { deed = Change (Put i (valueAt (c .settings) i) On); path = path }))
+    (free : locked (c .registers) ≡ false) (clear : conflict (c .settings) i (valueAt (c .settings) i) ≡ false) where
   same-value : withValue i (valueAt (c .settings) i) (c .settings) ≡ c .settings
   same-value = ap (λ l. record { values = l }) (set-getD (c .settings .values) i (pos 0))
 
+  let-pass : permitted (Change (Put i (valueAt (c .settings) i) On)) c ≡ passed tt
+  unfolding permitted _>>_ check
+  let-pass = rw (free, and-false (blocked (Change (Put i (valueAt (c .settings) i) On))), clear)
+
   put-back : runUnits (u ∷ []) [] (box c t) ≡ box c t
-  unfolding runUnits attempt perform changed _>>=_
-  put-back = rw e (ap (λ (x : Settings). box (withSettings x c) t) same-value)
+  unfolding runUnits attempt perform changed _>>=_ _>>_
+  put-back = rw (e, let-pass) (ap (λ (x : Settings). box (withSettings x c) t) same-value)
 
   not-refused : refusal (u ∷ []) [] (box c t) ≡ 0
-  unfolding refusal attempt perform _>>=_
-  not-refused = rw e
+  unfolding refusal attempt perform _>>=_ _>>_
+  not-refused = rw (e, let-pass)
 
 module _ (i : ℕ) (b : Box) (fit : Fit mostAnswer b) (h : i < count) (a : Text) (is : a ≡ answer-of (b .core .settings) i)
-    (none : b .core .answer ≡ []) (q : Sends i a b) where
+    (none : b .core .answer ≡ []) (free : locked (b .core .registers) ≡ false) (q : Sends i a b) where
   abbrev c : Core
   c = withLine [] false (b .core)
 
@@ -137,11 +142,12 @@ module _ (i : ℕ) (b : Box) (fit : Fit mostAnswer b) (h : i < count) (a : Text)
       let s = b .core .settings in
       let n : atNewline b ≡ box c (b .trouble) = none-interrupted c (b .trouble) none in
       let w = good-at s (fit .core .settings) i h in
-      let d = answer-sets s i h (valueAt s i) w (no-conflict s (fit .core .settings) i) in
+      let d = answer-sets s i h (valueAt s i) w in
+      let clear = no-conflict s (fit .core .settings) i in
       let r = sent.reads-line i (q .left) (q .header) (q .gap) a (q .right) parts s (Change (Put i (valueAt s i) On)) (rw is d) in
       let u = sent.alone i (q .left) (q .header) (q .gap) a (q .right) parts in (
-        rw (q .whole, n, q .line, u, put-back i c (b .trouble) _ _ r) (none-finished c (b .trouble) none),
-        rw (q .whole, n, q .line, u) (not-refused i c (b .trouble) _ _ r),
+        rw (q .whole, n, q .line, u, put-back i c (b .trouble) _ _ r free clear) (none-finished c (b .trouble) none),
+        rw (q .whole, n, q .line, u) (not-refused i c (b .trouble) _ _ r free clear),
       )
 
 -- ---- the whole
@@ -201,18 +207,19 @@ module _ (i : ℕ) (a buffer : Text) (before early late : List Event)
   none : sending .core .answer ≡ []
   none = left-none (subst (λ (x : Text). Left x (sending .core .answer)) (takes .none) (late-quiet .answer))
 
-  back : Sends i a sending → (endLine sending ≡ box (withLine [] false (sending .core)) (sending .trouble)) × (lineRefusal sending ≡ 0)
-  back sends =
+  back : locked (sending .core .registers) ≡ false → Sends i a sending → (endLine sending ≡ box (withLine [] false (sending .core)) (sending .trouble)) × (lineRefusal sending ≡ 0)
+  back free sends =
       back-line i sending (fit (sentBack before early buffer late)) (there i asking (fit before) asks) a
-      (answer-is ∙ ap (λ (s : Settings). answer-of s i) (sym same-settings)) none sends
+      (answer-is ∙ ap (λ (s : Settings). answer-of s i) (sym same-settings)) none free sends
 
 pub round-trip : RoundTrip
-round-trip i a buffer before early late h in-early in-late asks took sends recut =
+round-trip i a buffer before early late h p recut =
     let sentLine = sentBack before early buffer late in
-    let r = back i a buffer before early late in-early in-late asks took sends in
+    let q = p .trip in
+    let r = back i a buffer before early late (q .first) (q .second) (q .asks) (q .took) (p .free) (q .sends) in
     let e = recut-state powerUp h (sentLine ++ newline ∷ []) recut ∙ newline-after powerUp sentLine ∙ r .0 in
     record {
-      settings = ap (λ (b : Box). b .core .settings) e ∙ same-settings i a buffer before early late in-early in-late asks took;
+      settings = ap (λ (b : Box). b .core .settings) e ∙ same-settings i a buffer before early late (q .first) (q .second) (q .asks) (q .took);
       accepted = r .1;
       rest = e;
     }

@@ -179,7 +179,7 @@ module _ (i : ℕ) (left h gap a right : Text) (l : Line i left h gap a right) w
       let t : trim a ≡ a = ap trim (sym (append-nil a)) ∙ solid-trim [] a [] refl (a-plain .0) a-solid refl in
       rw (a-plain .0, cut-one (code ",") a (every-map plainByte (other (code ",")) plain-comma a (a-plain .1))) (ap (λ (x : Text). x ∷ []) t)
 
-  -- checks 1 to 8 accept it as the setting's command with that parameter
+  -- checks 1 to 7 accept it as the setting's command with that parameter
   pub reads-line : (s : Settings) (d : Deed) → settingDeed s i a ≡ passed d
       → readUnit s [] line ≡ passed (record { deed = d; path = pathAfter (l .spelling .read .place) [] (l .spelling .read .names) })
   unfolding readUnit check _>>=_ _>>_ least greatest deedOf if_then_else_

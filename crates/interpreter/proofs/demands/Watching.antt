@@ -5,11 +5,11 @@ use mathlib.Core.List.{List, [], _∷_}
 use Prim.Native.Nat.{ℕ}
 use lib.Dec.{eqb}
 use Rattle.registers.specs.Text.{Text, empty}
-use Rattle.registers.specs.Check.{Checked, refused, passed, _>>=_}
+use Rattle.registers.specs.Check.{Checked, refused, passed, _>>=_, _>>_, check}
 use Rattle.registers.specs.Status.{Trouble, raised}
 use Rattle.interpreter.specs.Box.{Core, Box, box, withLine, withAnswer}
 use Rattle.interpreter.specs.Unit.{Read, readUnit}
-use Rattle.interpreter.specs.Deeds.{replyTo, afterQuery, reply, perform}
+use Rattle.interpreter.specs.Deeds.{permitted, replyTo, afterQuery, reply, perform}
 use Rattle.interpreter.specs.Line.{attempt, unitsOf, interrupted}
 use Rattle.interpreter.specs.Events.{Event, started, received, take, condition, look}
 use Rattle.interpreter.specs.Demand3.{Watch, neither, asked, cleared, thenWatch, watchDeed, watchRead, watchNext, watchUnits, watchLine, watchByte, watchPiece, watchEvent, watch, Agree}
@@ -28,10 +28,16 @@ module _ (go : List Text → Box → Watch) (ih : (path : List Text) (c : Core) 
   query-watch path (refused n) = refl
   query-watch path (passed d) = ih path d t t′
 
+  change-watch : (m : Checked (Unit {0})) (path : List Text) (d : Core)
+      → watchNext go (m >> passed (record { path = path; box = box d t })) ≡ watchNext go (m >> passed (record { path = path; box = box d t′ }))
+  unfolding _>>_
+  change-watch (passed u) path d = ih path d t t′
+  change-watch (refused n) path d = refl
+
   deed-watch : (d : Deed) (path : List Text)
       → thenWatch (watchDeed d) (watchNext go (obeys c d path t)) ≡ thenWatch (watchDeed d) (watchNext go (obeys c d path t′))
-  unfolding perform _>>=_
-  deed-watch (Change x) path = ih path _ t t′
+  unfolding permitted perform _>>=_ _>>_ check
+  deed-watch (Change x) path = change-watch (permitted (Change x) c) path _
   deed-watch Complete path = ih path c _ _
   deed-watch Clear path = refl
   deed-watch (Query q) path = query-watch path (reply (replyTo q c) (afterQuery q c))

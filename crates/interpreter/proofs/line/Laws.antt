@@ -1,22 +1,23 @@
 -- Laws of one unit: what an error raised, a unit refused and a unit performed leave.
 use mathlib.Core.Path.{_≡_, sym, _∙_, subst}
-use mathlib.Core.Bool.{false≢true}
+use mathlib.Core.Bool.{true, false, false≢true}
 use mathlib.Core.List.{List, []}
 use Prim.Native.Nat.{ℕ, _-_, _≤_, _<_}
 use native.Mathlib.Omega.{arith}
 use lib.ListN.{length, take}
 use borrow.Author.Tests.{eq-eqb, ne-eqb}
 use Rattle.registers.specs.Text.{Text, if_then_else_}
-use Rattle.registers.specs.Check.{refused, passed, _>>=_}
+use Rattle.registers.specs.Check.{Checked, refused, passed, _>>=_, _>>_}
 use Rattle.registers.specs.Errors.{numberOf}
 use Rattle.registers.specs.declared.error.Error.{Error}
+use Rattle.registers.specs.declared.error.Error.the-variants.{SettingsConflict}
 use Rattle.registers.proofs.status.Means.{raised-trouble, raised-registers, raised-queued}
-use Rattle.interpreter.specs.Box.{Box, box, raise, mostAnswer}
+use Rattle.interpreter.specs.Box.{Box, raise, mostAnswer}
 use Rattle.interpreter.specs.Unit.{Read, readUnit}
-use Rattle.interpreter.specs.Deeds.{perform}
+use Rattle.interpreter.specs.Deeds.{permitted, perform}
 use Rattle.interpreter.specs.Line.{attempt, refuse}
 use Rattle.interpreter.specs.RowsParts.{named}
-use Rattle.interpreter.specs.DeedsParts.{boxIn, raisedWith, PerformedIn}
+use Rattle.interpreter.specs.DeedsParts.{coreIn, boxIn, raisedWith, PerformedIn}
 use Rattle.interpreter.specs.UnitParts.{UnitRead, Allowed}
 use Rattle.interpreter.specs.LineParts.{boxAt, RefusedWith, UnitRan}
 use Rattle.interpreter.specs.declared.deed.Deed.{Deed}
@@ -53,15 +54,19 @@ module _ (path : List Text) (b : Box) (u : Text) where
   unfolding attempt _>>=_
   attempt-read n e = rw e
 
-  pub attempt-done : (r : Read) (c : Box) → readUnit (b .core .settings) path u ≡ passed r → perform (r .deed) b ≡ passed c
-      → attempt path b u ≡ passed (record { path = r .path; box = c })
-  unfolding attempt _>>=_
-  attempt-done r c e f = rw (e, f)
-
-  pub attempt-full : (r : Read) (n : ℕ) → readUnit (b .core .settings) path u ≡ passed r → perform (r .deed) b ≡ refused n
+  pub attempt-barred : (r : Read) (n : ℕ) → readUnit (b .core .settings) path u ≡ passed r → permitted (r .deed) (b .core) ≡ refused n
       → attempt path b u ≡ refused n
-  unfolding attempt _>>=_
-  attempt-full r n e f = rw (e, f)
+  unfolding attempt _>>=_ _>>_
+  attempt-barred r n e p = rw (e, p)
+
+  module _ (r : Read) (e : readUnit (b .core .settings) path u ≡ passed r) (p : permitted (r .deed) (b .core) ≡ passed tt) where
+    pub attempt-done : (c : Box) → perform (r .deed) b ≡ passed c → attempt path b u ≡ passed (record { path = r .path; box = c })
+    unfolding attempt _>>=_ _>>_
+    attempt-done c f = rw (e, p, f)
+
+    pub attempt-full : (n : ℕ) → perform (r .deed) b ≡ refused n → attempt path b u ≡ refused n
+    unfolding attempt _>>=_ _>>_
+    attempt-full n f = rw (e, p, f)
 
 -- ---- a unit that was read, and then refused or performed
 
@@ -75,6 +80,11 @@ module _ (d : Done) (path unit paths : Text) (res : Decision) (used : ℕ) (read
     abbrev b : Box
     b = boxAt (d .present) (d .answered) out
 
+    -- the lock and check 8 see nothing of the answers so far
+    seen : (e : Deed) {m : Checked (Unit {0})} → permitted e (coreIn (d .present .settings) (d .present .status)) ≡ m → permitted e (b .core) ≡ m
+    unfolding permitted
+    seen e p = p
+
     pub unit-refused : (e : Error) → res ≡ Refused e → (r : Done) → RefusedWith e d r
         → d .present .status .queued ≤ 16 → d .answered < mostAnswer → UnitRan d path unit out r paths out
     unit-refused e q r w short room =
@@ -87,14 +97,28 @@ module _ (d : Done) (path unit paths : Text) (res : Decision) (used : ℕ) (read
           stops = λ _. (numberOf e, attempt-read (named path) b unit (numberOf e) f, w .box out);
         }
 
-    pub unit-obeyed : (e : Deed) → res ≡ Obey e → (r : Done) (left : Text)
+    pub unit-barred : (e : Deed) → res ≡ Obey e → permitted e (coreIn (d .present .settings) (d .present .status)) ≡ refused 221
+        → (r : Done) → RefusedWith SettingsConflict d r
+        → d .present .status .queued ≤ 16 → d .answered < mostAnswer → UnitRan d path unit out r paths out
+    unit-barred e q l r w short room =
+        let f = subst (λ (r : Decision). UnitRead (d .present .settings) path unit r used paths) q read in
+        let less = w .room in
+        record {
+          queued = w .queued short;
+          room = omega arith;
+          goes = λ t. absurd (false≢true (sym (w .stops) ∙ t));
+          stops = λ _. (221, attempt-barred (named path) b unit _ 221 (f .0) (seen e l), w .box out);
+        }
+
+    pub unit-obeyed : (e : Deed) → res ≡ Obey e → permitted e (coreIn (d .present .settings) (d .present .status)) ≡ passed tt
+        → (r : Done) (left : Text)
         → PerformedIn e (record { present = d .present; answered = d .answered; used = used; obeyed = d .obeyed }) out r left
         → UnitRan d path unit out r paths left
-    unit-obeyed e q r left w =
+    unit-obeyed e q l r left w =
         let f = subst (λ (r : Decision). UnitRead (d .present .settings) path unit r used paths) q read in
         record {
           queued = w .queued;
           room = w .room;
-          goes = λ t. rw (w .used) (attempt-done (named path) b unit _ _ (f .0) (w .done t), f .1, f .2);
-          stops = λ t. (430, attempt-full (named path) b unit _ 430 (f .0) (w .dropped t .0), w .dropped t .1);
+          goes = λ t. rw (w .used) (attempt-done (named path) b unit _ (f .0) (seen e l) _ (w .done t), f .1, f .2);
+          stops = λ t. (430, attempt-full (named path) b unit _ (f .0) (seen e l) 430 (w .dropped t .0), w .dropped t .1);
         }

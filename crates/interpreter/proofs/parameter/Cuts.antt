@@ -52,7 +52,7 @@ cut-one s (b ∷ bs) h = go (eqb b s) (cut-some s bs) (cut-one s bs) h
     go true some ih l = absurd (omega arith)
     go false some ih l = ap (joinFirst b) (ih (omega (arith, join-length b (cutAt s bs) some)))
 
--- ---- the parameters; where they are none or one, they are what checks 5 to 8 are handed
+-- ---- the parameters; where they are none or one, they are what checks 5 to 7 are handed
 
 pub parameters-some : (t : Text) → (length t ≡ 0 → ⊥) → parameters t ≡ map trim (cutAt (code ",") t)
 unfolding parameters if_then_else_

@@ -1,4 +1,4 @@
--- Checks 7 and 8 on a value, and how what checks 5 and 6 say of a parameter is carried on.
+-- Check 7 and exam mode on a value, and how what checks 5 and 6 say of a parameter is carried on.
 use mathlib.Core.Path.{_≡_, refl, sym, _∙_}
 use mathlib.Core.Bool.{Bool, true, false, not, _&&_, false≢true}
 use mathlib.Core.List.{[], _∷_}
@@ -15,7 +15,7 @@ use Rattle.registers.specs.Text.{Text, if_then_else_}
 use Rattle.registers.specs.Check.{Checked, refused, passed, _>>=_, _>>_, check}
 use Rattle.registers.specs.Errors.{numberOf}
 use Rattle.registers.specs.Rounding.{rounded, fitted, sideIn, roundedIn}
-use Rattle.registers.specs.Settings.{count, Kind, bool, words, number, kindOf, quantityOf, lowest, highest, within, conflict, accepted}
+use Rattle.registers.specs.Settings.{count, Kind, bool, words, number, kindOf, quantityOf, lowest, highest, within, accepted}
 use Rattle.registers.specs.Status.{widest}
 use Rattle.registers.specs.declared.error.Error.{Error}
 use Rattle.registers.specs.declared.number.Decimal.{Decimal}
@@ -61,7 +61,7 @@ module _ {m : Checked Given} {p : Parameter} (is : meantGiven p ≡ m) where
   pub figure-by : {d : Decimal} → p ≡ figureGiven d → m ≡ passed (Figure d)
   figure-by told = rw (← is, told)
 
--- ---- checks 7 and 8 on a value of a setting
+-- ---- check 7 and exam mode on a value of a setting
 
 pub rounded-in : (k : ℕ) (s : Settings) (i : ℕ) (d : Decimal)
     → roundedIn k (lowest i) (highest s i) d ≡ roundedTo s i (rounded k d) (sideIn k d)
@@ -73,14 +73,12 @@ unfolding fitIn if_then_else_
 fit-within s i v e = rw e
 
 fit-put : (s : Settings) (i : ℕ) (v : ℤ) (x : Side)
-    → (check 222 (within s i v) >> check 222 (accepted s x) >> check 221 (not (conflict s i v)) >> passed (Change (Put i v x)))
-    ≡ putFit s i false (fitIn s i v) x
+    → (check 222 (within s i v) >> check 222 (accepted s x) >> passed (Change (Put i v x))) ≡ putFit s i false (fitIn s i v) x
 unfolding fitIn putFit if_then_else_ check _>>_
 fit-put s i v x = go (within s i v)
   where
     go : (w : Bool)
-        → (check 222 w >> check 222 (accepted s x) >> check 221 (not (conflict s i v)) >> passed (Change (Put i v x)))
-        ≡ putFit s i false (if w then Within v else Outside) x
+        → (check 222 w >> check 222 (accepted s x) >> passed (Change (Put i v x))) ≡ putFit s i false (if w then Within v else Outside) x
     go true = refl
     go false = refl
 
@@ -117,7 +115,7 @@ module _ (x : Register) (d : Decimal) {f : Fit} (is : f ≡ fitted 1 (pos 0) (po
   unfolding storeTo check _>>_
   store-outside told side = rw (rounded-once 1 (pos 0) (pos (widest x)) d .outside (sym is ∙ told))
 
--- ---- checks 5 to 8 on a setting
+-- ---- checks 5 to 7 on a setting
 
 -- without a parameter, where none is needed
 pub value-asked : (s : Settings) (i : ℕ) (asked : Bool) → least (Setting i) asked ≤ 0 → passed (Query (Value i)) ≡ deedOf s (Setting i) asked []
@@ -142,7 +140,7 @@ setting-is s i h false t one =
         → (m >>= λ g.
         let v = valueGiven s i (kindOf i) g in
         let x = sideGiven (kindOf i) g in
-        check 222 (within s i v) >> check 222 (accepted s x) >> check 221 (not (conflict s i v)) >> passed (Change (Put i v x)))
+        check 222 (within s i v) >> check 222 (accepted s x) >> passed (Change (Put i v x)))
         ≡ (m >>= λ g. putFit s i false (fitIn s i (valueGiven s i (kindOf i) g)) (sideGiven (kindOf i) g))
     go (refused n) = refl
     go (passed g) = fit-put s i (valueGiven s i (kindOf i) g) (sideGiven (kindOf i) g)

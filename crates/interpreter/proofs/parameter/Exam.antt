@@ -1,11 +1,11 @@
 -- Exam mode (02, #107): what it refuses, and that nothing else is changed by it.
 use mathlib.Core.Path.{_≡_, refl, sym}
-use mathlib.Core.Bool.{Bool, true, false, not, false≢true}
+use mathlib.Core.Bool.{Bool, true, false, false≢true}
 use Prim.Native.Nat.{ℕ}
 use lib.IntN.{ℤ}
 use Rattle.registers.specs.Text.{Text}
 use Rattle.registers.specs.Check.{Checked, refused, passed, _>>=_, _>>_, check}
-use Rattle.registers.specs.Settings.{Kind, bool, words, number, kindOf, quantityOf, within, conflict, examined, accepted}
+use Rattle.registers.specs.Settings.{Kind, bool, words, number, kindOf, quantityOf, within, examined, accepted}
 use Rattle.registers.specs.declared.rounding.Side.{Side}
 use Rattle.registers.specs.declared.rounding.Side.the-variants.{On, Below, Above}
 use Rattle.registers.specs.declared.settings.Settings.{Settings}
@@ -15,12 +15,12 @@ use Rattle.interpreter.specs.declared.deed.Deed.{Deed}
 use Rattle.interpreter.specs.declared.deed.Deed.the-variants.{Change}
 use Rattle.interpreter.specs.declared.deed.Change.the-variants.{Put}
 
--- checks 5 to 8 on a setting as they were before
+-- checks 5 to 7 on a setting as they were before
 unfoldable pub roundedDeed : Settings → ℕ → Text → Checked Deed
 roundedDeed s i t =
     parameter (wordsOf (kindOf i)) (takesNumbers (kindOf i)) (quantityOf i) t >>= λ g.
     let v = valueGiven s i (kindOf i) g in
-    check 222 (within s i v) >> check 221 (not (conflict s i v)) >> passed (Change (Put i v (sideGiven (kindOf i) g)))
+    check 222 (within s i v) >> passed (Change (Put i v (sideGiven (kindOf i) g)))
 
 pub record ExamMode (s : Settings) (i : ℕ) (t : Text) : Type 0 where
   -- while it is on, only what is on the step is set
@@ -35,12 +35,12 @@ module _ (s : Settings) (i : ℕ) where
   next g =
       let v = valueGiven s i (kindOf i) g in
       let x = sideGiven (kindOf i) g in
-      check 222 (within s i v) >> check 222 (accepted s x) >> check 221 (not (conflict s i v)) >> passed (Change (Put i v x))
+      check 222 (within s i v) >> check 222 (accepted s x) >> passed (Change (Put i v x))
 
   abbrev before : Given → Checked Deed
   before g =
       let v = valueGiven s i (kindOf i) g in
-      check 222 (within s i v) >> check 221 (not (conflict s i v)) >> passed (Change (Put i v (sideGiven (kindOf i) g)))
+      check 222 (within s i v) >> passed (Change (Put i v (sideGiven (kindOf i) g)))
 
   accepted-same : (g : Given) → accepted s (sideGiven (kindOf i) g) ≡ true → next g ≡ before g
   unfolding check _>>_
@@ -56,15 +56,14 @@ module _ (s : Settings) (i : ℕ) where
   unfolding _>>=_ _>>_ check
   set-accepted (refused n) v x e = cc
   set-accepted (passed g) v x e =
-      go (within s i (valueGiven s i (kindOf i) g)) (accepted s (sideGiven (kindOf i) g)) refl (conflict s i (valueGiven s i (kindOf i) g)) e
+      go (within s i (valueGiven s i (kindOf i) g)) (accepted s (sideGiven (kindOf i) g)) refl e
     where
-      go : (w a : Bool) → accepted s (sideGiven (kindOf i) g) ≡ a → (c : Bool)
-          → (check 222 w >> check 222 a >> check 221 (not c) >> passed (Change (Put i (valueGiven s i (kindOf i) g) (sideGiven (kindOf i) g))))
-          ≡ passed (Change (Put i v x)) → accepted s x ≡ true
-      go false a q c e = cc
-      go true false q c e = cc
-      go true true q true e = cc
-      go true true q false e = let is : sideGiven (kindOf i) g ≡ x = cc in rw is at q
+      go : (w a : Bool) → accepted s (sideGiven (kindOf i) g) ≡ a
+          → (check 222 w >> check 222 a >> passed (Change (Put i (valueGiven s i (kindOf i) g) (sideGiven (kindOf i) g)))) ≡ passed (Change (Put i v x))
+          → accepted s x ≡ true
+      go false a q e = cc
+      go true false q e = cc
+      go true true q e = let is : sideGiven (kindOf i) g ≡ x = cc in rw is at q
 
 accepted-off : (s : Settings) (x : Side) → examined s ≡ false → accepted s x ≡ true
 unfolding accepted

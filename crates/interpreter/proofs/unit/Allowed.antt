@@ -1,4 +1,4 @@
--- Checks 1 to 8 refuse only by numbers that 01 names, and what they accept is allowed.
+-- Checks 1 to 7 refuse only by numbers that 01 names, and what they accept is allowed.
 use mathlib.Core.Path.{_≡_, refl}
 use mathlib.Core.Bool.{Bool, true, false, _&&_, false≢true}
 use mathlib.Core.List.{List, [], _∷_}
@@ -8,7 +8,7 @@ use lib.Dec.{leb}
 use lib.IntN.{ℤ, pos, negsuc, natAbs}
 use lib.Signed.{leZ}
 use native.Mathlib.Omega.{arith}
-use borrow.Author.Tests.{leb-true, not-true}
+use borrow.Author.Tests.{leb-true}
 use Rattle.registers.specs.Text.{Text}
 use Rattle.registers.specs.Check.{refused, passed}
 use Rattle.registers.specs.Errors.{known, queueable}
@@ -85,8 +85,7 @@ module _ (s : Settings) where
   setting-allowed i h t =
       hold-bind Any (Allowed s) _ _ (parameter-known _ _ _ t) (λ g _.
       hold-check (Allowed s) 222 _ _ refl (λ w.
-      hold-check (Allowed s) 222 _ _ refl (λ x.
-      hold-check (Allowed s) 221 _ _ refl (λ c. passes (h, w, not-true _ c, x)))))
+      hold-check (Allowed s) 222 _ _ refl (λ x. passes (h, w, x))))
 
   limit-allowed : (i : ℕ) → i < count → (t : Text) → Holds (Allowed s) (limitDeed s i t)
   unfolding limitDeed

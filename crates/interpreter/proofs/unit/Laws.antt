@@ -17,7 +17,7 @@ use Rattle.interpreter.specs.declared.deed.Deed.{Deed}
 use Rattle.interpreter.specs.declared.deed.Role.{Role}
 use Rattle.interpreter.specs.declared.parameter.Counted.{Counted}
 
--- checks 4 to 8, once the role and the number of parameters are known
+-- checks 4 to 7, once the role and the number of parameters are known
 abbrev pub checked : Settings → Role → Bool → ℕ → List Text → Checked Deed
 checked s r asked n ps = check 108 (leb n (greatest r asked)) >> check 109 (leb (least r asked) n) >> deedOf s r asked ps
 

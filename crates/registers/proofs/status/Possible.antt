@@ -178,11 +178,11 @@ pub cleared-fit : (r : Registers) → Fit r → Fit (allRead r)
 cleared-fit r f = record { ese = f .ese; sre = f .sre; bit6 = f .bit6; groups = every-read (r .groups) (f .groups) }
 
 -- 01's transition rule, once over the three sets: a report of one sets its event bits, and leaves the others alone
-module _ (x : RegisterSet) (n : ℕ) (r : Registers) (h : placeOf x < length (r .groups)) where
-  pub transition : (k : ℕ) → let g = groupIn x r in
+module _ (x : RegisterSet) (n : ℕ) (r : Registers) where
+  pub transition : placeOf x < length (r .groups) → (k : ℕ) → let g = groupIn x r in
       has k (groupIn x (setReported x n r) .event)
       ≡ (has k (g .event) || (not (has k (g .condition)) && has k n && has k (g .ptr) || has k (g .condition) && not (has k n) && has k (g .ntr)))
-  transition k =
+  transition h k =
       rw (getD-set-same (r .groups) (placeOf x) (conditionIs n (groupIn x r)) noGroup h) (transition-bit k n (groupIn x r))
 
   pub others-stay : (y : RegisterSet) → (placeOf y ≡ placeOf x → ⊥) → groupIn y (setReported x n r) ≡ groupIn y r

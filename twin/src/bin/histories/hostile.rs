@@ -14,7 +14,7 @@ pub fn write(script: &mut Script, count: usize) -> io::Result<()> {
     let lines = Lines::new(Manner::Varied);
     script.power_up()?;
     while script.events < count {
-        match script.dice.below(20) {
+        match script.dice.below(22) {
             0..=3 => send_line(script, |dice| lines.good(dice))?,
             4 => send_line(script, |dice| lines.faulty(dice))?,
             5 => send_line(script, odd_bytes)?,
@@ -28,6 +28,7 @@ pub fn write(script: &mut Script, count: usize) -> io::Result<()> {
             16 => query_that_does_not_fit(script)?,
             17 => hand_made_from_power_up(script, &lines)?,
             18 => hand_made_on_the_way(script, &lines)?,
+            19 | 20 => under_lock(script, &lines)?,
             _ => script.between()?,
         }
         let length = match script.dice.below(10) {
@@ -354,7 +355,79 @@ fn query_that_does_not_fit(script: &mut Script) -> io::Result<()> {
     ]);
     let line = format!("{}{before};{query}\n", "*IDN?;".repeat(46));
     script.send(line.as_bytes())?;
-    script.state()
+    script.state()?;
+    if script.dice.chance(80) {
+        script.condition(SetName::Lock, 0)?;
+    }
+    Ok(())
+}
+
+/// Lines that a lock blocks, whole or in part, or doesn't block (02, #105).
+static LINES_AND_LOCK: [&str; 40] = [
+    "OUTP 0",
+    "OUTP OFF",
+    "OUTP:STAT 0.4",
+    "OUTPUT -0.4",
+    "outp:state 1E-9",
+    "OUTP 1",
+    "OUTP ON",
+    "OUTP 0.5",
+    "OUTP:STAT -0.5",
+    "OUTP 1;OUTP 0",
+    "OUTP 0;OUTP 1",
+    "OUTP 0;OUTP:PON 0",
+    "OUTP FOO",
+    "OUTP 0V",
+    "OUTP 0E10",
+    "OUTP:PON 0",
+    "OUTP:REL 0",
+    "OUTP:MON:MODE VOLT",
+    "SYST:KLOC 0",
+    "SYST:EXAM 0",
+    "SYST:EXAM 1",
+    "DISP:BRIG 50",
+    "VOLT 5",
+    "VOLT 5.05",
+    "VOLT 99",
+    "VOLT 5000 MV",
+    "VOLT MIN",
+    "VOLT:RANG R24V",
+    "VOLT:RANG R12V",
+    "CURR:LIM:RMS:MODE OFF",
+    "FREQ 60;FREQ?",
+    "FREQ?;*RST;FREQ?",
+    "*RST",
+    "*RST 1",
+    "*RST;*CLS",
+    "*CLS;*OPC;*WAI;*ESE 5;*SRE 7;*OPC?",
+    "STAT:LOCK:PTR 0;NTR 32767;ENAB 3",
+    "STAT:LOCK?;LOCK:COND?",
+    "STAT:WARN:ENAB 3;:VOLT 4",
+    "SYST:ERR?;:VOLT?",
+];
+
+/// Some lines between the lock's coming and, most often, its going.
+fn under_lock(script: &mut Script, lines: &Lines) -> io::Result<()> {
+    let value = match script.dice.below(4) {
+        0 => script.dice.below(32_768) as u16,
+        _ => 1 << script.dice.below(15),
+    };
+    script.condition(SetName::Lock, value)?;
+    for _ in 0..2 + script.dice.below(5) {
+        match script.dice.below(6) {
+            0 => send_line(script, |dice| lines.good(dice))?,
+            1 => send_line(script, near_limit)?,
+            _ => send_line(script, |dice| dice.pick(&LINES_AND_LOCK).into())?,
+        }
+        script.collect(1024)?;
+    }
+    script.state()?;
+    if script.dice.chance(80) {
+        script.condition(SetName::Lock, 0)?;
+        let line = script.dice.pick(&LINES_AND_LOCK);
+        send_line(script, |_| line.into())?;
+    }
+    Ok(())
 }
 
 /// Errors up to the sixteenth or beyond, and some of them read.

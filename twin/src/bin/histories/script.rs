@@ -125,7 +125,11 @@ impl<'output> Script<'output> {
             0..=2 => self.look(),
             3..=5 => {
                 let name = self.dice.pick(&SetName::ALL);
-                let value = self.random_condition();
+                let value = match name {
+                    // Unlocked most of the time, or no setting would change any more.
+                    SetName::Lock if self.dice.chance(75) => 0,
+                    _ => self.random_condition(),
+                };
                 self.condition(name, value)
             }
             6 => self.state(),

@@ -1,48 +1,78 @@
 use lib.ListN.{take}
-use Rattle.interpreter.proofs.line.Laws.{unit-allowed, unit-refused, unit-obeyed}
+use Rattle.interpreter.proofs.perform.Permitted.{lets, barred, let-through}
+use Rattle.interpreter.proofs.line.Laws.{unit-allowed, unit-refused, unit-barred, unit-obeyed}
+use borrow.Author.Needs.{needs}
 use Rattle.interpreter.proofs.line.run_unit.Statement.{statement}
 use Rattle.interpreter.proofs.line.run_unit.Tie as tie
+use Rattle.interpreter.proofs.line.run_unit.Reads as reads
+use Rattle.interpreter.proofs.line.run_unit.Lts as lts
+use Rattle.interpreter.proofs.line.refuse.Reads as refuse-reads
+use Rattle.interpreter.proofs.perform.is_permitted.Reads as is-permitted-reads
+use Rattle.interpreter.proofs.perform.perform.Reads as perform-reads
+use Rattle.interpreter.proofs.unit.read.Reads as read-reads
 
 read-requires : tie.Need-read-requires
-read-requires c κs =
-    let p = c .before .before .before .before .pre in
-    (p .0, p .1 .0)
+read-requires c κs = search needs
 
 enum-known-decision : tie.Need-enum-known-decision
-enum-known-decision c = c .match .keys1
+enum-known-decision c = search needs
 
 refuse-requires : tie.Need-refuse-requires
-refuse-requires c κs = tt
+refuse-requires c κs = search needs
 
 returns : tie.Need-returns
 returns c =
-    let a = c .before .before .before .before .before .before .before .before .before .args in
-    let p = c .before .before .before .before .before .before .before .before .before .pre in
+    let s = c .before .before .before .before .before .before .before .before .before in
+    let a = s .args in
+    let p = s .pre in
     let read = c .before .before .before .before .read in
     unit-refused (a .done) (take (a .done .used) (a .path .now)) (a .unit .now) (read .last .1 .1 .0) (read .result .decision) (read .result .used) (read .ensures)
     (a .out .now) _ (c .before .before .decision .given .1) (c .refuse .result) (c .refuse .ensures) (p .1 .1 .2) (p .1 .1 .0)
 
 enum-known-decision-2 : tie.Need-enum-known-decision-2
-enum-known-decision-2 c = c .match .keys2
+enum-known-decision-2 c = search needs
 
-perform-requires : tie.Need-perform-requires
-perform-requires c κs =
-    let a = c .before .before .before .before .before .before .before .before .before .args in
-    let p = c .before .before .before .before .before .before .before .before .before .pre in
-    let read = c .before .before .before .before .read in
-    let allowed = unit-allowed (a .done) (take (a .done .used) (a .path .now)) (a .unit .now) (read .last .1 .1 .0) (read .result .decision) (read .result .used) (read .ensures) _ (c .before .before .decision2 .given .1) in
-    ((p .0, allowed), p .1 .1)
+is-permitted-requires : tie.Need-is-permitted-requires
+is-permitted-requires c κs = search needs
 
-same-length : tie.Need-same-length
-same-length c = c .before .before .perform .kept .1 .1 .1 .0
+refuse-requires-2 : tie.Need-refuse-requires-2
+refuse-requires-2 c κs = search needs
 
 returns-2 : tie.Need-returns-2
 returns-2 c =
-    let a = c .before .before .before .before .before .before .before .before .before .before .before .before .args in
-    let read = c .before .before .before .before .before .before .before .read in
+    let s = c .before .before .before .before .before .before .before .before .before .before .before in
+    let a = s .args in
+    let p = s .pre in
+    let l = c .before .before in
+    let read = l .before .before .before .before .read in
+    let bar = barred _ _ (l .is-permitted .result) (l .is-permitted .ensures) (c .before .if1 .taken) in
+    unit-barred (a .done) (take (a .done .used) (a .path .now)) (a .unit .now) (read .last .1 .1 .0) (read .result .decision) (read .result .used) (read .ensures)
+    (a .out .now) _ (l .before .before .decision2 .given .1) bar (c .refuse2 .result) (c .refuse2 .ensures) (p .1 .1 .2) (p .1 .1 .0)
+
+perform-requires : tie.Need-perform-requires
+perform-requires c κs =
+    let s = c .before .before .before .before .before .before .before .before .before .before .before in
+    let a = s .args in
+    let p = s .pre in
+    let read = c .before .before .before .before .before .before .read in
+    let allowed = unit-allowed (a .done) (take (a .done .used) (a .path .now)) (a .unit .now) (read .last .1 .1 .0) (read .result .decision) (read .result .used) (read .ensures) _ (c .before .before .before .before .decision2 .given .1) in
+    let l = c .before in
+    let free = let-through _ _ (l .before .is-permitted .result) (l .before .is-permitted .ensures) (l .if1 .left) in
+    ((p .0, allowed, lets _ _ free .clear), p .1 .1)
+
+same-length : tie.Need-same-length
+same-length c = search needs
+
+returns-3 : tie.Need-returns-3
+returns-3 c =
+    let s = c .before .before .before .before .before .before .before .before .before .before .before .before .before .before in
+    let a = s .args in
+    let read = c .before .before .before .before .before .before .before .before .before .read in
     let performed = c .before .before .perform in
+    let l = c .before .before .before .before in
+    let free = let-through _ _ (l .before .is-permitted .result) (l .before .is-permitted .ensures) (l .if1 .left) in
     unit-obeyed (a .done) (take (a .done .used) (a .path .now)) (a .unit .now) (read .last .1 .1 .0) (read .result .decision) (read .result .used) (read .ensures)
-    (a .out .now) _ (c .before .before .before .before .before .decision2 .given .1) (performed .result) (performed .last .1 .1 .1 .0) (performed .ensures)
+    (a .out .now) _ (c .before .before .before .before .before .before .before .decision2 .given .1) free (performed .result) (performed .last .1 .1 .1 .0) (performed .ensures)
 
 pub run-unit-spec : {M : Type 1} → statement M
 run-unit-spec =
@@ -53,6 +83,9 @@ run-unit-spec =
     refuse-requires
     returns
     enum-known-decision-2
+    is-permitted-requires
+    refuse-requires-2
+    returns-2
     perform-requires
     same-length
-    returns-2)
+    returns-3)

@@ -35,26 +35,13 @@ returns-3 c =
     let fit = c .before .before .before .before .fit .given in
     rw (fit .1, c .before .before .if1 .left, sym (c .before .accepts .ensures) ∙ not-true _ (c .if2 .taken))
 
-conflicts-requires : tie.Need-conflicts-requires
-conflicts-requires c κs = tt
-
 returns-4 : tie.Need-returns-4
 unfolding putFit check _>>_
 returns-4 c =
-    let e = c .before .before in
-    let fit = e .before .before .before .before .fit .given in
-    let b = back (fit .0 .0) (e .before .before .before .known-told .given .0 .1) in
-    let accepted = sym (e .before .accepts .ensures) ∙ not-false _ (e .if2 .left) in
-    rw (fit .1, e .before .before .if1 .left, accepted, sym (rw b at (c .before .conflicts .ensures)) ∙ c .if3 .taken)
-
-returns-5 : tie.Need-returns-5
-unfolding putFit check _>>_
-returns-5 c =
-    let e = c .before .before in
-    let fit = e .before .before .before .before .fit .given in
-    let b = back (fit .0 .0) (e .before .before .before .known-told .given .0 .1) in
-    let accepted = sym (e .before .accepts .ensures) ∙ not-false _ (e .if2 .left) in
-    rw (fit .1, e .before .before .if1 .left, accepted, sym (rw b at (c .before .conflicts .ensures)) ∙ c .if3 .left, b)
+    let fit = c .before .before .before .before .fit .given in
+    let b = back (fit .0 .0) (c .before .before .before .known-told .given .0 .1) in
+    let accepted = sym (c .before .accepts .ensures) ∙ not-false _ (c .if2 .left) in
+    rw (fit .1, c .before .before .if1 .left, accepted, b)
 
 pub put-spec : {M : Type 1} → statement M
 put-spec =
@@ -67,6 +54,4 @@ put-spec =
     returns-2
     accepts-requires
     returns-3
-    conflicts-requires
-    returns-4
-    returns-5)
+    returns-4)

@@ -22,7 +22,7 @@ returns c =
     let h : SFits w32 (v .1 .0) = record { sfits = c .before .known-told2 .given .1 .0 .1 } in
     let p = rw (c .before .before .before .before .before .deed .given .1, c .before .before .change .given .1) at (c .before .before .before .before .before .before .before .pre) in
     rw (c .before .before .before .before .before .deed .given .1, c .before .before .change .given .1, c .store .ensures, toZ-ofZ {w = w32} h)
-    (stored-yes (v .0) (v .1 .0) (c .before .before .before .before .before .before .before .args .settings) (p .1) (p .2))
+    (stored-yes (v .0) (v .1 .0) (c .before .before .before .before .before .before .before .args .settings) (p .0 .1) (p .1))
 
 enum-told : tie.Need-enum-told
 enum-told c = omega arith

@@ -1,0 +1,216 @@
+-- 02, #105: while the lock holds no line changes any setting but the output, and that only to off. Nothing but a deed changes settings or
+-- registers, and a deed that the lock lets pass leaves settings and conditions alone, or gives the output a value that is at most 0,
+-- and by check 7 at least 0.
+use mathlib.Core.Path.{_≡_, refl, sym, _∙_, ap, subst}
+use mathlib.Core.Bool.{Bool, true, false, not, and-true, false≢true}
+use mathlib.Core.List.{List, [], _∷_}
+use Prim.Native.Nat.{ℕ}
+use native.Mathlib.Omega.{arith}
+use lib.Dec.{leb, ltb, eqb}
+use lib.ListN.{length, getD, set}
+use lib.Seq.{getD-set-other}
+use lib.IntN.{ℤ, pos, negsuc}
+use lib.Signed.{leZ}
+use borrow.Author.Tests.{eqb-true, leb-true, not-false}
+use Rattle.registers.specs.Text.{Text, every, empty}
+use Rattle.registers.specs.Check.{Checked, refused, passed}
+use Rattle.registers.specs.Errors.{known, queueable}
+use Rattle.registers.specs.Group.{widestGroup}
+use Rattle.registers.specs.Settings.{table, settingAt, output, lowest, within}
+use Rattle.registers.specs.Status.{Registers, locked, setReported}
+use Rattle.registers.specs.declared.settings.Settings.{Settings}
+use Rattle.registers.specs.declared.status.RegisterSet.{RegisterSet}
+use Rattle.registers.specs.declared.status.RegisterSet.the-variants.{Operation, Lock, Warning}
+use Rattle.registers.proofs.Tests.{and-both}
+use Rattle.registers.proofs.status.Conditions.{conditionIn, stored-kept, event-kept, clear-kept, report-kept}
+use Rattle.interpreter.specs.Box.{Core, Box, withRegisters, mostLine}
+use Rattle.interpreter.specs.Unit.{Read, readUnit}
+use Rattle.interpreter.specs.UnitParts.{Allowed, AllowedChange}
+use Rattle.interpreter.specs.Deeds.{blockedChange, blocked, changed, afterQuery, reply, perform}
+use Rattle.interpreter.specs.Line.{Obeyed, attempt, refuse, next, runUnits, unitsOf, interrupted, finished, runLine, endLine, atNewline, held, byte, piece}
+use Rattle.interpreter.specs.Events.{Event, started, received, take, condition, look, Happened, Result, taken, reported, happens, after}
+use Rattle.interpreter.specs.State.{boxOf, possibleState, Happens}
+use Rattle.interpreter.specs.Calls.{Calls, done, call, powered}
+use Rattle.interpreter.specs.Lock.{leavesKey, Held, InHistories, InCalls, LockHolds}
+use Rattle.interpreter.specs.declared.deed.Deed.{Deed}
+use Rattle.interpreter.specs.declared.deed.Deed.the-variants.{Change, Complete, Clear, Query, Inquire}
+use Rattle.interpreter.specs.declared.deed.Change as changes
+use Rattle.interpreter.specs.declared.deed.Change.the-variants.{Nothing, Put, Reset, Store}
+use Rattle.interpreter.specs.declared.deed.Query as queries
+use Rattle.interpreter.specs.declared.deed.Query.the-variants.{Identity, SelfTest, Completed, Limit, Value, Stored, Condition, SetEvents}
+use Rattle.interpreter.specs.declared.state.State.{State}
+use Rattle.interpreter.proofs.Choices.{if-elim}
+use Rattle.interpreter.proofs.unit.Checks.{Holds, passes, hold-bind, hold-check, holds-from}
+use Rattle.interpreter.proofs.unit.Allowed.{read-allowed, read-known}
+use Rattle.interpreter.proofs.perform.Permitted.{Lets, hold-permitted}
+
+-- ---- a value that is off
+
+-- the output's value by check 7, where the lock lets it pass
+off-value : (s : Settings) (v : ℤ) → within s output v ≡ true → leZ v (pos 0) ≡ true → v ≡ pos 0
+unfolding within lowest settingAt table
+off-value s (pos n) w e = let h = leb-true n 0 e in ap pos (omega arith)
+off-value s (negsuc n) w e = absurd (false≢true w)
+
+-- then the output is off
+off-set : (l : List ℤ) → getD (set l output (pos 0)) output (pos 0) ≡ pos 0
+off-set [] = refl
+off-set (x ∷ l) = refl
+
+let-pass : (d : Deed) (c : Core) → Lets d c → locked (c .registers) ≡ true → blocked d ≡ false
+let-pass d c l h = sym (and-true (blocked d)) ∙ (rw h at (l .free))
+
+-- ---- what is held from settings s on
+
+module _ (s : Settings) where
+  abbrev HeldCore : Core → Type 0
+  HeldCore c = Held s (c .settings) (c .registers)
+
+  abbrev HeldBox : Box → Type 0
+  HeldBox b = HeldCore (b .core)
+
+  -- the lock looks at a condition alone
+  with-registers : (c : Core) (r : Registers) → conditionIn Lock r ≡ conditionIn Lock (c .registers) → HeldCore c → HeldCore (withRegisters r c)
+  with-registers c r e h = record { others = h .others; onlyOff = h .onlyOff; still = ap (λ (n : ℕ). not (eqb n 0)) e ∙ h .still }
+
+  -- ---- deeds
+
+  change-held : (x : changes.Change) (c : Core) → AllowedChange (c .settings) x → blockedChange x ≡ false → HeldCore c → HeldCore (changed x c)
+  unfolding changed
+  change-held Nothing c a n h = h
+  change-held (Put i v side) c a n h =
+      let p = and-both (eqb i output) (leZ v (pos 0)) (not-false _ n) in
+      let here = eqb-true i output (p .0) in
+      let off = off-value (c .settings) v (rw here at (a .1)) (p .1) in
+      rw (here, off) (record {
+        others = λ j apart. getD-set-other (c .settings .values) output j (pos 0) (pos 0) apart ∙ h .others j apart;
+        onlyOff = λ _. off-set (c .settings .values);
+        still = h .still;
+      })
+  change-held Reset c a n h = absurd (false≢true (sym n))
+  change-held (Store r n side) c a free h = with-registers c _ (stored-kept Lock (c .registers) r n) h
+
+  query-held : (q : queries.Query) (c : Core) → HeldCore c → HeldCore (afterQuery q c)
+  query-held Identity c h = h
+  query-held SelfTest c h = h
+  query-held Completed c h = h
+  query-held (Limit i v) c h = h
+  query-held (Value i) c h = h
+  query-held (Stored r) c h = h
+  query-held (Condition x) c h = h
+  query-held (SetEvents x) c h = with-registers c _ (event-kept Lock (c .registers) x) h
+
+  reply-held : (t : Text) (c : Core) → HeldCore c → Holds HeldCore (reply t c)
+  unfolding reply known queueable
+  reply-held t c h = hold-check HeldCore 430 _ _ refl (λ _. passes h)
+
+  perform-held : (d : Deed) (b : Box) → Allowed (b .core .settings) d → blocked d ≡ false → HeldBox b → Holds HeldBox (perform d b)
+  unfolding perform
+  perform-held (Change x) b a n h = passes (change-held x (b .core) a n h)
+  perform-held Complete b a n h = passes h
+  perform-held Clear b a n h = passes (with-registers (b .core) _ (clear-kept Lock (b .core .registers)) h)
+  perform-held (Query q) b a n h = hold-bind HeldCore HeldBox _ _ (reply-held _ _ (query-held q (b .core) h)) (λ c g. passes g)
+  perform-held (Inquire q) b a n h = hold-bind HeldCore HeldBox _ _ (reply-held _ _ h) (λ c g. passes g)
+
+  -- ---- units and lines
+
+  abbrev HeldObeyed : Obeyed → Type 0
+  HeldObeyed o = HeldBox (o .box)
+
+  attempt-held : (path : List Text) (b : Box) (u : Text) → HeldBox b → Holds HeldObeyed (attempt path b u)
+  unfolding attempt
+  attempt-held path b u h =
+      let t = b .core .settings in
+      hold-bind (λ (r : Read). Allowed t (r .deed)) HeldObeyed _ _
+      (holds-from (readUnit t path u) (λ r e. read-allowed t path u e) (λ n e. read-known t path u e)) (λ r a.
+      hold-permitted (r .deed) (b .core) HeldObeyed _ (λ l.
+      hold-bind HeldBox HeldObeyed _ _ (perform-held (r .deed) b a (let-pass (r .deed) (b .core) l (h .still)) h) (λ c g. passes g)))
+
+  refuse-held : (n : ℕ) (b : Box) → HeldBox b → HeldBox (refuse n b)
+  unfolding refuse
+  refuse-held n b h = if-elim HeldBox (eqb n 430) (λ _. h) (λ _. h)
+
+  next-held : (go : List Text → Box → Box) → ((p : List Text) (c : Box) → HeldBox c → HeldBox (go p c))
+      → (b : Box) → HeldBox b → (r : Checked Obeyed) → Holds HeldObeyed r → HeldBox (next go b r)
+  next-held go ih b h (refused n) k = refuse-held n b h
+  next-held go ih b h (passed o) k = ih (o .path) (o .box) (k .of)
+
+  units-held : (us path : List Text) (b : Box) → HeldBox b → HeldBox (runUnits us path b)
+  unfolding runUnits
+  units-held [] path b h = h
+  units-held (u ∷ us) path b h =
+      next-held (λ p c. runUnits us p c) (λ p c g. units-held us p c g) b h (attempt path b u) (attempt-held path b u h)
+
+  newline-held : (b : Box) → HeldBox b → HeldBox (endLine b)
+  unfolding endLine runLine finished interrupted
+  newline-held b h =
+      let f : HeldBox (atNewline b) = if-elim HeldBox (empty (b .core .answer)) (λ _. h) (λ _. h) in
+      if-elim HeldBox (b .core .overlong) (λ _. f) (λ _.
+      let g = units-held (unitsOf (b .core .line)) [] (atNewline b) f in
+      if-elim HeldBox (empty (runUnits (unitsOf (b .core .line)) [] (atNewline b) .core .answer)) (λ _. g) (λ _. g))
+
+  -- ---- bytes and events
+
+  byte-held : (b : Box) (x : ℕ) → HeldBox b → HeldBox (byte b x)
+  unfolding byte held
+  byte-held b x h =
+      if-elim HeldBox (eqb x 10) (λ _. newline-held b h)
+      (λ _. if-elim HeldCore (ltb (length (b .core .line)) mostLine) (λ _. h) (λ _. h))
+
+  piece-held : (b : Box) (xs : Text) → HeldBox b → HeldBox (piece b xs)
+  unfolding piece
+  piece-held b [] h = h
+  piece-held b (x ∷ xs) h = piece-held (byte b x) xs (byte-held b x h)
+
+  abbrev HeldHappened : Happened → Type 0
+  HeldHappened h = HeldBox (h .box)
+
+  reported-held : (x : RegisterSet) (n : ℕ) (b : Box)
+      → conditionIn Lock (setReported x n (b .core .registers)) ≡ conditionIn Lock (b .core .registers) → HeldBox b → HeldHappened (reported x n b)
+  unfolding reported
+  reported-held x n b e h = if-elim HeldHappened (leb n widestGroup) (λ _. with-registers (b .core) _ e h) (λ _. h)
+
+  event-held : (b : Box) (e : Event) → leavesKey e ≡ true → HeldBox b → HeldBox (happens b e .box)
+  unfolding happens taken
+  event-held b started k h = absurd (false≢true k)
+  event-held b (received xs) k h = piece-held b xs h
+  event-held b (take buffer) k h =
+      if-elim HeldHappened (empty (b .core .answer)) (λ _. h)
+      (λ _. if-elim HeldHappened (leb (length (b .core .answer)) (length buffer)) (λ _. h) (λ _. h))
+  event-held b (condition Operation n) k h = reported-held Operation n b (report-kept Lock (b .core .registers) Operation n (λ e. omega arith)) h
+  event-held b (condition Lock n) k h = absurd (false≢true k)
+  event-held b (condition Warning n) k h = reported-held Warning n b (report-kept Lock (b .core .registers) Warning n (λ e. omega arith)) h
+  event-held b look k h = h
+
+  history-held : (b : Box) (es : List Event) → every leavesKey es ≡ true → HeldBox b → HeldBox (after b es)
+  unfolding after
+  history-held b [] k h = h
+  history-held b (e ∷ es) k h =
+      let p = and-both (leavesKey e) (every leavesKey es) k in history-held (happens b e .box) es (p .1) (event-held b e (p .0) h)
+
+  -- ---- calls, by their promises
+
+  happens-held : (a t : State) (e : Event) (r : Result) → Happens a e r t → leavesKey e ≡ true → HeldBox (boxOf a) → HeldBox (boxOf t)
+  happens-held a t e r p k h = go (possibleState a) refl
+    where
+      go : (b : Bool) → possibleState a ≡ b → HeldBox (boxOf t)
+      go true q = subst HeldBox (sym (ap (λ (x : Happened). x .box) (p .possible q .1))) (event-held (boxOf a) e k h)
+      go false q = subst (λ (x : State). HeldBox (boxOf x)) (sym (p .impossible q .0)) h
+
+  calls-held : (a t : State) (es : List Event) (rs : List Result) → Calls t a es rs → every leavesKey es ≡ true → HeldBox (boxOf a) → HeldBox (boxOf t)
+  calls-held a t _ _ done k h = h
+  calls-held a t _ _ (call {u = u} {e = e} {es = es} {r = r} {rs = rs} p more) k h =
+      let q = and-both (leavesKey e) (every leavesKey es) k in calls-held u t es rs more (q .1) (happens-held a u e r p (q .0) h)
+  calls-held a t _ _ (powered first more) k h = absurd (false≢true k)
+
+-- ---- the law
+
+start : (s : Settings) (r : Registers) → locked r ≡ true → Held s s r
+start s r l = record { others = λ i apart. refl; onlyOff = λ changes. absurd (changes refl); still = l }
+
+pub lock-holds : LockHolds
+lock-holds =
+    record {
+      histories = λ b es l k. history-held (b .core .settings) b es k (start (b .core .settings) (b .core .registers) l);
+      calls = λ s t es rs c l k. calls-held (s .settings) s t es rs c k (start (s .settings) _ l);
+    }

@@ -1,0 +1,61 @@
+use mir.Facts.{toZ-ofZ}
+use mir.Val.{SFits}
+use mir.Syntax.{w32}
+use borrow.Author.Needs.{needs}
+use Rattle.interpreter.proofs.perform.Permitted.{put-permitted, reset-permitted, free-change, free-other}
+use Rattle.interpreter.proofs.perform.is_permitted.Statement.{statement}
+use Rattle.interpreter.proofs.perform.is_permitted.Tie as tie
+use Rattle.interpreter.proofs.perform.is_permitted.Reads as reads
+use Rattle.interpreter.proofs.perform.is_permitted.Lts as lts
+use Rattle.registers.proofs.settings.Settings.conflicts.Reads as conflicts-reads
+use Rattle.registers.proofs.status.Status.is_locked.Reads as is-locked-reads
+
+enum-known-deed : tie.Need-enum-known-deed
+enum-known-deed c = search needs
+
+enum-known-change : tie.Need-enum-known-change
+enum-known-change c = search needs
+
+is-locked-requires : tie.Need-is-locked-requires
+is-locked-requires c κs = search needs
+
+conflicts-requires : tie.Need-conflicts-requires
+conflicts-requires c κs = search needs
+
+returns : tie.Need-returns
+returns c =
+    let v = c .before .before .before .change .given .0 in
+    let h : SFits w32 (v .1 .0) = record { sfits = c .before .before .known-told2 .given .1 .0 .1 } in
+    rw (c .before .before .before .before .before .before .deed .given .1, c .before .before .before .change .given .1, c .before .is-locked .ensures, c .conflicts .ensures, toZ-ofZ {w = w32} h)
+    (put-permitted (v .0) (v .1 .0) _ _)
+
+enum-told : tie.Need-enum-told
+enum-told c = search needs
+
+is-locked-requires-2 : tie.Need-is-locked-requires-2
+is-locked-requires-2 c κs = search needs
+
+returns-2 : tie.Need-returns-2
+returns-2 c =
+    rw (c .before .before .before .before .deed .given .1, c .before .enum-told .given .1, c .is-locked2 .ensures) (reset-permitted _)
+
+returns-3 : tie.Need-returns-3
+returns-3 c = rw (c .before .before .deed .given .1) (free-change (c .before .before .deed .given .0 .0) (c .match2 .keys3) _)
+
+returns-4 : tie.Need-returns-4
+returns-4 c = free-other (c .before .args .deed) (c .match .keys2) _
+
+pub is-permitted-spec : {M : Type 1} → statement M
+is-permitted-spec =
+    tie.close
+    (tie.spec
+    enum-known-deed
+    enum-known-change
+    is-locked-requires
+    conflicts-requires
+    returns
+    enum-told
+    is-locked-requires-2
+    returns-2
+    returns-3
+    returns-4)

@@ -1,0 +1,54 @@
+-- 02, #105: "A teacher's lock key must hold." While the lock holds no line changes any setting but the output, and that only to off:
+-- for any bytes, from any state, until the next lock condition event or power-up.
+use mathlib.Core.Path.{_≡_}
+use mathlib.Core.Bool.{Bool, true, false}
+use mathlib.Core.List.{List}
+use Prim.Native.Nat.{ℕ}
+use lib.IntN.{pos}
+use Rattle.registers.specs.Text.{every}
+use Rattle.registers.specs.Settings.{output, valueAt}
+use Rattle.registers.specs.Status.{Registers, registersOf, locked}
+use Rattle.registers.specs.declared.settings.Settings.{Settings}
+use Rattle.registers.specs.declared.status.RegisterSet.{RegisterSet}
+use Rattle.registers.specs.declared.status.RegisterSet.the-variants.{Operation, Lock, Warning}
+use Rattle.interpreter.specs.Box.{Box}
+use Rattle.interpreter.specs.Events.{Event, started, received, take, condition, look, Result, after}
+use Rattle.interpreter.specs.State.{boxOf}
+use Rattle.interpreter.specs.Calls.{Calls}
+use Rattle.interpreter.specs.declared.state.State.{State}
+
+-- an event that leaves the key where it is: no power-up, and no report of the lock's condition
+abbrev pub leavesKey : Event → Bool
+leavesKey started = false
+leavesKey (received xs) = true
+leavesKey (take buffer) = true
+leavesKey (condition Operation n) = true
+leavesKey (condition Lock n) = false
+leavesKey (condition Warning n) = true
+leavesKey look = true
+
+-- settings, and what they and the registers are later
+pub record Held (before later : Settings) (registers : Registers) : Type 0 where
+  -- "no line changes any setting but the output"
+  pub others : (i : ℕ) → (i ≡ output → ⊥) → valueAt later i ≡ valueAt before i
+  -- "and that only to off"
+  pub onlyOff : (valueAt later output ≡ valueAt before output → ⊥) → valueAt later output ≡ pos 0
+  -- and the lock still holds
+  pub still : locked registers ≡ true
+
+abbrev pub HeldIn : Box → Box → Type 0
+HeldIn b c = Held (b .core .settings) (c .core .settings) (c .core .registers)
+
+-- in any history of the definition
+abbrev pub InHistories : Type 0
+InHistories = (b : Box) (es : List Event) → locked (b .core .registers) ≡ true → every leavesKey es ≡ true → HeldIn b (after b es)
+
+-- in any calls of the public functions, known by their promises alone; a state that couldn't be the box's is refused, and so stays
+abbrev pub InCalls : Type 0
+InCalls =
+    (s t : State) (es : List Event) (rs : List Result) → Calls t s es rs
+    → locked (registersOf (s .status)) ≡ true → every leavesKey es ≡ true → HeldIn (boxOf s) (boxOf t)
+
+pub record LockHolds : Type 0 where
+  pub histories : InHistories
+  pub calls : InCalls
