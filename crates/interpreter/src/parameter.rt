@@ -117,9 +117,7 @@ fn find_word(table: &[u8], takes: Takes, text: &[u8]) -> Parameter
 {
     let mut n: usize = 0;
     while n < takes.count {
-        let word = takes.first + n;
-        let letters = rows::agreed_letters(table, text, word);
-        if (letters == text.len()) & rows::has_length(table, word, letters) {
+        if rows::is_word(table, text, takes.first + n) {
             return Parameter::Word(n);
         }
         n += 1;

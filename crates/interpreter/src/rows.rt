@@ -3,7 +3,7 @@ use registers::text;
 ghost use mathlib.Core.Path.{_≡_};
 ghost use Prim.Native.Nat.{_≤_, _<_};
 ghost use lib.ListN.{length};
-ghost use Rattle.registers.specs.Words.{longForm};
+ghost use Rattle.registers.specs.Words.{longForm, matches};
 ghost use Rattle.interpreter.specs.RowsParts.{wordCount, rowCount, commandTable, wordAt, rowOf, named, agreed, formLength, WordTaken, wordCell, rowCell, wordIn, nodeOf, Walked, formBit};
 
 // How many rows there are.
@@ -41,7 +41,7 @@ fn row_cell(table: &[u8], row: usize, i: usize) -> u8
 }
 
 // Whether a word's short or its long form has so many letters.
-pub(crate) fn has_length(table: &[u8], word: usize, n: usize) -> bool
+fn has_length(table: &[u8], word: usize, n: usize) -> bool
     requires { ⌜ (now table ≡ commandTable) × (word < wordCount) ⌝ }
     ensures { λ r. ⌜ r ≡ formLength word n ⌝ }
 {
@@ -51,7 +51,7 @@ pub(crate) fn has_length(table: &[u8], word: usize, n: usize) -> bool
 }
 
 // How many first bytes of a text are a word's letters, in any letter case.
-pub(crate) fn agreed_letters(table: &[u8], text: &[u8], word: usize) -> usize
+fn agreed_letters(table: &[u8], text: &[u8], word: usize) -> usize
     requires { ⌜ (now table ≡ commandTable) × (word < wordCount) ⌝ }
     ensures { λ r. ⌜ r ≡ agreed (now (text .entry)) (longForm (wordAt word)) ⌝ }
 {
@@ -67,6 +67,16 @@ pub(crate) fn agreed_letters(table: &[u8], text: &[u8], word: usize) -> usize
         n += 1;
     }
     n
+}
+
+// Whether a text spells a word, in its short or its long form. The short form is a start of the long one, so one walk over the letters
+// decides both: all bytes of the text were letters of the word, and one of the two forms has that many.
+pub(crate) fn is_word(table: &[u8], name: &[u8], word: usize) -> bool
+    requires { ⌜ (now table ≡ commandTable) × (word < wordCount) ⌝ }
+    ensures { λ r. ⌜ r ≡ matches (wordAt word) (now (name .entry)) ⌝ }
+{
+    let n = agreed_letters(table, name, word);
+    (n == name.len()) & has_length(table, word, n)
 }
 
 // Takes a word as the name at a place, with the colon behind it. No letter is a colon, so one walk over

@@ -1,13 +1,7 @@
-use mathlib.Core.Path.{_≡_, refl, sym, _∙_}
-use mathlib.Core.Bool.{_&&_}
-use Prim.Native.Nat.{_+_, _-_}
+use mathlib.Core.Path.{refl, sym, _∙_}
+use Prim.Native.Nat.{_-_}
 use native.Mathlib.Omega.{arith}
-use lib.Dec.{eqb}
-use lib.ListN.{length}
-use Rattle.registers.specs.Words.{matches}
-use Rattle.interpreter.specs.RowsParts.{wordAt, formLength}
 use Rattle.interpreter.proofs.Lists.{fewer}
-use Rattle.interpreter.proofs.rows.Spelling.{whole-word}
 use Rattle.interpreter.proofs.parameter.Words.{Searching, search-hit, search-miss, search-end}
 use Rattle.interpreter.proofs.parameter.find_word.Statement.{statement}
 use Rattle.interpreter.proofs.parameter.find_word.Tie as tie
@@ -21,37 +15,23 @@ abbrev μ-loop : tie.MeasureT-loop
 loop-holds : tie.Need-loop-holds Inv-loop μ-loop
 loop-holds c = record { room = c .before .before .pre .1; left = refl }
 
-add-word : tie.Need-add-word Inv-loop μ-loop
-add-word c = omega arith
+add-is-word : tie.Need-add-is-word Inv-loop μ-loop
+add-is-word c = omega arith
 
-agreed-letters-requires : tie.Need-agreed-letters-requires Inv-loop μ-loop
-agreed-letters-requires c κs = (c .before .before .before .before .before .before .pre .0, omega arith)
-
-has-length-requires : tie.Need-has-length-requires Inv-loop μ-loop
-has-length-requires c κs = (c .before .before .before .before .before .before .before .pre .0, omega arith)
-
--- the word at this place is spelled if the test says so
-spelled : (c : tie.After-has-length Inv-loop μ-loop)
-    → let o = c .before .before .before .before .before .before .before .before .args in
-    let n = c .before .agreed-letters .result in
-    let w = o .takes .first + c .before .before .before .before .before .loop .n in
-    matches (wordAt w) (o .text .now) ≡ (eqb n (length (o .text .now)) && formLength w n)
-spelled c =
-    let o = c .before .before .before .before .before .before .before .before .args in
-    let a = c .before .agreed-letters in
-    sym (whole-word (o .text .now) _ (a .result) (omega arith) (a .ensures))
+is-word-requires : tie.Need-is-word-requires Inv-loop μ-loop
+is-word-requires c κs = (c .before .before .before .before .before .before .pre .0, omega arith)
 
 returns : tie.Need-returns Inv-loop μ-loop
-returns c = search-hit (c .before .before .before .before .before .before .loop .inv) (omega arith) (spelled (c .before) ∙ (rw (c .before .has-length .ensures) at (c .if2 .taken)))
+returns c = search-hit (c .before .before .before .before .before .loop .inv) (omega arith) (sym (c .before .is-word .ensures) ∙ c .if2 .taken)
 
 add-n : tie.Need-add-n Inv-loop μ-loop
 add-n c = omega arith
 
 loop-less : tie.Need-loop-less Inv-loop μ-loop
-loop-less c = fewer (c .before .before .before .before .if1 .taken)
+loop-less c = fewer (c .before .before .before .if1 .taken)
 
 loop-again : tie.Need-loop-again Inv-loop μ-loop
-loop-again c = search-miss (c .before .before .before .before .before .before .loop .inv) (omega arith) (spelled (c .before) ∙ (rw (c .before .has-length .ensures) at (c .if2 .left)))
+loop-again c = search-miss (c .before .before .before .before .before .loop .inv) (omega arith) (sym (c .before .is-word .ensures) ∙ c .if2 .left)
 
 returns-2 : tie.Need-returns-2 Inv-loop μ-loop
 returns-2 c = search-end (c .before .before .loop .inv) (c .if1 .left)
@@ -63,9 +43,8 @@ find-word-spec =
     Inv-loop
     μ-loop
     loop-holds
-    add-word
-    agreed-letters-requires
-    has-length-requires
+    add-is-word
+    is-word-requires
     returns
     add-n
     loop-less
