@@ -12,10 +12,10 @@ use Rattle.registers.specs.Group.{widestGroup}
 use Rattle.interpreter.specs.Box.{Box, raise, answerIs}
 use Rattle.interpreter.specs.Line.{attempt, runUnits}
 use Rattle.interpreter.specs.Events.{Event, started, received, take, condition, look, Result, result, Happened, happened, lent}
-use Rattle.interpreter.specs.State.{boxOf, possibleState, Happens}
+use Rattle.interpreter.specs.State.{boxOf, admitted, Happens}
 use Rattle.interpreter.specs.declared.state.State.{State}
 
--- ---- 01's table, its column "When": which number is given, 0 for none. A power-up is never refused
+-- ---- 01's table, its column "When": which number is given, 0 for none
 
 unfoldable pub numberFor : Box → Event → ℕ
 numberFor b started = 0
@@ -24,9 +24,9 @@ numberFor b (take buffer) = if empty (b .core .answer) then 2 else (if ltb (leng
 numberFor b (condition x n) = if ltb widestGroup n then 3 else 0
 numberFor b look = 0
 
--- "Number 4 is tested first", on the record's own numbers
+-- "Number 4 is tested first", on the record's own numbers, and for "any but power-up"
 unfoldable pub refusalOf : State → Event → ℕ
-refusalOf s e = if possibleState s then numberFor (boxOf s) e else 4
+refusalOf s e = if admitted s e then numberFor (boxOf s) e else 4
 
 -- ---- its column "What it leaves", by the number. 1: "result gives the needed length"; 2: "error -420 raised"; else the state is
 -- unchanged and the count, length or status byte is 0. The lent buffer is never touched

@@ -27,3 +27,4 @@ pub mod Server
 pub mod ServerParts
 pub mod Calls
 pub mod Lock
+pub mod Dummies

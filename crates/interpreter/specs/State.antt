@@ -9,7 +9,7 @@ use Rattle.registers.specs.Status.{registersOf, troubleOf, possibleStatus}
 use Rattle.registers.specs.declared.settings.Settings.{Settings}
 use Rattle.registers.specs.declared.status.Status.{Status}
 use Rattle.interpreter.specs.Box.{Box, box, powerUp, mostLine, mostAnswer}
-use Rattle.interpreter.specs.Events.{Event, Result, result, happened, happens, lent}
+use Rattle.interpreter.specs.Events.{Event, started, received, take as takes, condition, look, Result, result, happened, happens, lent}
 use Rattle.interpreter.specs.declared.state.State.{State}
 use Rattle.interpreter.specs.declared.state.Outcome.{Outcome}
 use Rattle.interpreter.specs.declared.state.Outcome.the-variants.{Done, BufferTooShort, NoAnswer, ConditionTooWide, ImpossibleState}
@@ -42,13 +42,21 @@ possibleParts settings status filled waiting =
 abbrev pub possibleState : State → Bool
 possibleState s = possibleParts (s .settings) (s .status) (s .filled) (s .waiting)
 
--- an event, any but power-up, on a state s left the result r and the state t. "Number 4 is tested first": "state and buffers
--- unchanged; count, length and status byte 0"
-pub record Happens (s : State) (e : Event) (r : Result) (t : State) : Type 0 where
-  pub possible : possibleState s ≡ true → (possibleState t ≡ true) × (happened r (boxOf t) ≡ happens (boxOf s) e)
-  pub impossible : possibleState s ≡ false → (t ≡ s) × (r ≡ result 4 0 (lent e))
+-- number 4 is for "any but power-up": a power-up looks at no state, and is never refused
+abbrev pub admitted : State → Event → Bool
+admitted s started = true
+admitted s (received xs) = possibleState s
+admitted s (takes buffer) = possibleState s
+admitted s (condition x n) = possibleState s
+admitted s look = possibleState s
 
--- "Power-up: the first state"
+-- an event on a state s left the result r and the state t. "Number 4 is tested first": "state and buffers unchanged; count, length
+-- and status byte 0"
+pub record Happens (s : State) (e : Event) (r : Result) (t : State) : Type 0 where
+  pub possible : admitted s e ≡ true → (possibleState t ≡ true) × (happened r (boxOf t) ≡ happens (boxOf s) e)
+  pub impossible : admitted s e ≡ false → (t ≡ s) × (r ≡ result 4 0 (lent e))
+
+-- "Power-up: the first state", which no state comes before
 pub record Started (t : State) : Type 0 where
   pub possible : possibleState t ≡ true
   pub first : boxOf t ≡ powerUp

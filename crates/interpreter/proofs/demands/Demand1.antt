@@ -15,7 +15,7 @@ use Rattle.interpreter.specs.Unit.{readUnit}
 use Rattle.interpreter.specs.Deeds.{reply, perform}
 use Rattle.interpreter.specs.Line.{refuse, attempt, runUnits}
 use Rattle.interpreter.specs.Events.{Event, started, received, take, condition, look, Result, Happened, taken, reported, happens}
-use Rattle.interpreter.specs.State.{boxOf, possibleState, Happens}
+use Rattle.interpreter.specs.State.{boxOf, admitted, Happens}
 use Rattle.interpreter.specs.Demand1.{numberFor, refusalOf, leaves, Refuses, EventRefusals, UnitRefusals, Demand1}
 use Rattle.interpreter.specs.declared.deed.Deed.{Deed}
 use Rattle.interpreter.specs.declared.deed.Deed.the-variants.{Change, Complete, Clear, Query, Inquire}
@@ -70,9 +70,9 @@ below-four b look z = omega (arith, z)
 
 event-refusals : EventRefusals
 unfolding refusalOf if_then_else_
-event-refusals s t e r h = go (possibleState s) refl
+event-refusals s t e r h = go (admitted s e) refl
   where
-    go : (p : Bool) → possibleState s ≡ p → Refuses s e r t
+    go : (p : Bool) → admitted s e ≡ p → Refuses s e r t
     go true q =
         let o = h .possible q .1 in
         let l = listed (boxOf s) e in

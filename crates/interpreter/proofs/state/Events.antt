@@ -19,7 +19,7 @@ use Rattle.registers.specs.declared.status.RegisterSet.{RegisterSet}
 use Rattle.interpreter.specs.Box.{box}
 use Rattle.interpreter.specs.Line.{newlines}
 use Rattle.interpreter.specs.Events.{Event, received, take as takes, condition, look, Result, result, happened, happens, taken, reported, lent}
-use Rattle.interpreter.specs.State.{boxOf, possibleParts, Happens}
+use Rattle.interpreter.specs.State.{boxOf, possibleParts, possibleState, admitted, Happens}
 use Rattle.interpreter.specs.StateParts.{Tested, flowOf, stateOf}
 use Rattle.interpreter.specs.FlowParts.{FlowFed}
 use Rattle.interpreter.specs.declared.state.State.{State}
@@ -27,17 +27,18 @@ use Rattle.interpreter.specs.declared.flow.Flow.{Flow}
 use Rattle.interpreter.proofs.line.Newline.{waits}
 use Rattle.interpreter.proofs.state.Records.{Short, short-from, could, could-not, happens-so}
 
-module _ (s : State) (e : Event) (t : Bool) (w : Tested s t) where
+-- an event that is no power-up
+module _ (s : State) (e : Event) (call : admitted s e ≡ possibleState s) (t : Bool) (w : Tested s t) where
   -- a state that couldn't be the box's is handed back
   pub refused-4 : not t ≡ true → Happens s e (result 4 0 (lent e)) s
-  refused-4 h = record { possible = λ p. absurd (false≢true (sym (could-not s t w h) ∙ p)); impossible = λ _. (refl, refl) }
+  refused-4 h = record { possible = λ p. absurd (false≢true (sym (call ∙ could-not s t w h) ∙ p)); impossible = λ _. (refl, refl) }
 
   pub happens-on : not t ≡ false → (r : Result) (u : State) → (Short s → Short u) → happened r (boxOf u) ≡ happens (boxOf s) e → Happens s e r u
   happens-on h r u k is =
       let p = could s t w h in
       record {
-        possible = happens-so s e r u (w .values) (λ _. (k (short-from s p), is));
-        impossible = λ n. absurd (false≢true (sym n ∙ p));
+        possible = λ _. happens-so s e r u (w .values) (λ _. (k (short-from s p), is)) p;
+        impossible = λ n. absurd (false≢true (sym n ∙ call ∙ p));
       }
 
 -- ---- other status in the same record

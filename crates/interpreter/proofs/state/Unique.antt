@@ -11,7 +11,7 @@ use Rattle.registers.specs.Text.{if_then_else_}
 use Rattle.registers.specs.Status.{most}
 use Rattle.interpreter.specs.Box.{Box, mostLine, mostAnswer}
 use Rattle.interpreter.specs.Events.{Event, Result, Happened}
-use Rattle.interpreter.specs.State.{numberOf, boxOf, possibleState, Happens, Started}
+use Rattle.interpreter.specs.State.{numberOf, boxOf, possibleState, admitted, Happens, Started}
 use Rattle.interpreter.specs.declared.state.State.{State}
 use Rattle.interpreter.specs.declared.state.Outcome.{Outcome}
 use Rattle.interpreter.specs.declared.state.Outcome.the-variants.{Done, BufferTooShort, NoAnswer, ConditionTooWide, ImpossibleState}
@@ -39,9 +39,9 @@ outcome-unique o o′ e = sym (outcome-back o) ∙ ap outcomeOf e ∙ outcome-ba
 -- an event's result, its state's meaning, and that both states could be the box's or neither
 pub happens-unique : (s : State) (e : Event) (r r′ : Result) (t t′ : State) → Happens s e r t → Happens s e r′ t′
     → (r ≡ r′) × (boxOf t ≡ boxOf t′) × (possibleState t ≡ possibleState t′)
-happens-unique s e r r′ t t′ p q = on (possibleState s) refl
+happens-unique s e r r′ t t′ p q = on (admitted s e) refl
   where
-    on : (b : Bool) → possibleState s ≡ b → (r ≡ r′) × (boxOf t ≡ boxOf t′) × (possibleState t ≡ possibleState t′)
+    on : (b : Bool) → admitted s e ≡ b → (r ≡ r′) × (boxOf t ≡ boxOf t′) × (possibleState t ≡ possibleState t′)
     on true h =
         let same = p .possible h .1 ∙ sym (q .possible h .1) in
         (ap (λ (x : Happened). x .result) same, ap (λ (x : Happened). x .box) same, p .possible h .0 ∙ sym (q .possible h .0))

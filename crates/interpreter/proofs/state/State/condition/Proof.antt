@@ -1,3 +1,4 @@
+use mathlib.Core.Path.{refl}
 use Rattle.interpreter.specs.Events.{condition}
 use Rattle.interpreter.proofs.state.Events.{refused-4, happens-on, withStatus, condition-wide, condition-on, condition-short}
 use Rattle.interpreter.proofs.state.State.condition.Statement.{statement}
@@ -9,12 +10,12 @@ possible-requires c κs = tt
 returns : tie.Need-returns
 returns c =
     let a = c .before .before .args in
-    refused-4 (a .self) (condition (a .set) (a .value)) _ (c .before .possible .ensures) (c .if1 .taken)
+    refused-4 (a .self) (condition (a .set) (a .value)) refl _ (c .before .possible .ensures) (c .if1 .taken)
 
 returns-2 : tie.Need-returns-2
 returns-2 c =
     let a = c .before .before .before .args in
-    happens-on (a .self) (condition (a .set) (a .value)) _ (c .before .before .possible .ensures) (c .before .if1 .left) _ (a .self) (λ w. w) (condition-wide (a .self) (a .set) (a .value) (c .if2 .taken))
+    happens-on (a .self) (condition (a .set) (a .value)) refl _ (c .before .before .possible .ensures) (c .before .if1 .left) _ (a .self) (λ w. w) (condition-wide (a .self) (a .set) (a .value) (c .if2 .taken))
 
 report-requires : tie.Need-report-requires
 report-requires c κs = tt
@@ -25,7 +26,7 @@ returns-3 c =
     let t = c .report .result in
     let is = c .report .ensures in
     let h = c .before .if2 .left in
-    happens-on (a .self) (condition (a .set) (a .value)) _ (c .before .before .before .possible .ensures) (c .before .before .if1 .left) _ (withStatus t (a .self))
+    happens-on (a .self) (condition (a .set) (a .value)) refl _ (c .before .before .before .possible .ensures) (c .before .before .if1 .left) _ (withStatus t (a .self))
     (condition-short (a .self) (a .set) (a .value) t is h) (condition-on (a .self) (a .set) (a .value) t is h)
 
 pub condition-spec : {M : Type 1} → statement M

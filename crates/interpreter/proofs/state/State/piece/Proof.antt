@@ -12,7 +12,7 @@ possible-requires c κs = tt
 returns : tie.Need-returns
 returns c =
     let a = c .before .before .before .args in
-    refused-4 (a .self) (received (a .bytes .now)) _ (c .before .possible .ensures) (c .if1 .taken)
+    refused-4 (a .self) (received (a .bytes .now)) refl _ (c .before .possible .ensures) (c .if1 .taken)
 
 commands-requires : tie.Need-commands-requires
 commands-requires c κs = tt
@@ -36,7 +36,7 @@ returns-2 c =
     let fed = c .before .feed in
     let is = rw (c .before .before .before .before .flow-of .ensures) at (fed .ensures) in
     rw (c .state-of .ensures)
-    (happens-on s (received bytes) _ (c .before .before .before .before .before .before .before .before .before .before .possible .ensures) (c .before .before .before .before .before .before .before .before .before .if1 .left) _ _ (λ _. short-of (fed .result) _ _ (is .fits)) (piece-on s bytes (fed .result) _ _ is))
+    (happens-on s (received bytes) refl _ (c .before .before .before .before .before .before .before .before .before .before .possible .ensures) (c .before .before .before .before .before .before .before .before .before .if1 .left) _ _ (λ _. short-of (fed .result) _ _ (is .fits)) (piece-on s bytes (fed .result) _ _ is))
 
 pub piece-spec : {M : Type 1} → statement M
 piece-spec =

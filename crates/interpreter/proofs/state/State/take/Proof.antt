@@ -1,4 +1,4 @@
-use mathlib.Core.Path.{_≡_}
+use mathlib.Core.Path.{_≡_, refl}
 use Prim.Native.Nat.{_+_, zero-le}
 use native.Mathlib.Omega.{arith}
 use Rattle.registers.proofs.status.Means.{raised-queued}
@@ -14,7 +14,7 @@ possible-requires c κs = tt
 returns : tie.Need-returns
 returns c =
     let a = c .before .before .before .args in
-    refused-4 (a .self) (takes (a .buffer .now)) _ (c .before .possible .ensures) (c .if1 .taken)
+    refused-4 (a .self) (takes (a .buffer .now)) refl _ (c .before .possible .ensures) (c .if1 .taken)
 
 raise-requires : tie.Need-raise-requires
 raise-requires c κs = tt
@@ -26,7 +26,7 @@ returns-2 c =
     let w = c .before .before .before .possible .ensures in
     let is = c .raise .ensures in
     let wide = w .answer in
-    happens-on s (takes buffer) _ w (c .before .before .if1 .left) _ (withStatus (c .raise .result) s)
+    happens-on s (takes buffer) refl _ w (c .before .before .if1 .left) _ (withStatus (c .raise .result) s)
     (λ k. record { queued = rw is (raised-queued 420 (s .status) (w .errors) (k .queued)); filled = k .filled; waiting = k .waiting })
     (take-none s (omega arith) buffer (c .raise .result) (w .errors) is (c .before .if2 .taken))
 
@@ -37,7 +37,7 @@ returns-3 c =
     let w = c .before .before .before .possible .ensures in
     let few = short-from s (could s _ w (c .before .before .if1 .left)) .waiting in
     let wide = w .answer in
-    happens-on s (takes buffer) _ w (c .before .before .if1 .left) _ s (λ k. k)
+    happens-on s (takes buffer) refl _ w (c .before .before .if1 .left) _ s (λ k. k)
     (take-short s (omega arith) buffer (c .before .if2 .left) (omega arith) (c .if3 .taken))
 
 slice-aggregate-paste : tie.Need-slice-aggregate-paste
@@ -65,7 +65,7 @@ returns-4 c =
     let all = take-all s (omega arith) buffer (c .before .before .before .before .before .before .before .if2 .left) (omega arith) (c .before .before .before .before .before .before .if3 .left) in
     let laid = c .before .before .paste .ensures in
     let z : 0 + s .waiting ≡ s .waiting = omega arith in
-    happens-on s (takes buffer) _ w (c .before .before .before .before .before .before .before .before .if1 .left) _ (withoutAnswer s) (λ k. record { queued = k .queued; filled = k .filled; waiting = zero-le })
+    happens-on s (takes buffer) refl _ w (c .before .before .before .before .before .before .before .before .if1 .left) _ (withoutAnswer s) (λ k. record { queued = k .queued; filled = k .filled; waiting = zero-le })
     (rw (laid .0, laid .1, z) all)
 
 pub take-spec : {M : Type 1} → statement M

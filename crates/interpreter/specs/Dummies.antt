@@ -1,0 +1,168 @@
+-- 01: "These dummies have to be rejected". Each is said by what it does, over any program whatever it remembers, beside a program
+-- that does it; and each is rejected by what it tells, held against demand 2's definition of an event.
+use mathlib.Core.Path.{_≡_}
+use mathlib.Core.Bool.{Bool, true, false}
+use mathlib.Core.List.{List, [], _∷_, _++_}
+use Prim.Native.Nat.{ℕ}
+use lib.Dec.{eqb}
+use lib.ListN as L
+use Rattle.registers.specs.Text.{Text, if_then_else_, empty}
+use Rattle.interpreter.specs.Box.{Box, box, raise, answerIs, powerUp}
+use Rattle.interpreter.specs.Line.{unitsOf, atNewline, held, byte, newlines}
+use Rattle.interpreter.specs.Events.{Event, started, received, take, condition, look, Result, result, happens, results}
+use Rattle.interpreter.specs.State.{Happens, Started}
+use Rattle.interpreter.specs.declared.state.State.{State}
+
+-- ---- a program: what it remembers at power-up, what it tells of an event, and what it remembers then
+
+pub record Program : Type 1 where
+  pub Memory : Type 0
+  pub start : Memory
+  pub tells : Memory → Event → Result
+  pub keeps : Memory → Event → Memory
+
+unfoldable pub told : (p : Program) → p .Memory → List Event → List Result
+told p m [] = []
+told p m (e ∷ es) = p .tells m e ∷ told p (p .keeps m e) es
+
+unfoldable pub reached : (p : Program) → p .Memory → List Event → p .Memory
+reached p m [] = m
+reached p m (e ∷ es) = reached p (p .keeps m e) es
+
+-- what it tells of one more event, in a history from power-up
+abbrev pub tellsNext : (p : Program) → List Event → Event → Result
+tellsNext p es e = p .tells (reached p (p .start) es) e
+
+-- in every history from power-up it tells what the definition says
+abbrev pub Meets : Program → Type 0
+Meets p = (es : List Event) → told p (p .start) es ≡ results powerUp es
+
+-- the definition itself
+abbrev pub theBox : Program
+theBox = record { Memory = Box; start = powerUp; tells = λ b e. happens b e .result; keeps = λ b e. happens b e .box }
+
+-- the public functions, known by their promises alone
+pub record Promised (first : State) (does : State → Event → Result × State) : Type 0 where
+  pub atStart : Started first
+  pub events : (s : State) (e : Event) → Happens s e (does s e .0) (does s e .1)
+
+abbrev pub functions : State → (State → Event → Result × State) → Program
+functions first does = record { Memory = State; start = first; tells = λ s e. does s e .0; keeps = λ s e. does s e .1 }
+
+-- ---- "one that refuses each unit": no query is obeyed, so that no take ever finds an answer
+
+abbrev pub RefusesUnits : Program → Type 0
+RefusesUnits p = (es : List Event) (buffer : Text) → tellsNext p es (take buffer) .number ≡ 2
+
+-- it is the box, but that the first unit of every line is refused by -113
+unfoldable pub refusingByte : Box → ℕ → Box
+refusingByte b x =
+    let c = atNewline b in
+    if eqb x 10
+    then (if b .core .overlong then raise 363 c else (if empty (unitsOf (b .core .line)) then c else raise 113 c))
+    else box (held x (b .core)) (b .trouble)
+
+unfoldable pub refusingPiece : Box → Text → Box
+refusingPiece b [] = b
+refusingPiece b (x ∷ xs) = refusingPiece (refusingByte b x) xs
+
+abbrev pub refusing : Box → Event → Box
+refusing b started = powerUp
+refusing b (received xs) = refusingPiece b xs
+refusing b (take buffer) = happens b (take buffer) .box
+refusing b (condition x n) = happens b (condition x n) .box
+refusing b look = b
+
+abbrev pub refuser : Program
+refuser = record { Memory = Box; start = powerUp; tells = λ b e. happens b e .result; keeps = refusing }
+
+-- ---- "one that ignores all pieces": a piece leaves it as it was
+
+abbrev pub IgnoresPieces : Program → Type 0
+IgnoresPieces p = (es : List Event) (xs : Text) → p .keeps (reached p (p .start) es) (received xs) ≡ reached p (p .start) es
+
+abbrev pub ignoring : Box → Event → Box
+ignoring b started = powerUp
+ignoring b (received xs) = b
+ignoring b (take buffer) = happens b (take buffer) .box
+ignoring b (condition x n) = happens b (condition x n) .box
+ignoring b look = b
+
+abbrev pub ignorer : Program
+ignorer = record { Memory = Box; start = powerUp; tells = λ b e. happens b e .result; keeps = ignoring }
+
+-- ---- "one with a fixed answer": whatever was asked, all answers that are taken are the same bytes
+
+abbrev pub AnswersAlike : Text → Program → Type 0
+AnswersAlike a p = (es : List Event) (buffer : Text) →
+    let r = tellsNext p es (take buffer) in r .number ≡ 0 → L.take (r .value) (r .buffer) ≡ a
+
+-- it is the box, but that this answer stands in the place of every other
+unfoldable pub answering : Text → Box → Box
+answering a b = if empty (b .core .answer) then b else answerIs a b
+
+abbrev pub fixedAnswer : Text → Program
+fixedAnswer a =
+    record { Memory = Box; start = powerUp; tells = λ b e. happens b e .result; keeps = λ b e. answering a (happens b e .box) }
+
+-- ---- "one that obeys the first line and afterwards only reports success": behind a first line, a piece leaves it as it was
+
+abbrev pub OnlyFirstLine : Program → Type 0
+OnlyFirstLine p = (l xs : Text) →
+    let m = reached p (p .start) (received (l ++ 10 ∷ []) ∷ []) in p .keeps m (received xs) ≡ m
+
+-- it is the box until the first newline, which it obeys too, and drops all bytes behind it
+unfoldable pub firstByte : Box × Bool → ℕ → Box × Bool
+firstByte m x = if m .1 then m else (byte (m .0) x, eqb x 10)
+
+unfoldable pub firstPiece : Box × Bool → Text → Box × Bool
+firstPiece m [] = m
+firstPiece m (x ∷ xs) = firstPiece (firstByte m x) xs
+
+abbrev pub firstOnly : Box × Bool → Event → Box × Bool
+firstOnly m started = (powerUp, false)
+firstOnly m (received xs) = firstPiece m xs
+firstOnly m (take buffer) = (happens (m .0) (take buffer) .box, m .1)
+firstOnly m (condition x n) = (happens (m .0) (condition x n) .box, m .1)
+firstOnly m look = m
+
+abbrev pub firstLiner : Program
+firstLiner =
+    record { Memory = Box × Bool; start = (powerUp, false); tells = λ m e. happens (m .0) e .result; keeps = firstOnly }
+
+-- ---- "one that invents the newline count (it is the piece's own count)"
+
+abbrev pub Invents : Program → Type 0
+Invents p = (es : List Event) × (xs : Text) × (tellsNext p es (received xs) .value ≡ newlines xs → ⊥)
+
+-- it is the box, but that every piece has the same count
+abbrev pub invented : ℕ → Box → Event → Result
+invented k b started = happens b started .result
+invented k b (received xs) = result 0 k []
+invented k b (take buffer) = happens b (take buffer) .result
+invented k b (condition x n) = happens b (condition x n) .result
+invented k b look = happens b look .result
+
+abbrev pub inventor : ℕ → Program
+inventor k = record { Memory = Box; start = powerUp; tells = invented k; keeps = λ b e. happens b e .box }
+
+-- ---- all five are rejected, and each of the programs above is one of them
+
+pub record Rejected : Type 1 where
+  -- the public functions are none of them
+  pub functionsMeet : (first : State) (does : State → Event → Result × State) → Promised first does → Meets (functions first does)
+  pub refusers : (p : Program) → Meets p → RefusesUnits p → ⊥
+  pub ignorers : (p : Program) → Meets p → IgnoresPieces p → ⊥
+  pub answerers : (p : Program) (a : Text) → Meets p → AnswersAlike a p → ⊥
+  pub firstLiners : (p : Program) → Meets p → OnlyFirstLine p → ⊥
+  pub inventors : (p : Program) → Meets p → Invents p → ⊥
+
+pub record AreSo : Type 0 where
+  pub refuser : RefusesUnits refuser
+  pub ignorer : IgnoresPieces ignorer
+  pub fixedAnswer : (a : Text) → AnswersAlike a (fixedAnswer a)
+  pub firstLiner : OnlyFirstLine firstLiner
+  -- it does obey the first line, whatever that is
+  pub firstObeyed : (l : Text) → newlines l ≡ 0
+      → firstPiece (powerUp, false) (l ++ 10 ∷ []) ≡ (happens powerUp (received (l ++ 10 ∷ [])) .box, true)
+  pub inventor : (k : ℕ) → Invents (inventor k)
