@@ -20,7 +20,7 @@ use Rattle.registers.proofs.settings.Possible.{value-good, reset-possible}
 use Rattle.registers.proofs.status.Possible as status
 use Rattle.registers.proofs.status.Possible.{raised-good, completed-good, events-good, oldest-good, none-good, stored-fit, condition-fit, read-fit}
 use Rattle.interpreter.specs.Box.{Core, Box, box, withSettings, withRegisters, withLine, withAnswer, answerIs, raise, powerUp, mostLine, mostAnswer}
-use Rattle.interpreter.specs.Unit.{Read, readUnit}
+use Rattle.interpreter.specs.Unit.{raisable, Read, readUnit}
 use Rattle.interpreter.specs.UnitParts.{Allowed, AllowedChange}
 use Rattle.interpreter.specs.Deeds.{conflictingChange, conflicting, changed, setCleared, allCleared, afterQuery, afterInquiry, joined, fitsAnswer, reply, perform}
 use Rattle.interpreter.specs.Line.{Obeyed, attempt, refuse, next, runUnits, unitsOf, interrupted, finished, runLine, endLine, held, byte, piece}
@@ -143,6 +143,10 @@ attempt-fit path b u f =
     hold-permitted (r .deed) (b .core) FitObeyed _ (λ l.
     hold-bind (Fit running) FitObeyed _ _ (perform-fit (r .deed) b a (l .clear) f) (λ c g. passes g)))
 
+-- what a unit raises may stand in the queue
+pub raisable-known : (n : ℕ) → raisable n ≡ true → known n ≡ true
+raisable-known n e = and-both (known n) _ e .0
+
 pub raise-fit : (n k : ℕ) (b : Box) → known n ≡ true → Fit k b → Fit k (raise n b)
 raise-fit n k b e f = fit k _ _ (f .core) (raised-good (b .trouble) (f .trouble) n e)
 
@@ -156,7 +160,7 @@ refuse-fit n b e f = raise-fit n running _ e (if-elim (Fit running) (eqb n 430) 
 
 next-fit : (go : List Text → Box → Box) → ((p : List Text) (c : Box) → Fit running c → Fit running (go p c))
     → (b : Box) → Fit running b → (r : Checked Obeyed) → Holds FitObeyed r → Fit running (next go b r)
-next-fit go ih b f (refused n) h = refuse-fit n b (h .of) f
+next-fit go ih b f (refused n) h = refuse-fit n b (raisable-known n (h .of)) f
 next-fit go ih b f (passed o) h = ih (o .path) (o .box) (h .of)
 
 pub units-fit : (us path : List Text) (b : Box) → Fit running b → Fit running (runUnits us path b)

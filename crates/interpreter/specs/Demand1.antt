@@ -1,18 +1,22 @@
 -- Demand 1: each refusal is given exactly when 01 says, carries its number, and changes only what 01 lists for it.
 use mathlib.Core.Path.{_≡_}
-use mathlib.Core.Bool.{true}
+use mathlib.Core.Bool.{true, false}
 use mathlib.Core.List.{List, [], _∷_}
 use Prim.Native.Nat.{ℕ}
+use Prim.Native.Char.{code}
 use lib.Dec.{ltb, eqb}
 use lib.ListN.{length}
-use Rattle.registers.specs.Text.{Text, if_then_else_, empty}
+use Rattle.registers.specs.Text.{Text, if_then_else_, every, white, empty}
 use Rattle.registers.specs.Check.{refused}
-use Rattle.registers.specs.Errors.{known}
 use Rattle.registers.specs.Group.{widestGroup}
-use Rattle.interpreter.specs.Box.{Box, raise, answerIs}
-use Rattle.interpreter.specs.Line.{attempt, runUnits}
-use Rattle.interpreter.specs.Events.{Event, started, received, take, condition, look, Result, result, Happened, happened, lent}
+use Rattle.interpreter.specs.Cuts.{cutAt}
+use Rattle.interpreter.specs.Box.{Box, box, withLine, raise, answerIs}
+use Rattle.interpreter.specs.Unit.{raisable}
+use Rattle.interpreter.specs.Line.{attempt, refuse, runUnits, finished}
+use Rattle.interpreter.specs.Events.{Event, started, received, take, condition, look, Result, result, Happened, happened, happens, lent}
+use Rattle.interpreter.specs.Histories.{newline}
 use Rattle.interpreter.specs.State.{boxOf, admitted, Happens}
+use Rattle.interpreter.specs.Demand3.{obeyed, refusal}
 use Rattle.interpreter.specs.declared.state.State.{State}
 
 -- ---- 01's table, its column "When": which number is given, 0 for none
@@ -47,13 +51,43 @@ EventRefusals = (s t : State) (e : Event) (r : Result) → Happens s e r t → R
 -- line is dropped"
 
 pub record UnitRefused (b after : Box) (n : ℕ) : Type 0 where
-  pub ofPaper : known n ≡ true  -- a number of 01
+  pub ofUnit : raisable n ≡ true
   pub raises : (n ≡ 430 → ⊥) → after ≡ raise n b
   pub drops : n ≡ 430 → after ≡ raise n (answerIs [] b)
 
 abbrev pub UnitRefusals : Type 0
 UnitRefusals = (u : Text) (us path : List Text) (b : Box) (n : ℕ) → attempt path b u ≡ refused n → UnitRefused b (runUnits (u ∷ us) path b) n
 
+-- ---- the newline's own refusals
+
+-- "At any newline, also of a blank or overlong line, a waiting answer is first discarded with -410"; the line's bytes are gone
+abbrev pub discarded : Box → Box
+discarded b =
+    let c = box (withLine [] false (b .core)) (b .trouble) in
+    if empty (b .core .answer) then c else raise 410 (answerIs [] c)
+
+-- what a line's units leave: those that are obeyed run, and the one behind them, if there is one, raises its error
+abbrev pub unitsLeave : List Text → Box → Box
+unitsLeave us b =
+    let c = runUnits (obeyed us [] b) [] b in
+    let n = refusal us [] b in
+    if eqb n 0 then c else refuse n c
+
+-- a newline found the box b and left another
+pub record LineRefused (b after : Box) : Type 0 where
+  -- "at the newline -363 is raised and no unit runs"
+  pub overlong : b .core .overlong ≡ true → after ≡ raise 363 (discarded b)
+  -- "A blank line that isn't overlong does nothing else"
+  pub blank : b .core .overlong ≡ false → every white (b .core .line) ≡ true → after ≡ discarded b
+  -- "Otherwise the line is cut at every `;`"; a unit raises no -363 and no -410
+  pub units : b .core .overlong ≡ false → every white (b .core .line) ≡ false
+      → after ≡ finished (unitsLeave (cutAt (code ";") (b .core .line)) (discarded b))
+  pub ofUnit : let n = refusal (cutAt (code ";") (b .core .line)) [] (discarded b) in (n ≡ 0 → ⊥) → raisable n ≡ true
+
+abbrev pub LineRefusals : Type 0
+LineRefusals = (b : Box) → LineRefused b (happens b newline .box)
+
 pub record Demand1 : Type 0 where
   pub events : EventRefusals
   pub units : UnitRefusals
+  pub lines : LineRefusals

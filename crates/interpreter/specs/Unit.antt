@@ -1,17 +1,24 @@
 -- Checks 1 to 7 on one unit. They see the settings, the path and the unit's bytes, and nothing else of the box. The lock and check 8
 -- come behind them: see Deeds.permitted.
-use mathlib.Core.Bool.{not, _||_}
-use mathlib.Core.List.{List}
+use mathlib.Core.Bool.{Bool, not, _&&_, _||_}
+use mathlib.Core.List.{List, [], _∷_}
+use Prim.Native.Nat.{ℕ}
 use lib.Dec.{leb}
 use lib.ListN.{length}
 use Rattle.registers.specs.Text.{Text, white, dark, printable, every, empty, start, after}
 use Rattle.registers.specs.Check.{Checked, passed, _>>=_, _>>_, check}
+use Rattle.registers.specs.Errors.{among, known}
 use Rattle.registers.specs.declared.settings.Settings.{Settings}
 use Rattle.interpreter.specs.Cuts.{trim}
 use Rattle.interpreter.specs.Header.{header, fullNames, pathAfter, isCommon}
 use Rattle.interpreter.specs.Rows.{rows, findRow}
 use Rattle.interpreter.specs.Parameter.{parameters, least, greatest, deedOf}
 use Rattle.interpreter.specs.declared.deed.Deed.{Deed}
+
+-- the numbers that a unit can be refused by: all that 01 puts into the queue but -350, which a full queue makes, -363 and -410, which
+-- are a newline's, and -420, which is a take's
+abbrev pub raisable : ℕ → Bool
+raisable n = known n && not (among n (350 ∷ 363 ∷ 410 ∷ 420 ∷ []))
 
 -- what a unit asks for, and the path that it leaves
 pub record Read : Type 0 where

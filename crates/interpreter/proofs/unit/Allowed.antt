@@ -1,4 +1,4 @@
--- Checks 1 to 7 refuse only by numbers that 01 names, and what they accept is allowed.
+-- Checks 1 to 7 refuse only by numbers that a unit can raise, and what they accept is allowed.
 use mathlib.Core.Path.{_≡_, refl}
 use mathlib.Core.Bool.{Bool, true, false, _&&_, false≢true}
 use mathlib.Core.List.{List, [], _∷_}
@@ -25,15 +25,15 @@ use Rattle.registers.proofs.Tests.{and-both}
 use Rattle.interpreter.specs.Header.{Place, header, placed}
 use Rattle.interpreter.specs.Rows.{Row, rows, settingRows, otherRows, findRow}
 use Rattle.interpreter.specs.Parameter.{findWord, parameter, settingDeed, limitDeed, registerGiven, registerDeed, deedOf}
-use Rattle.interpreter.specs.Unit.{Read, readUnit}
+use Rattle.interpreter.specs.Unit.{raisable, Read, readUnit}
 use Rattle.interpreter.specs.UnitParts.{Allowed}
 use Rattle.interpreter.specs.declared.deed.Role.{Role}
 use Rattle.interpreter.specs.declared.deed.Role.the-variants.{Setting as setting, Register as register, Order, Question}
 use Rattle.interpreter.proofs.unit.Checks.{Holds, Any, refuses-by, passes, hold-bind, hold-check, hold-if, at-passed, at-refused}
 
--- ---- each reader refuses by numbers of 01
+-- ---- each reader refuses by such a number
 
-none-known : (q : Quantity) → known (noSuffix q) ≡ true
+none-known : (q : Quantity) → raisable (noSuffix q) ≡ true
 unfolding noSuffix known queueable
 none-known Nothing = refl
 none-known Volt = refl
@@ -41,7 +41,7 @@ none-known Ampere = refl
 none-known Hertz = refl
 none-known Second = refl
 
-power-known : (n : ℕ) → known n ≡ true → (xs : List (String × Power)) (t : Text) → Holds Any (powerIn n xs t)
+power-known : (n : ℕ) → raisable n ≡ true → (xs : List (String × Power)) (t : Text) → Holds Any (powerIn n xs t)
 unfolding powerIn
 power-known n e [] t = refuses-by e
 power-known n e (x ∷ xs) t = hold-if Any _ _ _ (passes tt) (power-known n e xs t)
@@ -154,6 +154,6 @@ reads s path u =
 pub read-allowed : (s : Settings) (path : List Text) (u : Text) {r : Read} → readUnit s path u ≡ passed r → Allowed s (r .deed)
 read-allowed s path u e = at-passed (reads s path u) e
 
--- a refused unit raises an error of 01
-pub read-known : (s : Settings) (path : List Text) (u : Text) {n : ℕ} → readUnit s path u ≡ refused n → known n ≡ true
+-- a refused unit raises an error that is a unit's
+pub read-known : (s : Settings) (path : List Text) (u : Text) {n : ℕ} → readUnit s path u ≡ refused n → raisable n ≡ true
 read-known s path u e = at-refused (reads s path u) e

@@ -1,13 +1,13 @@
--- A chain of checks refuses by known numbers, and what it passes has a property, if each of its checks does.
+-- A chain of checks refuses by numbers that a unit can raise, and what it passes has a property, if each of its checks does.
 use mathlib.Core.Path.{_≡_, refl, subst}
 use mathlib.Core.Bool.{Bool, true, false}
 use Prim.Native.Nat.{ℕ}
 use Rattle.registers.specs.Text.{if_then_else_}
 use Rattle.registers.specs.Check.{Checked, refused, passed, check, _>>=_, _>>_}
-use Rattle.registers.specs.Errors.{known}
+use Rattle.interpreter.specs.Unit.{raisable}
 
 abbrev pub HoldsOf : {A : Type 0} → (A → Type 0) → Checked A → Type 0
-HoldsOf P (refused n) = known n ≡ true
+HoldsOf P (refused n) = raisable n ≡ true
 HoldsOf P (passed a) = P a
 
 -- a record, so that the property and the chain can be read off a goal
@@ -17,7 +17,7 @@ pub record Holds {A : Type 0} (P : A → Type 0) (m : Checked A) : Type 0 where
 abbrev pub Any : {A : Type 0} → A → Type 0
 Any a = Unit {0}
 
-pub refuses-by : {A : Type 0} {P : A → Type 0} {n : ℕ} → known n ≡ true → Holds P (refused n)
+pub refuses-by : {A : Type 0} {P : A → Type 0} {n : ℕ} → raisable n ≡ true → Holds P (refused n)
 refuses-by k = record { of = k }
 
 pub passes : {A : Type 0} {P : A → Type 0} {a : A} → P a → Holds P (passed a)
@@ -30,7 +30,7 @@ module _ {A B : Type 0} (P : A → Type 0) (Q : B → Type 0) where
   hold-bind (passed a) f h k = k a (h .of)
 
 module _ {A : Type 0} (Q : A → Type 0) where
-  pub hold-check : (n : ℕ) (t : Bool) (m : Checked A) → known n ≡ true → (t ≡ true → Holds Q m) → Holds Q (check n t >> m)
+  pub hold-check : (n : ℕ) (t : Bool) (m : Checked A) → raisable n ≡ true → (t ≡ true → Holds Q m) → Holds Q (check n t >> m)
   unfolding check _>>_
   hold-check n true m e k = k refl
   hold-check n false m e k = refuses-by e
@@ -42,7 +42,7 @@ module _ {A : Type 0} (Q : A → Type 0) where
 
 -- a chain whose results have the property
 pub holds-from : {A : Type 0} {P : A → Type 0} (m : Checked A) → ((a : A) → m ≡ passed a → P a)
-    → ((n : ℕ) → m ≡ refused n → known n ≡ true) → Holds P m
+    → ((n : ℕ) → m ≡ refused n → raisable n ≡ true) → Holds P m
 holds-from (refused n) p k = refuses-by (k n refl)
 holds-from (passed a) p k = passes (p a refl)
 
@@ -52,5 +52,5 @@ module _ {A : Type 0} {P : A → Type 0} {m : Checked A} (h : Holds P m) where
   pub at-passed : {a : A} → m ≡ passed a → P a
   at-passed e = subst (λ (x : Checked A). HoldsOf P x) e (h .of)
 
-  pub at-refused : {n : ℕ} → m ≡ refused n → known n ≡ true
+  pub at-refused : {n : ℕ} → m ≡ refused n → raisable n ≡ true
   at-refused e = subst (λ (x : Checked A). HoldsOf P x) e (h .of)
