@@ -8,6 +8,7 @@ pub mod Agreement
 pub mod Watching
 pub mod Cutting
 pub mod Keeping
+pub mod Counts
 pub mod Starts
 pub mod Others
 pub mod Fresh

@@ -17,7 +17,7 @@ use Rattle.interpreter.specs.Unit.{readUnit}
 use Rattle.interpreter.specs.Deeds.{perform}
 use Rattle.interpreter.specs.Line.{unitsOf, piece, newlines}
 use Rattle.interpreter.specs.Events.{Event, take, Result, happens, after}
-use Rattle.interpreter.specs.Histories.{newline, ends, Recut, replies}
+use Rattle.interpreter.specs.Histories.{newline, Recut, replies, counted}
 use Rattle.interpreter.specs.Demand3.{inLine, lineRefusal}
 use Rattle.interpreter.specs.declared.deed.Deed.the-variants.{Change, Clear, Query}
 use Rattle.interpreter.specs.declared.deed.Change.the-variants.{Reset}
@@ -52,7 +52,7 @@ InParts = (b : Box) (xs ys : Text)
     → (piece b (xs ++ ys) ≡ piece (piece b xs) ys) × (newlines (xs ++ ys) ≡ newlines xs + newlines ys)
 
 abbrev pub InAnyPieces : Type 0
-InAnyPieces = (b : Box) (h g : List Event) → Recut h g → (after b h ≡ after b g) × (replies b h ≡ replies b g) × (ends h ≡ ends g)
+InAnyPieces = (b : Box) (h g : List Event) → Recut h g → (after b h ≡ after b g) × (replies b h ≡ replies b g) × (counted b h ≡ counted b g)
 
 -- ---- the round trip
 

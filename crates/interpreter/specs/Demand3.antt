@@ -13,7 +13,7 @@ use Rattle.interpreter.specs.Box.{Core, Box, powerUp}
 use Rattle.interpreter.specs.Unit.{Read, readUnit}
 use Rattle.interpreter.specs.Line.{Obeyed, attempt, unitsOf, atNewline, byte}
 use Rattle.interpreter.specs.Events.{Event, started, received, take, condition, look, Result, happens, after}
-use Rattle.interpreter.specs.Histories.{newline, Recut, noPiece, answers, replies}
+use Rattle.interpreter.specs.Histories.{newline, Recut, noPiece, howMany, answers, replies, counted}
 use Rattle.interpreter.specs.declared.deed.Deed.{Deed}
 use Rattle.interpreter.specs.declared.deed.Deed.the-variants.{Change, Complete, Clear, Query, Inquire}
 
@@ -162,9 +162,8 @@ AgreeAnswers cleared x y = x ≡ y
 AgreeAnswers asked x y = Unit {0}
 
 -- how many events are no pieces
-unfoldable pub others : List Event → ℕ
-others [] = 0
-others (e ∷ es) = let more = others es in if noPiece e then Prim.Native.Nat.suc more else more
+abbrev pub others : List Event → ℕ
+others = howMany noPiece
 
 -- h is the history with the line as it was sent, h′ the same with the line cut, each in any pieces
 pub record Demand3 (before during later h h′ : List Event) : Type 0 where
@@ -178,6 +177,8 @@ pub record Demand3 (before during later h h′ : List Event) : Type 0 where
   pub results : (meanwhile onward : List Event) → later ≡ meanwhile ++ onward
       → watch (after powerUp (asSent before during)) meanwhile ≡ cleared
       → drop (others (before ++ during ++ meanwhile)) (replies powerUp h) ≡ drop (others (before ++ during ++ meanwhile)) (replies powerUp h′)
+  -- the pieces' own counts go by the pieces, their sum by the bytes: the cut line has its newline too
+  pub counts : counted powerUp h ≡ counted powerUp h′
 
 abbrev pub Statement : Type 0
 Statement =

@@ -1,11 +1,10 @@
 -- Histories however their bytes are cut into pieces, and the results that don't depend on the cutting.
 use mathlib.Core.Path.{_≡_}
-use mathlib.Core.Bool.{Bool, true, false}
+use mathlib.Core.Bool.{Bool, true, false, not}
 use mathlib.Core.List.{List, [], _∷_, _++_, map}
-use Prim.Native.Nat.{ℕ, _+_}
+use Prim.Native.Nat.{ℕ, suc, _+_}
 use Rattle.registers.specs.Text.{if_then_else_}
 use Rattle.interpreter.specs.Box.{Box}
-use Rattle.interpreter.specs.Line.{newlines}
 use Rattle.interpreter.specs.Events.{Event, started, received, take, condition, look, Result, happens}
 
 -- one byte received, and the newline
@@ -28,15 +27,6 @@ moments (look ∷ es) = look ∷ moments es
 abbrev pub Recut : List Event → List Event → Type 0
 Recut h g = moments h ≡ moments g
 
--- how many lines its pieces end, by their own counts
-unfoldable pub ends : List Event → ℕ
-ends [] = 0
-ends (started ∷ es) = ends es
-ends (received xs ∷ es) = newlines xs + ends es
-ends (take buffer ∷ es) = ends es
-ends (condition x n ∷ es) = ends es
-ends (look ∷ es) = ends es
-
 abbrev pub isTake : Event → Bool
 isTake started = false
 isTake (received xs) = false
@@ -44,12 +34,20 @@ isTake (take buffer) = true
 isTake (condition x n) = false
 isTake look = false
 
+abbrev pub isPiece : Event → Bool
+isPiece started = false
+isPiece (received xs) = true
+isPiece (take buffer) = false
+isPiece (condition x n) = false
+isPiece look = false
+
 abbrev pub noPiece : Event → Bool
-noPiece started = true
-noPiece (received xs) = false
-noPiece (take buffer) = true
-noPiece (condition x n) = true
-noPiece look = true
+noPiece e = not (isPiece e)
+
+-- how many of the events
+unfoldable pub howMany : (Event → Bool) → List Event → ℕ
+howMany p [] = 0
+howMany p (e ∷ es) = let more = howMany p es in if p e then suc more else more
 
 -- the results of some of the events
 unfoldable pub resultsOf : (Event → Bool) → Box → List Event → List Result
@@ -63,3 +61,11 @@ answers = resultsOf isTake
 -- all results but the pieces' own counts of newlines
 abbrev pub replies : Box → List Event → List Result
 replies = resultsOf noPiece
+
+-- the sum of the pieces' own counts
+unfoldable pub summed : List Result → ℕ
+summed [] = 0
+summed (r ∷ rs) = r .value + summed rs
+
+abbrev pub counted : Box → List Event → ℕ
+counted b es = summed (resultsOf isPiece b es)

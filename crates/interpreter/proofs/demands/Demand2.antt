@@ -3,7 +3,8 @@ use mathlib.Core.Path.{refl}
 use Rattle.interpreter.specs.Deeds.{changed, perform}
 use Rattle.interpreter.specs.Histories.{noPiece}
 use Rattle.interpreter.specs.Demand2.{ResetsOnly, ClearsOnly, Demand2}
-use Rattle.interpreter.proofs.demands.Pieces.{piece-append, newlines-append, recut-state, recut-results, recut-ends}
+use Rattle.interpreter.proofs.demands.Pieces.{piece-append, newlines-append, recut-state, recut-results}
+use Rattle.interpreter.proofs.demands.Counts.{recut-counts}
 use Rattle.interpreter.proofs.demands.Limits.{within-limits, within-range}
 use Rattle.interpreter.proofs.demands.RoundTrip.{query-answers, round-trip}
 
@@ -23,7 +24,7 @@ demand2 =
       resets = resets-only;
       clears = clears-only;
       parts = λ b xs ys. (piece-append b xs ys, newlines-append xs ys);
-      pieces = λ b h g e. (recut-state b h g e, recut-results noPiece (λ xs. refl) b h g e, recut-ends h g e);
+      pieces = λ b h g e. (recut-state b h g e, recut-results noPiece (λ xs. refl) b h g e, recut-counts b h g e);
       answered = query-answers;
       roundTrip = round-trip;
     }

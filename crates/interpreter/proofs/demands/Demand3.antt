@@ -11,7 +11,7 @@ use Rattle.registers.specs.Text.{Text, if_then_else_}
 use Rattle.interpreter.specs.Box.{Box, box, withLine, powerUp, mostLine}
 use Rattle.interpreter.specs.Line.{endLine}
 use Rattle.interpreter.specs.Events.{Event, received, Result, after}
-use Rattle.interpreter.specs.Histories.{newline, moments, Recut, isTake, noPiece, resultsOf, answers, replies}
+use Rattle.interpreter.specs.Histories.{newline, moments, Recut, isTake, noPiece, howMany, resultsOf, answers, replies}
 use Rattle.interpreter.specs.Demand3.{keep, cutLine, atEnd, asSent, asCut, ALine, Watch, neither, asked, cleared, watch, Agree, AgreeAnswers, others, Statement}
 use Rattle.interpreter.proofs.Possible.{history-fit, power-up-fit}
 use Rattle.interpreter.proofs.demands.Pieces.{after-append, newline-after, results-append, recut-state, recut-results}
@@ -19,6 +19,7 @@ use Rattle.interpreter.proofs.demands.Agreement.{over-cores, AgreeBoth,
 use Rattle.interpreter.proofs.demands.Watching.{history-watch}
 use Rattle.interpreter.proofs.demands.Cutting.{cut, newline-cut}
 use Rattle.interpreter.proofs.demands.Keeping.{cutTo, DuringKept, during-kept}
+use Rattle.interpreter.proofs.demands.Counts.{cut-counts}
 use Rattle.interpreter.proofs.demands.Others.{replies-length, others-append, others-keep}
 use Rattle.interpreter.proofs.demands.Starts.{cut-length, cut-is}
 
@@ -130,7 +131,7 @@ behind-first h first onward n e m =
 -- the newline, and bytes that are cut, count for nothing
 others-line : (before during meanwhile : List Event) (d : List Event) → others d ≡ others during
     → others (before ++ d ++ newline ∷ [] ++ meanwhile) ≡ others (before ++ during ++ meanwhile)
-unfolding others if_then_else_
+unfolding howMany if_then_else_
 others-line before during meanwhile d e =
     simp (others-append, e) (omega arith)
 
@@ -162,4 +163,5 @@ demand3 before during later h h′ line is is′ =
       results = λ m o split w.
           results-agree before during line h h′ m o (is ∙ ap moments (front (asSent before during) m o split))
           (is′ ∙ ap moments (front (asCut before during) m o split)) w;
+      counts = cut-counts powerUp (length (cutLine (atEnd before during))) before during later h h′ (line .underWay) is is′;
     }

@@ -3,6 +3,7 @@ use mathlib.Core.Path.{_≡_, refl, sym, _∙_, ap}
 use mathlib.Core.Bool.{Bool, true, false}
 use mathlib.Core.List.{List, [], _∷_, _++_, map}
 use Prim.Native.Nat.{ℕ, zero, suc, _+_, _<_}
+use Prim.Native.Char.{code}
 use Prim.Native.String.{String}
 use native.Mathlib.Omega.{arith}
 use lib.ListN as L
@@ -41,10 +42,28 @@ use Rattle.interpreter.specs.Lock.{leavesKey}
 abbrev text : String → Event
 text s = received (bytes s)
 
--- ---- demand 3: a line in two pieces with a take between them, refused at its second unit
+-- ---- demand 3
 
+-- a line refused by n, and what is left of it
+pub record Cut (before during : List Event) (n : ℕ) (left : Text) : Type 0 where
+  pub line : ALine before during
+  pub refusedBy : lineRefusal (atEnd before during) ≡ n
+  pub cutTo : cutLine (atEnd before during) ≡ left
+
+-- in two pieces with a take between them, refused at its second unit
 abbrev during : List Event
 during = text "VOLT 5;VO" ∷ take [] ∷ text "LTA 6" ∷ []
+
+-- behind another line, refused at the third of its four units, with an answer made before
+abbrev earlier : List Event
+earlier = text "FREQ 70\n" ∷ []
+
+abbrev atThird : List Event
+atThird = text "VOLT 5;VOLT?;FREQ 1;FREQ 60" ∷ []
+
+-- overlong: n = 0
+abbrev tooLong : List Event
+tooLong = received (replicate 513 (code "X")) ∷ []
 
 abbrev later : List Event
 later = text "*CLS\nVOLT?\n" ∷ take [] ∷ []
@@ -54,9 +73,10 @@ unfoldable pub watched : String → Watch
 watched s = watch (after powerUp (asSent [] during)) (text s ∷ [])
 
 pub record Met3 : Type 0 where
-  pub line : ALine [] during
-  pub refusedBy : lineRefusal (atEnd [] during) ≡ 113
-  pub cutTo : cutLine (atEnd [] during) ≡ bytes "VOLT 5"
+  pub second : Cut [] during 113 (bytes "VOLT 5")
+  pub third : Cut earlier atThird 222 (bytes "VOLT 5;VOLT?")
+  pub thirdAnswers : after powerUp (asSent earlier atThird) .core .answer ≡ bytes "5.0\n"
+  pub overlong : Cut [] tooLong 363 []
   pub comesFirst : map watched ("VOLT?\n" ∷ "VOLT 1;*CLS;*ESR?\n" ∷ "SYST:ERR?;*CLS\n" ∷ []) ≡ neither ∷ cleared ∷ asked ∷ []
   -- the history, and the one with the line cut, each in pieces of its own that go on behind the line's end
   pub inPieces : Recut (text "VOLT 5;VO" ∷ take [] ∷ text "LTA 6\n*C" ∷ text "LS\nVOLT?\n" ∷ take [] ∷ []) (asSent [] during ++ later)
@@ -225,12 +245,27 @@ unfolding if_then_else_ bytes same white printable digit letter wordByte small c
     inLine obeyed refusal joinUnits cutLine lineRefusal keep watchUnits watchLine watchByte watchPiece watchEvent watch
     watched trips asking sending seenAt expectedAt numbered
 computed =
-    let n : lineRefusal (atEnd [] during) ≡ 113 = refl in
+    let two : lineRefusal (atEnd [] during) ≡ 113 = refl in
+    let three : lineRefusal (atEnd earlier atThird) ≡ 222 = refl in
+    let long : lineRefusal (atEnd [] tooLong) ≡ 363 = refl in
     record {
       met3 = record {
-        line = record { begins = (refl, refl); underWay = refl; other = λ e. absurd (omega (arith, sym n ∙ e)) };
-        refusedBy = refl;
-        cutTo = refl;
+        second = record {
+          line = record { begins = (refl, refl); underWay = refl; other = λ e. absurd (omega (arith, sym two ∙ e)) };
+          refusedBy = two;
+          cutTo = refl;
+        };
+        third = record {
+          line = record { begins = (refl, refl); underWay = refl; other = λ e. absurd (omega (arith, sym three ∙ e)) };
+          refusedBy = three;
+          cutTo = refl;
+        };
+        thirdAnswers = refl;
+        overlong = record {
+          line = record { begins = (refl, refl); underWay = refl; other = λ e. absurd (omega (arith, sym long ∙ e)) };
+          refusedBy = long;
+          cutTo = refl;
+        };
         comesFirst = refl;
         inPieces = refl;
         cutInPieces = refl;

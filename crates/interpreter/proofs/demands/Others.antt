@@ -8,11 +8,11 @@ use lib.ListN.{length}
 use Rattle.registers.specs.Text.{if_then_else_}
 use Rattle.interpreter.specs.Box.{Box}
 use Rattle.interpreter.specs.Events.{Event, started, received, take, condition, look, Result, happens}
-use Rattle.interpreter.specs.Histories.{noPiece, resultsOf, replies}
+use Rattle.interpreter.specs.Histories.{noPiece, howMany, resultsOf, replies}
 use Rattle.interpreter.specs.Demand3.{keep, others}
 
 pub replies-length : (b : Box) (es : List Event) → length (replies b es) ≡ others es
-unfolding resultsOf others if_then_else_
+unfolding resultsOf howMany if_then_else_
 replies-length b [] = refl
 replies-length b (e ∷ es) = go (noPiece e) (replies (happens b e .box) es) (replies-length (happens b e .box) es)
   where
@@ -22,7 +22,7 @@ replies-length b (e ∷ es) = go (noPiece e) (replies (happens b e .box) es) (re
     go false rs ih = ih
 
 pub others-append : (es fs : List Event) → others (es ++ fs) ≡ others es + others fs
-unfolding others if_then_else_
+unfolding howMany if_then_else_
 others-append [] fs = omega arith
 others-append (e ∷ es) fs = go (noPiece e) (others-append es fs)
   where
@@ -32,7 +32,7 @@ others-append (e ∷ es) fs = go (noPiece e) (others-append es fs)
     go false ih = ih
 
 pub others-keep : (k : ℕ) (es : List Event) → others (keep k es) ≡ others es
-unfolding others keep if_then_else_
+unfolding howMany keep if_then_else_
 others-keep k [] = refl
 others-keep k (started ∷ es) = ap suc (others-keep k es)
 others-keep k (received xs ∷ es) = others-keep (k - length xs) es

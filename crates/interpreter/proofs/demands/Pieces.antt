@@ -10,7 +10,7 @@ use Rattle.registers.specs.Text.{Text, if_then_else_}
 use Rattle.interpreter.specs.Box.{Box}
 use Rattle.interpreter.specs.Line.{endLine, byte, piece, newlines}
 use Rattle.interpreter.specs.Events.{Event, started, received, take, condition, look, Result, happens, after}
-use Rattle.interpreter.specs.Histories.{single, newline, moments, ends, Recut, resultsOf}
+use Rattle.interpreter.specs.Histories.{single, newline, moments, Recut, resultsOf}
 
 -- ---- pieces
 
@@ -94,31 +94,3 @@ module _ (p : Event → Bool) (silent : (xs : Text) → p (received xs) ≡ fals
 
 pub recut-state : (b : Box) (h g : List Event) → Recut h g → after b h ≡ after b g
 recut-state b h g e = sym (after-moments b h) ∙ ap (after b) e ∙ after-moments b g
-
--- ---- the pieces' own counts
-
-ends-append : (es fs : List Event) → ends (es ++ fs) ≡ ends es + ends fs
-unfolding ends
-ends-append [] fs = omega arith
-ends-append (started ∷ es) fs = ends-append es fs
-ends-append (received xs ∷ es) fs = omega (arith, ends-append es fs)
-ends-append (take buffer ∷ es) fs = ends-append es fs
-ends-append (condition x n ∷ es) fs = ends-append es fs
-ends-append (look ∷ es) fs = ends-append es fs
-
-singles-ends : (xs : Text) → ends (map single xs) ≡ newlines xs
-unfolding ends newlines
-singles-ends [] = refl
-singles-ends (x ∷ xs) = omega (arith, singles-ends xs, newlines-append (x ∷ []) xs)
-
-ends-moments : (es : List Event) → ends (moments es) ≡ ends es
-unfolding ends moments
-ends-moments [] = refl
-ends-moments (started ∷ es) = ends-moments es
-ends-moments (received xs ∷ es) = omega (arith, ends-append (map single xs) (moments es), singles-ends xs, ends-moments es)
-ends-moments (take buffer ∷ es) = ends-moments es
-ends-moments (condition x n ∷ es) = ends-moments es
-ends-moments (look ∷ es) = ends-moments es
-
-pub recut-ends : (h g : List Event) → Recut h g → ends h ≡ ends g
-recut-ends h g e = sym (ends-moments h) ∙ ap ends e ∙ ends-moments g
