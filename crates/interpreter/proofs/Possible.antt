@@ -24,7 +24,7 @@ use Rattle.interpreter.specs.Unit.{raisable, Read, readUnit}
 use Rattle.interpreter.specs.UnitParts.{Allowed, AllowedChange}
 use Rattle.interpreter.specs.Deeds.{conflictingChange, conflicting, changed, setCleared, allCleared, afterQuery, afterInquiry, joined, fitsAnswer, reply, perform}
 use Rattle.interpreter.specs.Line.{Obeyed, attempt, refuse, next, runUnits, unitsOf, interrupted, finished, runLine, endLine, held, byte, piece}
-use Rattle.interpreter.specs.Events.{Event, started, received, take, condition, look, Happened, taken, reported, happens, possibleCore, possible, after}
+use Rattle.interpreter.specs.Events.{Event, started, received, take, condition, look, Happened, taken, reported, happens, possibleCore, possible, Own, after}
 use Rattle.interpreter.specs.declared.deed.Deed.{Deed}
 use Rattle.interpreter.specs.declared.deed.Deed.the-variants.{Change, Complete, Clear, Query, Inquire}
 use Rattle.interpreter.specs.declared.deed.Change as changes
@@ -292,6 +292,12 @@ fit-to b f =
     let sizes = and-true (le-leb _ _ (c .line)) (le-leb _ _ (c .answer)) in
     and-true (and-true (limits.good-to _ (c .settings)) (and-true (status.fit-to _ (c .registers)) sizes)) (status.good-to _ (f .trouble))
 
+pub own-fit : (b : Box) → Own b → Fit mostAnswer b
+own-fit b o = fit-from b (o .values) (o .could)
+
+pub fit-own : (b : Box) → Fit mostAnswer b → Own b
+fit-own b f = record { could = fit-to b f; values = f .core .long }
+
 -- what an event leaves could again be the box's, and still has seventeen settings
 pub still-possible : (b : Box) (e : Event) → length (b .core .settings .values) ≡ count → possible b ≡ true
     → possible (happens b e .box) ≡ true
@@ -303,6 +309,9 @@ still-counted b e long p = event-fit b e (fit-from b long p) .core .long
 
 pub power-up-possible : possible powerUp ≡ true
 power-up-possible = fit-to powerUp power-up-fit
+
+pub power-up-own : Own powerUp
+power-up-own = fit-own powerUp power-up-fit
 
 -- so refusal 4 never comes in a history from power-up
 pub history-possible : (es : List Event) → possible (after powerUp es) ≡ true

@@ -1,5 +1,5 @@
 -- Demand 2, beside the definition of every event: settings keep their limits, pieces behave as their bytes, and an answer to a
--- settings query, sent back, leaves every setting as it was.
+-- settings query, sent back, leaves every setting as it was. From any state that could be the box's, not only from power-up.
 use mathlib.Core.Path.{_≡_}
 use mathlib.Core.Bool.{true, false}
 use mathlib.Core.List.{List, [], _∷_, _++_}
@@ -12,11 +12,11 @@ use Rattle.registers.specs.Settings.{count, voltage, twelveVolts, wideRange, ki
 use Rattle.registers.specs.Status.{allRead, locked}
 use Rattle.interpreter.specs.Header.{Header, header, isCommon, fullNames}
 use Rattle.interpreter.specs.Rows.{rows, findRow}
-use Rattle.interpreter.specs.Box.{Box, box, withSettings, withRegisters, withLine, powerUp}
+use Rattle.interpreter.specs.Box.{Box, box, withSettings, withRegisters, withLine}
 use Rattle.interpreter.specs.Unit.{readUnit}
 use Rattle.interpreter.specs.Deeds.{perform}
 use Rattle.interpreter.specs.Line.{unitsOf, piece, newlines}
-use Rattle.interpreter.specs.Events.{Event, take, Result, happens, after}
+use Rattle.interpreter.specs.Events.{Event, take, Result, happens, Own, after}
 use Rattle.interpreter.specs.Histories.{newline, Recut, replies, counted}
 use Rattle.interpreter.specs.Demand3.{inLine, lineRefusal}
 use Rattle.interpreter.specs.declared.deed.Deed.the-variants.{Change, Clear, Query}
@@ -27,13 +27,13 @@ use Rattle.interpreter.specs.declared.deed.Role.the-variants.{Setting}
 -- ---- "Settings never leave their limits", in any history
 
 abbrev pub WithinLimits : Type 0
-WithinLimits = (es : List Event) (i : ℕ) → i < count →
-    let s = after powerUp es .core .settings in within s i (valueAt s i) ≡ true
+WithinLimits = (b : Box) → Own b → (es : List Event) (i : ℕ) → i < count →
+    let s = after b es .core .settings in within s i (valueAt s i) ≡ true
 
 -- "a voltage above its range" never comes
 abbrev pub WithinRange : Type 0
-WithinRange = (es : List Event) →
-    let s = after powerUp es .core .settings in wideRange s ≡ false → leZ (valueAt s voltage) twelveVolts ≡ true
+WithinRange = (b : Box) → Own b → (es : List Event) →
+    let s = after b es .core .settings in wideRange s ≡ false → leZ (valueAt s voltage) twelveVolts ≡ true
 
 -- ---- "*RST the settings only"; "*CLS clears the event status register, the operation event register and the queue, nothing else", by 02
 -- "all three event registers"
@@ -65,8 +65,8 @@ pub record Asks (i : ℕ) (b : Box) : Type 0 where
 
 -- what then waits is the setting's value
 abbrev pub Answered : Type 0
-Answered = (i : ℕ) (before : List Event) → Asks i (after powerUp before) →
-    after powerUp (before ++ newline ∷ []) .core .answer ≡ answerOf (kindOf i) (valueAt (after powerUp before .core .settings) i) ++ 10 ∷ []
+Answered = (b : Box) → Own b → (i : ℕ) (before : List Event) → Asks i (after b before) →
+    after b (before ++ newline ∷ []) .core .answer ≡ answerOf (kindOf i) (valueAt (after b before .core .settings) i) ++ 10 ∷ []
 
 -- an event took an answer: these bytes and a newline
 pub record Took (a : Text) (r : Result) : Type 0 where
@@ -108,25 +108,26 @@ pub record Back (asking sending back : Box) : Type 0 where
   pub accepted : lineRefusal sending ≡ 0
   pub rest : back ≡ box (withLine [] false (sending .core)) (sending .trouble)
 
--- a setting's answer is asked for, taken, and sent back
-pub record Trip (i : ℕ) (a buffer : Text) (before early late : List Event) : Type 0 where
+-- a setting's answer is asked for, taken, and sent back, from a state that could be the box's
+pub record Trip (b : Box) (i : ℕ) (a buffer : Text) (before early late : List Event) : Type 0 where
+  pub own : Own b
   pub first : every inLine early ≡ true
   pub second : every inLine late ≡ true
-  pub asks : Asks i (after powerUp before)
-  pub took : Took a (happens (after powerUp (queried before ++ early)) (take buffer) .result)
-  pub sends : Sends i a (after powerUp (sentBack before early buffer late))
+  pub asks : Asks i (after b before)
+  pub took : Took a (happens (after b (queried before ++ early)) (take buffer) .result)
+  pub sends : Sends i a (after b (sentBack before early buffer late))
 
 -- the round trip's premises; "no lock bit is 1" (02, #105) as the line that sends the answer back ends
-pub record Premises (i : ℕ) (a buffer : Text) (before early late : List Event) : Type 0 where
-  pub trip : Trip i a buffer before early late
-  pub free : locked (after powerUp (sentBack before early buffer late) .core .registers) ≡ false
+pub record Premises (b : Box) (i : ℕ) (a buffer : Text) (before early late : List Event) : Type 0 where
+  pub trip : Trip b i a buffer before early late
+  pub free : locked (after b (sentBack before early buffer late) .core .registers) ≡ false
 
 abbrev pub RoundTrip : Type 0
 RoundTrip =
-    (i : ℕ) (a buffer : Text) (before early late h : List Event)
-    → Premises i a buffer before early late
+    (b : Box) (i : ℕ) (a buffer : Text) (before early late h : List Event)
+    → Premises b i a buffer before early late
     → Recut h (sentBack before early buffer late ++ newline ∷ [])
-    → Back (after powerUp before) (after powerUp (sentBack before early buffer late)) (after powerUp h)
+    → Back (after b before) (after b (sentBack before early buffer late)) (after b h)
 
 pub record Demand2 : Type 0 where
   pub limits : WithinLimits

@@ -1,12 +1,13 @@
 -- "What can happen to the box": the five events, the four refusals of its table, and histories.
-use mathlib.Core.Bool.{Bool, not, _&&_}
+use mathlib.Core.Path.{_≡_}
+use mathlib.Core.Bool.{Bool, true, not, _&&_}
 use mathlib.Core.List.{List, [], _∷_, _++_}
 use Prim.Native.Nat.{ℕ}
 use lib.Dec.{leb}
 use lib.ListN.{length, drop}
 use Rattle.registers.specs.Text.{Text, if_then_else_, empty}
 use Rattle.registers.specs.Group.{widestGroup}
-use Rattle.registers.specs.Settings.{possibleSettings}
+use Rattle.registers.specs.Settings.{count, possibleSettings}
 use Rattle.registers.specs.Status.{setReported, statusByte, possibleRegisters, possibleTrouble}
 use Rattle.registers.specs.declared.status.RegisterSet.{RegisterSet}
 use Rattle.interpreter.specs.Box.{Core, Box, box, raise, withRegisters, answerIs, powerUp, mostLine, mostAnswer}
@@ -81,6 +82,11 @@ possibleCore c =
 
 unfoldable pub possible : Box → Bool
 possible b = possibleCore (b .core) && possibleTrouble (b .trouble)
+
+-- a state that could be the box's, with as many values as its type says
+pub record Own (b : Box) : Type 0 where
+  pub could : possible b ≡ true
+  pub values : length (b .core .settings .values) ≡ count
 
 -- ---- histories: events one after the other, the box that they leave and their results
 

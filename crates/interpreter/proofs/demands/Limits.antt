@@ -12,9 +12,8 @@ use Rattle.registers.specs.Settings.{count, voltage, range, conflict, twelveVol
 use Rattle.registers.specs.declared.settings.Settings.{Settings}
 use Rattle.registers.proofs.Tests.{and-both, below-at, ltZ-not}
 use Rattle.registers.proofs.settings.Possible.{Good, good-to}
-use Rattle.interpreter.specs.Box.{powerUp}
 use Rattle.interpreter.specs.Demand2.{WithinLimits, WithinRange}
-use Rattle.interpreter.proofs.Possible.{history-fit, power-up-fit}
+use Rattle.interpreter.proofs.Possible.{history-fit, own-fit}
 
 -- each of the settings, by its place
 pub good-at : (s : Settings) → Good s → (i : ℕ) → i < count → within s i (valueAt s i) ≡ true
@@ -22,7 +21,7 @@ unfolding possibleSettings
 good-at s g i h = below-at count (λ j. within s j (valueAt s j)) (good-to s g) i h
 
 pub within-limits : WithinLimits
-within-limits es i h = good-at _ (history-fit powerUp es power-up-fit .core .settings) i h
+within-limits b own es i h = good-at _ (history-fit b es (own-fit b own) .core .settings) i h
 
 -- the voltage in the lower range
 pub narrow-voltage : (s : Settings) → Good s → wideRange s ≡ false → leZ (valueAt s voltage) twelveVolts ≡ true
@@ -48,4 +47,4 @@ no-conflict s g i = go (eqb i range) refl
     go false q = refl
 
 pub within-range : WithinRange
-within-range es narrow = narrow-voltage _ (history-fit powerUp es power-up-fit .core .settings) narrow
+within-range b own es narrow = narrow-voltage _ (history-fit b es (own-fit b own) .core .settings) narrow

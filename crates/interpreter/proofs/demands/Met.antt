@@ -38,6 +38,7 @@ use Rattle.interpreter.specs.declared.deed.Role.{Role}
 use Rattle.interpreter.specs.declared.deed.Role.the-variants.{Setting}
 use Rattle.interpreter.specs.Demand2.{Trip, Premises, queried, sentBack}
 use Rattle.interpreter.specs.Lock.{leavesKey}
+use Rattle.interpreter.proofs.Possible.{power-up-own}
 
 abbrev text : String → Event
 text s = received (bytes s)
@@ -103,7 +104,7 @@ sending t = received (bytes (t .0) ++ bytes " " ++ bytes (t .1)) ∷ []
 
 -- the premises of demand 2's round trip
 abbrev pub PremisesAt : ℕ → String × String → Type 0
-PremisesAt i t = Premises i (bytes (t .1)) buffer (asking t) [] (sending t)
+PremisesAt i t = Premises powerUp i (bytes (t .1)) buffer (asking t) [] (sending t)
 
 -- what they speak of
 record Seen : Type 0 where
@@ -187,15 +188,15 @@ abbrev sentLocked : List Event
 sentLocked = condition Lock 1 ∷ text "VOLT 0.0" ∷ []
 
 pub record LockMatters : Type 0 where
-  pub trip : Trip 4 (bytes "0.0") buffer unlocked [] sentLocked
+  pub trip : Trip powerUp 4 (bytes "0.0") buffer unlocked [] sentLocked
   pub locks : locked (after powerUp (sentBack unlocked [] buffer sentLocked) .core .registers) ≡ true
   pub refusedBy : lineRefusal (after powerUp (sentBack unlocked [] buffer sentLocked)) ≡ 221
 
 pub record Met2 : Type 0 where
   pub everyRow : (i : ℕ) → i < count → PremisesAt i (tripAt trips i)
-  pub oneMore : Premises 4 (bytes "0.0") buffer before early late
+  pub oneMore : Premises powerUp 4 (bytes "0.0") buffer before early late
   pub examOn : examined (after powerUp inExam .core .settings) ≡ true
-  pub examTrip : Premises 4 (bytes "5.1") buffer inExam [] sentInExam
+  pub examTrip : Premises powerUp 4 (bytes "5.1") buffer inExam [] sentInExam
   pub lockMatters : LockMatters
 
 -- ---- the lock: lines that try to change the settings of a box whose output is on, and one that switches it off
@@ -227,9 +228,9 @@ record Computed : Type 0 where
   met3 : Met3
   seen : map seenAt trips ≡ numbered 0 trips
   long : length trips ≡ count
-  oneMore : Premises 4 (bytes "0.0") buffer before early late
+  oneMore : Premises powerUp 4 (bytes "0.0") buffer before early late
   examOn : examined (after powerUp inExam .core .settings) ≡ true
-  examTrip : Premises 4 (bytes "5.1") buffer inExam [] sentInExam
+  examTrip : Premises powerUp 4 (bytes "5.1") buffer inExam [] sentInExam
   lockMatters : LockMatters
   metLock : MetLock
 
@@ -274,6 +275,7 @@ computed =
       long = refl;
       oneMore = record {
         trip = record {
+          own = power-up-own;
           first = refl;
           second = refl;
           asks = record { whole = refl; alone = refl; path = _; asks = refl };
@@ -297,6 +299,7 @@ computed =
       examOn = refl;
       examTrip = record {
         trip = record {
+          own = power-up-own;
           first = refl;
           second = refl;
           asks = record { whole = refl; alone = refl; path = _; asks = refl };
@@ -319,6 +322,7 @@ computed =
       };
       lockMatters = record {
         trip = record {
+          own = power-up-own;
           first = refl;
           second = refl;
           asks = record { whole = refl; alone = refl; path = _; asks = refl };
@@ -368,6 +372,7 @@ unfolding seenAt expectedAt bytes white
 trip-at i t e =
     record {
       trip = record {
+        own = power-up-own;
         first = refl;
         second = ap (λ (x : Seen). x .inLine) e;
         asks = record {

@@ -17,11 +17,11 @@ use Rattle.registers.specs.declared.rounding.Side.the-variants.{On}
 use Rattle.registers.specs.declared.settings.Settings.{Settings}
 use Rattle.registers.proofs.Tests.{and-both}
 use Rattle.interpreter.specs.Cuts.{front}
-use Rattle.interpreter.specs.Box.{Core, Box, box, withSettings, withLine, withAnswer, powerUp, mostAnswer}
+use Rattle.interpreter.specs.Box.{Core, Box, box, withSettings, withLine, withAnswer, mostAnswer}
 use Rattle.interpreter.specs.Unit.{readUnit}
 use Rattle.interpreter.specs.Deeds.{blocked, permitted, changed, replyTo, joined, fitsAnswer, reply, perform}
 use Rattle.interpreter.specs.Line.{attempt, runUnits, interrupted, finished, runLine, endLine, atNewline}
-use Rattle.interpreter.specs.Events.{Event, take, happens, after}
+use Rattle.interpreter.specs.Events.{Event, take, happens, Own, after}
 use Rattle.interpreter.specs.Histories.{newline}
 use Rattle.interpreter.specs.Demand3.{inLine, refusal, lineRefusal}
 use Rattle.interpreter.specs.Demand2.{Asks, Answered, Took, Sends, queried, sentBack, RoundTrip}
@@ -29,7 +29,7 @@ use Rattle.interpreter.specs.declared.deed.Deed.the-variants.{Change, Qu
 use Rattle.interpreter.specs.declared.deed.Change.the-variants.{Put}
 use Rattle.interpreter.specs.declared.deed.Query.the-variants.{Value}
 use Rattle.interpreter.proofs.Choices.{if-elim}
-use Rattle.interpreter.proofs.Possible.{Fit, history-fit, power-up-fit}
+use Rattle.interpreter.proofs.Possible.{Fit, history-fit, own-fit}
 use Rattle.interpreter.proofs.unit.Allowed.{read-allowed}
 use Rattle.interpreter.proofs.demands.Pieces.{after-append, newline-after, recut-state}
 use Rattle.interpreter.proofs.Lists.{is-empty}
@@ -85,8 +85,8 @@ module _ (i : ℕ) (b : Box) (fit : Fit mostAnswer b) (q : Asks i b) where
 
 pub query-answers : Answered
 unfolding answer-of
-query-answers i before asks =
-    ap (λ (b : Box). b .core .answer) (newline-after powerUp before ∙ query-line i (after powerUp before) (history-fit powerUp before power-up-fit) asks)
+query-answers b own i before asks =
+    ap (λ (c : Box). c .core .answer) (newline-after b before ∙ query-line i (after b before) (history-fit b before (own-fit b own)) asks)
 
 -- ---- the newline of the line that sends the answer back
 
@@ -163,28 +163,28 @@ still : {a x : Text} → empty x ≡ false → Left a x → x ≡ a
 still n (waits e) = e
 still n (gone e) = absurd (false≢true (sym n ∙ ap empty e))
 
-module _ (i : ℕ) (a buffer : Text) (before early late : List Event)
-    (in-early : every inLine early ≡ true) (in-late : every inLine late ≡ true) (asks : Asks i (after powerUp before))
-    (took : Took a (happens (after powerUp (queried before ++ early)) (take buffer) .result)) where
+module _ (b : Box) (own : Own b) (i : ℕ) (a buffer : Text) (before early late : List Event)
+    (in-early : every inLine early ≡ true) (in-late : every inLine late ≡ true) (asks : Asks i (after b before))
+    (took : Took a (happens (after b (queried before ++ early)) (take buffer) .result)) where
   abbrev asking : Box
-  asking = after powerUp before
+  asking = after b before
 
   abbrev taking : Box
-  taking = after powerUp (queried before ++ early)
+  taking = after b (queried before ++ early)
 
   abbrev sending : Box
-  sending = after powerUp (sentBack before early buffer late)
+  sending = after b (sentBack before early buffer late)
 
-  fit : (es : List Event) → Fit mostAnswer (after powerUp es)
-  fit es = history-fit powerUp es power-up-fit
+  fit : (es : List Event) → Fit mostAnswer (after b es)
+  fit es = history-fit b es (own-fit b own)
 
   -- behind the query's newline
-  behind : after powerUp (queried before)
+  behind : after b (queried before)
       ≡ box (withAnswer (answer-of (asking .core .settings) i ++ 10 ∷ []) (withLine [] false (asking .core))) (atNewline asking .trouble)
-  behind = newline-after powerUp before ∙ query-line i asking (fit before) asks
+  behind = newline-after b before ∙ query-line i asking (fit before) asks
 
-  early-quiet : Quiet (after powerUp (queried before)) taking
-  early-quiet = rw (after-append powerUp (queried before) early) (quiet (after powerUp (queried before)) early in-early)
+  early-quiet : Quiet (after b (queried before)) taking
+  early-quiet = rw (after-append b (queried before) early) (quiet (after b (queried before)) early in-early)
 
   takes : Emptied taking (happens taking (take buffer))
   unfolding happens
@@ -193,16 +193,16 @@ module _ (i : ℕ) (a buffer : Text) (before early late : List Event)
   -- the answer taken is the setting's
   answer-is : a ≡ answer-of (asking .core .settings) i
   answer-is =
-      let w = still (takes .some) (early-quiet .answer) ∙ ap (λ (b : Box). b .core .answer) behind in
+      let w = still (takes .some) (early-quiet .answer) ∙ ap (λ (c : Box). c .core .answer) behind in
       sym (front-of a 10) ∙ ap front (sym (took .bytes) ∙ takes .bytes ∙ w) ∙ front-of (answer-of (asking .core .settings) i) 10
 
   late-quiet : Quiet (happens taking (take buffer) .box) sending
   unfolding after
-  late-quiet = rw (after-append powerUp (queried before ++ early) (take buffer ∷ late)) (quiet (happens taking (take buffer) .box) late in-late)
+  late-quiet = rw (after-append b (queried before ++ early) (take buffer ∷ late)) (quiet (happens taking (take buffer) .box) late in-late)
 
   same-settings : sending .core .settings ≡ asking .core .settings
   same-settings =
-      late-quiet .settings ∙ takes .settings ∙ early-quiet .settings ∙ ap (λ (b : Box). b .core .settings) behind
+      late-quiet .settings ∙ takes .settings ∙ early-quiet .settings ∙ ap (λ (c : Box). c .core .settings) behind
 
   none : sending .core .answer ≡ []
   none = left-none (subst (λ (x : Text). Left x (sending .core .answer)) (takes .none) (late-quiet .answer))
@@ -213,13 +213,13 @@ module _ (i : ℕ) (a buffer : Text) (before early late : List Event)
       (answer-is ∙ ap (λ (s : Settings). answer-of s i) (sym same-settings)) none free sends
 
 pub round-trip : RoundTrip
-round-trip i a buffer before early late h p recut =
+round-trip b i a buffer before early late h p recut =
     let sentLine = sentBack before early buffer late in
     let q = p .trip in
-    let r = back i a buffer before early late (q .first) (q .second) (q .asks) (q .took) (p .free) (q .sends) in
-    let e = recut-state powerUp h (sentLine ++ newline ∷ []) recut ∙ newline-after powerUp sentLine ∙ r .0 in
+    let r = back b (q .own) i a buffer before early late (q .first) (q .second) (q .asks) (q .took) (p .free) (q .sends) in
+    let e = recut-state b h (sentLine ++ newline ∷ []) recut ∙ newline-after b sentLine ∙ r .0 in
     record {
-      settings = ap (λ (b : Box). b .core .settings) e ∙ same-settings i a buffer before early late (q .first) (q .second) (q .asks) (q .took);
+      settings = ap (λ (c : Box). c .core .settings) e ∙ same-settings b (q .own) i a buffer before early late (q .first) (q .second) (q .asks) (q .took);
       accepted = r .1;
       rest = e;
     }
