@@ -21,3 +21,4 @@ pub mod Met
 pub mod Dummies
 pub mod Calls
 pub mod Lock
+pub mod OfCalls

@@ -6,7 +6,7 @@ use Rattle.interpreter.specs.Events.{Event, Result, after, results}
 use Rattle.interpreter.specs.State.{boxOf, possibleState, Happens}
 use Rattle.interpreter.specs.declared.state.State.{State}
 
--- one call on a state s left the state t: the events that it makes, and their results. A power-up is a call on any state
+-- one call on a state s left the state t: the events that it makes, and their results. A power-up is a call on any state at all
 pub data Call (s t : State) : List Event → List Result → Type 0 where
   event : {e : Event} {r : Result} → Happens s e r t → Call s t (e ∷ []) (r ∷ [])
 

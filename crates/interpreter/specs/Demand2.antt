@@ -102,6 +102,10 @@ queried before = before ++ newline ∷ []
 abbrev pub sentBack : List Event → List Event → Text → List Event → List Event
 sentBack before early buffer late = queried before ++ early ++ take buffer ∷ late
 
+-- what the take between them tells
+abbrev pub takenFrom : Box → List Event → List Event → Text → Result
+takenFrom b before early buffer = happens (after b (queried before ++ early)) (take buffer) .result
+
 -- "is accepted and leaves every setting as it was": it raises no error, and nothing is changed but that the line is gone
 pub record Back (asking sending back : Box) : Type 0 where
   pub settings : back .core .settings ≡ asking .core .settings
@@ -109,23 +113,23 @@ pub record Back (asking sending back : Box) : Type 0 where
   pub rest : back ≡ box (withLine [] false (sending .core)) (sending .trouble)
 
 -- a setting's answer is asked for, taken, and sent back, from a state that could be the box's
-pub record Trip (b : Box) (i : ℕ) (a buffer : Text) (before early late : List Event) : Type 0 where
+pub record Trip (b : Box) (i : ℕ) (a buffer : Text) (r : Result) (before early late : List Event) : Type 0 where
   pub own : Own b
   pub first : every inLine early ≡ true
   pub second : every inLine late ≡ true
   pub asks : Asks i (after b before)
-  pub took : Took a (happens (after b (queried before ++ early)) (take buffer) .result)
+  pub took : Took a r
   pub sends : Sends i a (after b (sentBack before early buffer late))
 
 -- the round trip's premises; "no lock bit is 1" (02, #105) as the line that sends the answer back ends
-pub record Premises (b : Box) (i : ℕ) (a buffer : Text) (before early late : List Event) : Type 0 where
-  pub trip : Trip b i a buffer before early late
+pub record Premises (b : Box) (i : ℕ) (a buffer : Text) (r : Result) (before early late : List Event) : Type 0 where
+  pub trip : Trip b i a buffer r before early late
   pub free : locked (after b (sentBack before early buffer late) .core .registers) ≡ false
 
 abbrev pub RoundTrip : Type 0
 RoundTrip =
     (b : Box) (i : ℕ) (a buffer : Text) (before early late h : List Event)
-    → Premises b i a buffer before early late
+    → Premises b i a buffer (takenFrom b before early buffer) before early late
     → Recut h (sentBack before early buffer late ++ newline ∷ [])
     → Back (after b before) (after b (sentBack before early buffer late)) (after b h)
 

@@ -13,7 +13,7 @@ use Rattle.interpreter.specs.Box.{Core, Box, powerUp}
 use Rattle.interpreter.specs.Unit.{Read, readUnit}
 use Rattle.interpreter.specs.Line.{Obeyed, attempt, unitsOf, atNewline, byte}
 use Rattle.interpreter.specs.Events.{Event, started, received, take, condition, look, Result, happens, after}
-use Rattle.interpreter.specs.Histories.{newline, Recut, noPiece, howMany, answers, replies, counted}
+use Rattle.interpreter.specs.Histories.{newline, Recut, isTake, isPiece, noPiece, howMany, resultsOf, summed}
 use Rattle.interpreter.specs.declared.deed.Deed.{Deed}
 use Rattle.interpreter.specs.declared.deed.Deed.the-variants.{Change, Complete, Clear, Query, Inquire}
 
@@ -165,23 +165,24 @@ AgreeAnswers asked x y = Unit {0}
 abbrev pub others : List Event → ℕ
 others = howMany noPiece
 
--- h is the history with the line as it was sent, h′ the same with the line cut, each in any pieces
-pub record Demand3 (before during later h h′ : List Event) : Type 0 where
+-- the history with the line as it was sent left the box a and these results, the one with the line cut the box b and those
+pub record Demand3 (before during later : List Event) (a b : Box) (these those : (Event → Bool) → List Result) : Type 0 where
   -- what comes first afterwards is the same in both
   pub first : watch (after powerUp (asSent before during)) later ≡ watch (after powerUp (asCut before during)) later
   -- with nothing `later` it is the state at the line's newline
-  pub state : Agree (watch (after powerUp (asSent before during)) later) (after powerUp h) (after powerUp h′)
+  pub state : Agree (watch (after powerUp (asSent before during)) later) a b
   -- "every answer taken agrees meanwhile"
-  pub taken : AgreeAnswers (watch (after powerUp (asSent before during)) later) (answers powerUp h) (answers powerUp h′)
+  pub taken : AgreeAnswers (watch (after powerUp (asSent before during)) later) (these isTake) (those isTake)
   -- "from that *CLS on .. all results agree": those behind the results of the events before it
   pub results : (meanwhile onward : List Event) → later ≡ meanwhile ++ onward
       → watch (after powerUp (asSent before during)) meanwhile ≡ cleared
-      → drop (others (before ++ during ++ meanwhile)) (replies powerUp h) ≡ drop (others (before ++ during ++ meanwhile)) (replies powerUp h′)
+      → drop (others (before ++ during ++ meanwhile)) (these noPiece) ≡ drop (others (before ++ during ++ meanwhile)) (those noPiece)
   -- the pieces' own counts go by the pieces, their sum by the bytes: the cut line has its newline too
-  pub counts : counted powerUp h ≡ counted powerUp h′
+  pub counts : summed (these isPiece) ≡ summed (those isPiece)
 
+-- h is the history with the line as it was sent, h′ the same with the line cut, each in any pieces
 abbrev pub Statement : Type 0
 Statement =
     (before during later h h′ : List Event) → ALine before during
     → Recut h (asSent before during ++ later) → Recut h′ (asCut before during ++ later)
-    → Demand3 before during later h h′
+    → Demand3 before during later (after powerUp h) (after powerUp h′) (λ p. resultsOf p powerUp h) (λ p. resultsOf p powerUp h′)

@@ -54,6 +54,12 @@ unfoldable pub resultsOf : (Event → Bool) → Box → List Event → List Resu
 resultsOf p b [] = []
 resultsOf p b (e ∷ es) = let more = resultsOf p (happens b e .box) es in if p e then happens b e .result ∷ more else more
 
+-- the same of a list that has a result for each event
+unfoldable pub chosen : (Event → Bool) → List Event → List Result → List Result
+chosen p [] rs = []
+chosen p (e ∷ es) [] = []
+chosen p (e ∷ es) (r ∷ rs) = let more = chosen p es rs in if p e then r ∷ more else more
+
 -- the answers taken
 abbrev pub answers : Box → List Event → List Result
 answers = resultsOf isTake

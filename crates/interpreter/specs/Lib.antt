@@ -27,4 +27,5 @@ pub mod Server
 pub mod ServerParts
 pub mod Calls
 pub mod Lock
+pub mod OfCalls
 pub mod Dummies

@@ -20,7 +20,7 @@ use Rattle.interpreter.proofs.demands.Watching.{history-watch}
 use Rattle.interpreter.proofs.demands.Cutting.{cut, newline-cut}
 use Rattle.interpreter.proofs.demands.Keeping.{cutTo, DuringKept, during-kept}
 use Rattle.interpreter.proofs.demands.Counts.{cut-counts}
-use Rattle.interpreter.proofs.demands.Others.{replies-length, others-append, others-keep}
+use Rattle.interpreter.proofs.demands.Others.{results-length, others-append, others-keep}
 use Rattle.interpreter.proofs.demands.Starts.{cut-length, cut-is}
 
 -- a box at the start of a line has nothing to cut
@@ -126,7 +126,7 @@ behind-first : (h first onward : List Event) (n : ℕ) → Recut h (first ++ onw
     → drop n (replies powerUp h) ≡ replies (after powerUp first) onward
 behind-first h first onward n e m =
     ap (drop n) (recut-results noPiece (λ xs. refl) powerUp h (first ++ onward) e ∙ results-append noPiece powerUp first onward)
-    ∙ drop-at (replies powerUp first) (replies (after powerUp first) onward) n (replies-length powerUp first ∙ m)
+    ∙ drop-at (replies powerUp first) (replies (after powerUp first) onward) n (results-length noPiece powerUp first ∙ m)
 
 -- the newline, and bytes that are cut, count for nothing
 others-line : (before during meanwhile : List Event) (d : List Event) → others d ≡ others during

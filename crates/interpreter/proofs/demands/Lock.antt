@@ -3,7 +3,7 @@
 -- and by check 7 at least 0.
 use mathlib.Core.Path.{_≡_, refl, sym, _∙_, ap, subst}
 use mathlib.Core.Bool.{Bool, true, false, not, and-true, false≢true}
-use mathlib.Core.List.{List, [], _∷_}
+use mathlib.Core.List.{List, [], _∷_, _++_}
 use Prim.Native.Nat.{ℕ}
 use native.Mathlib.Omega.{arith}
 use lib.Dec.{leb, ltb, eqb}
@@ -21,7 +21,7 @@ use Rattle.registers.specs.Status.{Registers, locked, setReported}
 use Rattle.registers.specs.declared.settings.Settings.{Settings}
 use Rattle.registers.specs.declared.status.RegisterSet.{RegisterSet}
 use Rattle.registers.specs.declared.status.RegisterSet.the-variants.{Operation, Lock, Warning}
-use Rattle.registers.proofs.Tests.{and-both}
+use Rattle.registers.proofs.Tests.{and-both, and-true as both-true}
 use Rattle.registers.proofs.status.Conditions.{conditionIn, stored-kept, event-kept, clear-kept, report-kept}
 use Rattle.interpreter.specs.Box.{Core, Box, withRegisters, mostLine}
 use Rattle.interpreter.specs.Unit.{Read, readUnit}
@@ -29,8 +29,8 @@ use Rattle.interpreter.specs.UnitParts.{Allowed, AllowedChange}
 use Rattle.interpreter.specs.Deeds.{blockedChange, blocked, changed, afterQuery, reply, perform}
 use Rattle.interpreter.specs.Line.{Obeyed, attempt, refuse, next, runUnits, unitsOf, interrupted, finished, runLine, endLine, atNewline, held, byte, piece}
 use Rattle.interpreter.specs.Events.{Event, started, received, take, condition, look, Happened, Result, taken, reported, happens, after}
-use Rattle.interpreter.specs.State.{boxOf, possibleState, Happens}
-use Rattle.interpreter.specs.Calls.{Calls, done, call, powered}
+use Rattle.interpreter.specs.State.{boxOf, admitted, Happens}
+use Rattle.interpreter.specs.Calls.{Call, event, Calls, done, call}
 use Rattle.interpreter.specs.Lock.{leavesKey, Held, InHistories, InCalls, LockHolds}
 use Rattle.interpreter.specs.declared.deed.Deed.{Deed}
 use Rattle.interpreter.specs.declared.deed.Deed.the-variants.{Change, Complete, Clear, Query, Inquire}
@@ -191,17 +191,26 @@ module _ (s : Settings) where
   -- ---- calls, by their promises
 
   happens-held : (a t : State) (e : Event) (r : Result) → Happens a e r t → leavesKey e ≡ true → HeldBox (boxOf a) → HeldBox (boxOf t)
-  happens-held a t e r p k h = go (possibleState a) refl
+  happens-held a t e r p k h = go (admitted a e) refl
     where
-      go : (b : Bool) → possibleState a ≡ b → HeldBox (boxOf t)
+      go : (b : Bool) → admitted a e ≡ b → HeldBox (boxOf t)
       go true q = subst HeldBox (sym (ap (λ (x : Happened). x .box) (p .possible q .1))) (event-held (boxOf a) e k h)
       go false q = subst (λ (x : State). HeldBox (boxOf x)) (sym (p .impossible q .0)) h
 
+  every-parts : (es fs : List Event) → every leavesKey (es ++ fs) ≡ true → (every leavesKey es ≡ true) × (every leavesKey fs ≡ true)
+  every-parts [] fs k = (refl, k)
+  every-parts (e ∷ es) fs k =
+      let p = and-both (leavesKey e) (every leavesKey (es ++ fs)) k in
+      let q = every-parts es fs (p .1) in
+      (both-true (p .0) (q .0), q .1)
+
+  call-held : (a t : State) (es : List Event) (rs : List Result) → Call a t es rs → every leavesKey es ≡ true → HeldBox (boxOf a) → HeldBox (boxOf t)
+  call-held a t _ _ (event {e = e} {r = r} p) k h = happens-held a t e r p (and-both (leavesKey e) true k .0) h
+
   calls-held : (a t : State) (es : List Event) (rs : List Result) → Calls t a es rs → every leavesKey es ≡ true → HeldBox (boxOf a) → HeldBox (boxOf t)
   calls-held a t _ _ done k h = h
-  calls-held a t _ _ (call {u = u} {e = e} {es = es} {r = r} {rs = rs} p more) k h =
-      let q = and-both (leavesKey e) (every leavesKey es) k in calls-held u t es rs more (q .1) (happens-held a u e r p (q .0) h)
-  calls-held a t _ _ (powered first more) k h = absurd (false≢true k)
+  calls-held a t _ _ (call {u = u} {es = es} {fs = fs} {rs = rs} {qs = qs} p more) k h =
+      let q = every-parts es fs k in calls-held u t fs qs more (q .1) (call-held a u es rs p (q .0) h)
 
 -- ---- the law
 

@@ -16,27 +16,28 @@ use Rattle.registers.specs.Number.{afterSign, fractionOf, afterFraction, expone
 use Rattle.registers.specs.Suffix.{suffixes, noSuffix, powerIn, remains}
 use Rattle.registers.specs.Rounding.{switchedOn, nearest, sizeIn, rounded, sizeSide, sideIn}
 use Rattle.registers.specs.Answer.{inPlaces, decimal, tenths}
-use Rattle.registers.specs.Errors.{eventBit}
+use Rattle.registers.specs.Errors.{eventBit, known, queueable}
 use Rattle.registers.specs.Settings.{count, output, voltage, valueAt, table, settingAt, atReset, wideRange, lowest, highest, within, conflict, examined, accepted, answerOf}
-use Rattle.registers.specs.Group.{rises, falls, eventsAfter, conditionIs}
-use Rattle.registers.specs.Status.{raised, locked, atStart}
+use Rattle.registers.specs.Group.{rises, falls, eventsAfter, conditionIs, possibleGroup}
+use Rattle.registers.specs.Status.{raised, locked, atStart, registersOf, possibleRegisters, possibleTrouble}
 use Rattle.registers.specs.declared.status.RegisterSet.the-variants.{Lock, Warning}
+use Rattle.registers.proofs.settings.Possible.{reset-possible}
 use Rattle.interpreter.specs.Cuts.{front, cutAt, trimEnd, trim}
 use Rattle.interpreter.specs.Header.{Header, here, name, placed, header, spells}
 use Rattle.interpreter.specs.Rows.{settingRows, otherRows, rows, fitsRow, findRow}
 use Rattle.interpreter.specs.Parameter.{parameters, least, greatest, findWord, parameter, valueGiven, settingDeed, deedOf}
 use Rattle.interpreter.specs.Unit.{Read, readUnit}
-use Rattle.interpreter.specs.Box.{powerUp}
+use Rattle.interpreter.specs.Box.{Box, box, powerUp}
 use Rattle.interpreter.specs.Deeds.{permitted, changed, replyTo, inquiryReply, joined, fitsAnswer, reply, perform}
 use Rattle.interpreter.specs.Line.{attempt, refuse, runUnits, interrupted, finished, unitsOf, runLine, endLine, held, byte, piece}
-use Rattle.interpreter.specs.Events.{Event, received, take, condition, look, result, taken, reported, happens, after}
+use Rattle.interpreter.specs.Events.{Event, received, take, condition, look, Result, result, taken, reported, happens, possibleCore, possible, Own, after}
 use Rattle.interpreter.specs.Histories.{moments, Recut, resultsOf, answers}
 use Rattle.interpreter.specs.Demand3.{obeyed, refusal, joinUnits, cutLine, lineRefusal, keep, inLine, atEnd, asSent, asCut, ALine, Watch, neither, asked, cleared, watchUnits, watchLine, watchByte, watchPiece, watchEvent, watch}
 use Rattle.interpreter.specs.declared.deed.Deed.the-variants.{Query}
 use Rattle.interpreter.specs.declared.deed.Query.the-variants.{Value}
 use Rattle.interpreter.specs.declared.deed.Role.{Role}
 use Rattle.interpreter.specs.declared.deed.Role.the-variants.{Setting}
-use Rattle.interpreter.specs.Demand2.{Trip, Premises, queried, sentBack}
+use Rattle.interpreter.specs.Demand2.{Spelling, Sends, Trip, Premises, queried, sentBack, takenFrom}
 use Rattle.interpreter.specs.Lock.{leavesKey}
 use Rattle.interpreter.proofs.Possible.{power-up-own}
 
@@ -104,7 +105,7 @@ sending t = received (bytes (t .0) ++ bytes " " ++ bytes (t .1)) ∷ []
 
 -- the premises of demand 2's round trip
 abbrev pub PremisesAt : ℕ → String × String → Type 0
-PremisesAt i t = Premises powerUp i (bytes (t .1)) buffer (asking t) [] (sending t)
+PremisesAt i t = Premises powerUp i (bytes (t .1)) buffer (takenFrom powerUp (asking t) [] buffer) (asking t) [] (sending t)
 
 -- what they speak of
 record Seen : Type 0 where
@@ -180,6 +181,20 @@ inExam = text "SYST:EXAM 1\nVOLT 5.1\nVOLT?" ∷ []
 abbrev sentInExam : List Event
 sentInExam = text "VOLT 5.1" ∷ []
 
+-- and of one from a hand-made state: half a line, an answer without its newline, every event bit, and -350 twice
+abbrev other : Box
+other = box (record { settings = atReset; registers = registersOf atStart; line = bytes "VO"; overlong = false; answer = bytes "X" }) (record { events = 255; queue = 350 ∷ 350 ∷ [] })
+
+abbrev restOfLine : List Event
+restOfLine = text "LT?" ∷ []
+
+abbrev sentOther : List Event
+sentOther = text "VOLT 0.0" ∷ []
+
+other-own : Own other
+unfolding possible possibleCore possibleRegisters possibleTrouble possibleGroup known queueable powerUp atStart bytes
+other-own = record { could = rw reset-possible; values = power-up-own .values }
+
 -- and of one that lacks the lock's premise alone, and is refused for it
 abbrev unlocked : List Event
 unlocked = text "VOLT?" ∷ []
@@ -188,15 +203,16 @@ abbrev sentLocked : List Event
 sentLocked = condition Lock 1 ∷ text "VOLT 0.0" ∷ []
 
 pub record LockMatters : Type 0 where
-  pub trip : Trip powerUp 4 (bytes "0.0") buffer unlocked [] sentLocked
+  pub trip : Trip powerUp 4 (bytes "0.0") buffer (takenFrom powerUp unlocked [] buffer) unlocked [] sentLocked
   pub locks : locked (after powerUp (sentBack unlocked [] buffer sentLocked) .core .registers) ≡ true
   pub refusedBy : lineRefusal (after powerUp (sentBack unlocked [] buffer sentLocked)) ≡ 221
 
 pub record Met2 : Type 0 where
   pub everyRow : (i : ℕ) → i < count → PremisesAt i (tripAt trips i)
-  pub oneMore : Premises powerUp 4 (bytes "0.0") buffer before early late
+  pub oneMore : Premises powerUp 4 (bytes "0.0") buffer (takenFrom powerUp before early buffer) before early late
   pub examOn : examined (after powerUp inExam .core .settings) ≡ true
-  pub examTrip : Premises powerUp 4 (bytes "5.1") buffer inExam [] sentInExam
+  pub examTrip : Premises powerUp 4 (bytes "5.1") buffer (takenFrom powerUp inExam [] buffer) inExam [] sentInExam
+  pub otherTrip : Premises other 4 (bytes "0.0") buffer (takenFrom other restOfLine [] buffer) restOfLine [] sentOther
   pub lockMatters : LockMatters
 
 -- ---- the lock: lines that try to change the settings of a box whose output is on, and one that switches it off
@@ -228,9 +244,10 @@ record Computed : Type 0 where
   met3 : Met3
   seen : map seenAt trips ≡ numbered 0 trips
   long : length trips ≡ count
-  oneMore : Premises powerUp 4 (bytes "0.0") buffer before early late
+  oneMore : Premises powerUp 4 (bytes "0.0") buffer (takenFrom powerUp before early buffer) before early late
   examOn : examined (after powerUp inExam .core .settings) ≡ true
-  examTrip : Premises powerUp 4 (bytes "5.1") buffer inExam [] sentInExam
+  examTrip : Premises powerUp 4 (bytes "5.1") buffer (takenFrom powerUp inExam [] buffer) inExam [] sentInExam
+  otherTrip : Premises other 4 (bytes "0.0") buffer (takenFrom other restOfLine [] buffer) restOfLine [] sentOther
   lockMatters : LockMatters
   metLock : MetLock
 
@@ -249,6 +266,21 @@ computed =
     let two : lineRefusal (atEnd [] during) ≡ 113 = refl in
     let three : lineRefusal (atEnd earlier atThird) ≡ 222 = refl in
     let long : lineRefusal (atEnd [] tooLong) ≡ 363 = refl in
+    let spelled : Spelling 4 (bytes "VOLT") = record { read = _; reads = refl; sets = refl; row = refl } in
+    let sent : (b : Box) (a : Text) → b .core .overlong ≡ false → b .core .line ≡ bytes "VOLT" ++ (bytes " " ++ (a ++ [])) → Sends 4 a b =
+    λ b a w l. record {
+      whole = w;
+      left = [];
+      header = bytes "VOLT";
+      gap = bytes " ";
+      right = [];
+      line = l;
+      spelling = spelled;
+      leftWhite = refl;
+      gapWhite = refl;
+      gapThere = refl;
+      rightWhite = refl;
+    } in
     record {
       met3 = record {
         second = record {
@@ -304,19 +336,18 @@ computed =
           second = refl;
           asks = record { whole = refl; alone = refl; path = _; asks = refl };
           took = record { number = refl; bytes = refl };
-          sends = record {
-            whole = refl;
-            left = [];
-            header = bytes "VOLT";
-            gap = bytes " ";
-            right = [];
-            line = refl;
-            spelling = record { read = _; reads = refl; sets = refl; row = refl };
-            leftWhite = refl;
-            gapWhite = refl;
-            gapThere = refl;
-            rightWhite = refl;
-          };
+          sends = sent _ (bytes "5.1") refl refl;
+        };
+        free = refl;
+      };
+      otherTrip = record {
+        trip = record {
+          own = other-own;
+          first = refl;
+          second = refl;
+          asks = record { whole = refl; alone = refl; path = _; asks = refl };
+          took = record { number = refl; bytes = refl };
+          sends = sent _ (bytes "0.0") refl refl;
         };
         free = refl;
       };
@@ -327,19 +358,7 @@ computed =
           second = refl;
           asks = record { whole = refl; alone = refl; path = _; asks = refl };
           took = record { number = refl; bytes = refl };
-          sends = record {
-            whole = refl;
-            left = [];
-            header = bytes "VOLT";
-            gap = bytes " ";
-            right = [];
-            line = refl;
-            spelling = record { read = _; reads = refl; sets = refl; row = refl };
-            leftWhite = refl;
-            gapWhite = refl;
-            gapThere = refl;
-            rightWhite = refl;
-          };
+          sends = sent _ (bytes "0.0") refl refl;
         };
         locks = refl;
         refusedBy = refl;
@@ -406,6 +425,7 @@ met2 =
       oneMore = computed .oneMore;
       examOn = computed .examOn;
       examTrip = computed .examTrip;
+      otherTrip = computed .otherTrip;
       lockMatters = computed .lockMatters;
     }
   where

@@ -1,4 +1,4 @@
--- How many results a history has that are no pieces': as many as it has other events.
+-- How many results a history has of a kind of events: as many as it has such events.
 use mathlib.Core.Path.{_≡_, refl, ap}
 use mathlib.Core.Bool.{Bool, true, false}
 use mathlib.Core.List.{List, [], _∷_, _++_}
@@ -8,16 +8,16 @@ use lib.ListN.{length}
 use Rattle.registers.specs.Text.{if_then_else_}
 use Rattle.interpreter.specs.Box.{Box}
 use Rattle.interpreter.specs.Events.{Event, started, received, take, condition, look, Result, happens}
-use Rattle.interpreter.specs.Histories.{noPiece, howMany, resultsOf, replies}
+use Rattle.interpreter.specs.Histories.{noPiece, howMany, resultsOf}
 use Rattle.interpreter.specs.Demand3.{keep, others}
 
-pub replies-length : (b : Box) (es : List Event) → length (replies b es) ≡ others es
+pub results-length : (p : Event → Bool) (b : Box) (es : List Event) → length (resultsOf p b es) ≡ howMany p es
 unfolding resultsOf howMany if_then_else_
-replies-length b [] = refl
-replies-length b (e ∷ es) = go (noPiece e) (replies (happens b e .box) es) (replies-length (happens b e .box) es)
+results-length p b [] = refl
+results-length p b (e ∷ es) = go (p e) (resultsOf p (happens b e .box) es) (results-length p (happens b e .box) es)
   where
-    go : (t : Bool) (rs : List Result) → length rs ≡ others es
-        → length (if t then happens b e .result ∷ rs else rs) ≡ (if t then suc (others es) else others es)
+    go : (t : Bool) (rs : List Result) → length rs ≡ howMany p es
+        → length (if t then happens b e .result ∷ rs else rs) ≡ (if t then suc (howMany p es) else howMany p es)
     go true rs ih = ap suc ih
     go false rs ih = ih
 
