@@ -1,4 +1,5 @@
-//! Headers: their form (01, check 2), and the row that they spell (check 3).
+//! Headers: their form (01, check 2), and the row that they spell (check 3). Whether the row has a
+//! query or a setting form is seen where the unit is run.
 //!
 //! The rows of 01 and 02 are walked as one tree. A place in it stands for the nodes read so far, and the
 //! optional nodes are branches that lead on from every place where they may be kept or left out.
@@ -9,11 +10,20 @@ use crate::settings::Setting;
 use crate::status::SetName;
 use crate::text::{is_white_space, read_name, Spelling, Word};
 
-/// A row of 01 or 02: a setting, a register or a common command, in its setting and its query form.
+/// A row of 01 or 02: a setting, a register, or a query or command that has this one form only.
 #[derive(Clone, Copy, Debug, PartialEq, Eq)]
 pub enum Row {
     Setting(Setting),
     Register(Register),
+    Query(Query),
+    Command(Command),
+    /// *OPC and *OPC?, which have both forms and no value.
+    OperationComplete,
+}
+
+/// The rows that have a query form only.
+#[derive(Clone, Copy, Debug, PartialEq, Eq)]
+pub enum Query {
     Condition(SetName),
     Event(SetName),
     ErrorQueue,
@@ -21,7 +31,11 @@ pub enum Row {
     StatusByte,
     Identification,
     SelfTest,
-    OperationComplete,
+}
+
+/// The rows that have a setting form only, and take no parameter.
+#[derive(Clone, Copy, Debug, PartialEq, Eq)]
+pub enum Command {
     Wait,
     Reset,
     Clear,
@@ -35,20 +49,6 @@ pub enum Register {
     Enable(SetName),
     NegativeTransition(SetName),
     PositiveTransition(SetName),
-}
-
-impl Row {
-    pub fn has_query(self) -> bool {
-        !matches!(self, Row::Wait | Row::Reset | Row::Clear)
-    }
-
-    pub fn has_setting_form(self) -> bool {
-        use Row::*;
-        matches!(
-            self,
-            Setting(_) | Register(_) | OperationComplete | Wait | Reset | Clear
-        )
-    }
 }
 
 #[derive(Clone, Copy, Debug, PartialEq, Eq)]
@@ -179,19 +179,19 @@ const fn register_set(name: SetName) -> [Branch; 5] {
 }
 
 static COMMON: [(Word, Row); 10] = [
-    (Word::new("IDN"), Row::Identification),
-    (Word::new("ESR"), Row::EventStatus),
-    (Word::new("STB"), Row::StatusByte),
+    (Word::new("IDN"), Row::Query(Query::Identification)),
+    (Word::new("ESR"), Row::Query(Query::EventStatus)),
+    (Word::new("STB"), Row::Query(Query::StatusByte)),
     (Word::new("OPC"), Row::OperationComplete),
-    (Word::new("CLS"), Row::Clear),
-    (Word::new("RST"), Row::Reset),
+    (Word::new("CLS"), Row::Command(Command::Clear)),
+    (Word::new("RST"), Row::Command(Command::Reset)),
     (Word::new("ESE"), Row::Register(Register::EventStatusEnable)),
     (
         Word::new("SRE"),
         Row::Register(Register::ServiceRequestEnable),
     ),
-    (Word::new("WAI"), Row::Wait),
-    (Word::new("TST"), Row::SelfTest),
+    (Word::new("WAI"), Row::Command(Command::Wait)),
+    (Word::new("TST"), Row::Query(Query::SelfTest)),
 ];
 
 impl Place {
@@ -240,9 +240,9 @@ impl Place {
             Place::Brightness => Row::Setting(Setting::Brightness),
             Place::KeyLock => Row::Setting(Setting::KeyLock),
             Place::Exam => Row::Setting(Setting::Exam),
-            Place::ErrorQueue => Row::ErrorQueue,
-            Place::RegisterSet(name) | Place::Event(name) => Row::Event(name),
-            Place::Condition(name) => Row::Condition(name),
+            Place::ErrorQueue => Row::Query(Query::ErrorQueue),
+            Place::RegisterSet(name) | Place::Event(name) => Row::Query(Query::Event(name)),
+            Place::Condition(name) => Row::Query(Query::Condition(name)),
             Place::Enable(name) => Row::Register(Register::Enable(name)),
             Place::NegativeTransition(name) => Row::Register(Register::NegativeTransition(name)),
             Place::PositiveTransition(name) => Row::Register(Register::PositiveTransition(name)),
@@ -268,13 +268,9 @@ pub struct Header {
 }
 
 impl Header {
-    /// 01, check 3: the row, if it has the form that is asked for.
+    /// 01, check 3: the row, whether or not it has the form that is asked for.
     pub fn row(&self) -> Result<Row, Error> {
-        match self.row {
-            Some(row) if self.query && row.has_query() => Ok(row),
-            Some(row) if !self.query && row.has_setting_form() => Ok(row),
-            _ => Err(Error::UndefinedHeader),
-        }
+        self.row.ok_or(Error::UndefinedHeader)
     }
 }
 

@@ -4,7 +4,7 @@ use std::cmp::Ordering;
 
 use crate::answer::Answer;
 use crate::error::Error;
-use crate::header::{self, Place, Register, Row};
+use crate::header::{self, Command, Place, Query, Register, Row};
 use crate::number::{self, Quantity, Rounded, Step, Written};
 use crate::settings::{Setting, Settings, Values, R12V};
 use crate::status::{Status, FIFTEEN_BITS};
@@ -77,27 +77,32 @@ impl Instrument {
         Ok(header.path)
     }
 
+    /// The setting form of a row; -113 if it lacks one (01, check 3).
     fn obey(&mut self, row: Row, parameters: &Parameters) -> Result<(), Error> {
         match row {
-            Row::Setting(setting) => self.obey_setting(setting, parameters.one()?)?,
-            Row::Register(register) => self.write_register(register, parameters.one()?)?,
-            _ => {
+            Row::Setting(setting) => self.obey_setting(setting, parameters.one()?),
+            Row::Register(register) => self.write_register(register, parameters.one()?),
+            Row::Command(command) => {
                 parameters.none()?;
-                self.obey_common(row)?;
+                self.obey_command(command)
             }
+            Row::OperationComplete => {
+                parameters.none()?;
+                self.status.operation_complete();
+                Ok(())
+            }
+            Row::Query(_) => Err(Error::UndefinedHeader),
         }
-        Ok(())
     }
 
-    fn obey_common(&mut self, row: Row) -> Result<(), Error> {
-        match row {
-            Row::OperationComplete => self.status.operation_complete(),
-            Row::Reset => {
+    fn obey_command(&mut self, command: Command) -> Result<(), Error> {
+        match command {
+            Command::Wait => {}
+            Command::Reset => {
                 self.must_not_be_locked()?;
                 self.settings = Settings::reset();
             }
-            Row::Clear => self.status.clear(),
-            _ => {}
+            Command::Clear => self.status.clear(),
         }
         Ok(())
     }
@@ -188,41 +193,50 @@ impl Instrument {
         Ok(())
     }
 
+    /// The query form of a row; -113 if it lacks one (01, check 3).
     fn answer_query(&mut self, row: Row, parameters: &Parameters) -> Result<(), Error> {
-        if let Row::Setting(setting) = row {
-            return self.answer_setting(setting, parameters);
-        }
-        parameters.none()?;
         match row {
-            Row::Register(register) => self.answer_register(self.register(register)),
-            Row::Condition(name) => self.answer_register(self.status.set(name).condition),
-            Row::StatusByte => {
-                let byte = self.status.status_byte(self.answer.has_bytes());
-                self.answer_register(byte)
+            Row::Setting(setting) => self.answer_setting(setting, parameters),
+            Row::Register(register) => {
+                parameters.none()?;
+                self.answer_register(self.register(register))
             }
-            Row::Identification => self.answer.add(IDENTIFICATION),
-            Row::SelfTest => self.answer.add(b"0"),
-            Row::OperationComplete => self.answer.add(b"1"),
-            _ => self.answer_and_clear(row),
+            Row::Query(query) => {
+                parameters.none()?;
+                self.answer_and_perform(query)
+            }
+            Row::OperationComplete => {
+                parameters.none()?;
+                self.answer.add(b"1")
+            }
+            Row::Command(_) => Err(Error::UndefinedHeader),
         }
     }
 
-    /// The queries that change something, which they may only once their answer fits.
-    fn answer_and_clear(&mut self, row: Row) -> Result<(), Error> {
-        match row {
-            Row::Event(name) => {
+    /// A query that changes something may do so only once its answer fits.
+    fn answer_and_perform(&mut self, query: Query) -> Result<(), Error> {
+        match query {
+            Query::Condition(name) => {
+                self.answer_register(self.status.set(name).condition)?;
+            }
+            Query::Event(name) => {
                 self.answer_register(self.status.set(name).event)?;
                 self.status.set_mut(name).event = 0;
             }
-            Row::EventStatus => {
-                self.answer_register(self.status.esr)?;
-                self.status.esr = 0;
-            }
-            Row::ErrorQueue => {
+            Query::ErrorQueue => {
                 self.answer.add(self.status.oldest_error().as_bytes())?;
                 self.status.remove_oldest_error();
             }
-            _ => {}
+            Query::EventStatus => {
+                self.answer_register(self.status.esr)?;
+                self.status.esr = 0;
+            }
+            Query::StatusByte => {
+                let byte = self.status.status_byte(self.answer.has_bytes());
+                self.answer_register(byte)?;
+            }
+            Query::Identification => self.answer.add(IDENTIFICATION)?,
+            Query::SelfTest => self.answer.add(b"0")?,
         }
         Ok(())
     }

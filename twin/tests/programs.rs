@@ -3,7 +3,7 @@
 use std::io::Write;
 use std::process::{Child, Command, Stdio};
 
-use twin::State;
+use twin::{State, ANSWER_LIMIT};
 
 const BENCH24: &str = env!("CARGO_BIN_EXE_bench24");
 const PLAYER: &str = env!("CARGO_BIN_EXE_player");
@@ -57,6 +57,46 @@ fn bench24_answers_each_line_by_itself() {
     }
     let answers = run(BENCH24, &[], lines.as_bytes());
     assert_eq!(answers.into_bytes(), expected);
+}
+
+/// Plays lines one at a time, each answer taken: the errors that each raised, and its answer.
+fn play_lines(lines: &str) -> Vec<(usize, usize)> {
+    let mut state = State::power_up();
+    let mut buffer = [0; ANSWER_LIMIT];
+    let results = lines.split_inclusive('\n').map(|line| {
+        state.piece(line.as_bytes()).unwrap();
+        let answers = state.look().unwrap() & 16 != 0;
+        let length = if answers {
+            state.take(&mut buffer).unwrap()
+        } else {
+            0
+        };
+        let errors = std::mem::take(&mut state.instrument.status.queued);
+        (errors, length)
+    });
+    results.collect()
+}
+
+#[test]
+fn kinds_of_lines() {
+    let lines = |kind: &[&str]| run(HISTORIES, &[&["6", "500"], kind].concat(), b"");
+    let all = |kind: &[&str], holds: fn((usize, usize)) -> bool| {
+        let results = play_lines(&lines(kind));
+        assert_eq!(results.len(), 500, "{kind:?}");
+        assert!(results.into_iter().all(holds), "{kind:?}");
+    };
+    all(&["settings"], |(errors, answer)| errors == 0 && answer == 0);
+    all(&["queries"], |(errors, answer)| errors == 0 && answer > 0);
+    all(&["faulty"], |(errors, _)| errors == 1);
+    all(&["long", "20"], |(errors, _)| errors == 0);
+    all(&["long", "400"], |(errors, answer)| {
+        errors == 0 && answer > 0
+    });
+    let long = lines(&["long", "400"]);
+    for (line, (_, answer)) in long.lines().zip(play_lines(&long)) {
+        assert!((340..=400).contains(&line.len()), "{line}");
+        assert!(answer <= line.len() + 1, "{line}");
+    }
 }
 
 #[test]

@@ -1,5 +1,5 @@
 //! Writes histories for the player, and plain command lines for bench24, the same for the same
-//! seed: `histories SEED COUNT mild|hostile|lines`.
+//! seed. See the README for the kinds.
 
 #[path = "histories/dice.rs"]
 mod dice;
@@ -17,50 +17,92 @@ use std::io::{self, BufWriter, Write};
 use std::process::ExitCode;
 
 use dice::Dice;
-use lines::{Lines, Manner};
+use lines::{Lines, Manner, Units};
 use script::Script;
 
-fn write_lines(dice: &mut Dice, count: usize, output: &mut dyn Write) -> io::Result<()> {
-    let lines = Lines::new(Manner::Plain);
+const USAGE: &str = "histories SEED COUNT mild|hostile|lines|settings|queries|faulty
+histories SEED COUNT long BYTES";
+
+/// What is written.
+enum Kind {
+    Mild,
+    Hostile,
+    Lines,
+    Settings,
+    Queries,
+    Faulty,
+    Long(usize),
+}
+
+fn read_kind(arguments: &[String]) -> Option<Kind> {
+    let words: Vec<&str> = arguments.iter().map(String::as_str).collect();
+    match words[..] {
+        ["mild"] => Some(Kind::Mild),
+        ["hostile"] => Some(Kind::Hostile),
+        ["lines"] => Some(Kind::Lines),
+        ["settings"] => Some(Kind::Settings),
+        ["queries"] => Some(Kind::Queries),
+        ["faulty"] => Some(Kind::Faulty),
+        ["long", bytes] => Some(Kind::Long(bytes.parse().ok()?)),
+        _ => None,
+    }
+}
+
+fn write_lines(
+    count: usize,
+    output: &mut dyn Write,
+    mut line: impl FnMut() -> Vec<u8>,
+) -> io::Result<()> {
     for _ in 0..count {
-        let mut line = if dice.chance(10) {
-            lines.faulty(dice)
-        } else {
-            lines.good(dice)
-        };
+        let mut line = line();
         line.push(b'\n');
         output.write_all(&line)?;
     }
     Ok(())
 }
 
-fn run(seed: u64, count: usize, kind: &str) -> io::Result<bool> {
+/// Settings and queries, a tenth of the lines faulty.
+fn mixed(dice: &mut Dice, lines: &Lines) -> Vec<u8> {
+    if dice.chance(10) {
+        lines.faulty(dice)
+    } else {
+        lines.good(dice)
+    }
+}
+
+fn run(seed: u64, count: usize, kind: Kind) -> io::Result<()> {
     let mut output = BufWriter::new(io::stdout().lock());
     let mut dice = Dice::new(seed);
+    let plain = Lines::new(Manner::Plain);
+    let settings = Lines::of(Units::Settings);
+    let queries = Lines::of(Units::Queries);
+    let both = Lines::of(Units::SettingsAndTheirQueries);
     match kind {
-        "mild" => mild::write(&mut Script::new(dice, &mut output), count)?,
-        "hostile" => hostile::write(&mut Script::new(dice, &mut output), count)?,
-        "lines" => write_lines(&mut dice, count, &mut output)?,
-        _ => return Ok(false),
+        Kind::Mild => mild::write(&mut Script::new(dice, &mut output), count)?,
+        Kind::Hostile => hostile::write(&mut Script::new(dice, &mut output), count)?,
+        Kind::Lines => write_lines(count, &mut output, || mixed(&mut dice, &plain))?,
+        Kind::Settings => write_lines(count, &mut output, || settings.good(&mut dice))?,
+        Kind::Queries => write_lines(count, &mut output, || queries.good(&mut dice))?,
+        Kind::Faulty => write_lines(count, &mut output, || plain.always_faulty(&mut dice))?,
+        Kind::Long(bytes) => write_lines(count, &mut output, || both.long(&mut dice, bytes))?,
     }
-    output.flush()?;
-    Ok(true)
+    output.flush()
 }
 
 fn main() -> ExitCode {
     let arguments: Vec<String> = env::args().skip(1).collect();
     let wanted = match &arguments[..] {
-        [seed, count, kind] => match (seed.parse(), count.parse()) {
-            (Ok(seed), Ok(count)) => Some((seed, count, kind)),
+        [seed, count, kind @ ..] => match (seed.parse(), count.parse(), read_kind(kind)) {
+            (Ok(seed), Ok(count), Some(kind)) => Some((seed, count, kind)),
             _ => None,
         },
         _ => None,
     };
     match wanted.map(|(seed, count, kind)| run(seed, count, kind)) {
-        Some(Ok(true)) => ExitCode::SUCCESS,
+        Some(Ok(())) => ExitCode::SUCCESS,
         Some(Err(_)) => ExitCode::FAILURE,
-        _ => {
-            eprintln!("histories SEED COUNT mild|hostile|lines");
+        None => {
+            eprintln!("{USAGE}");
             ExitCode::FAILURE
         }
     }

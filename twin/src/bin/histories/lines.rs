@@ -13,12 +13,29 @@ pub enum Manner {
     Varied,
 }
 
+/// Which units the lines are made of.
+#[derive(Clone, Copy, PartialEq, Eq)]
+pub enum Units {
+    /// Every row in each of its forms.
+    Any,
+    /// The settings' setting forms.
+    Settings,
+    /// Every row's query.
+    Queries,
+    /// The settings' setting forms and queries.
+    SettingsAndTheirQueries,
+}
+
 /// The voltage's place among the settings.
 const VOLTAGE: usize = 4;
 
 pub struct Lines {
     manner: Manner,
+    units: Units,
 }
+
+/// How many of 01's headers are settings; they come first.
+const SETTINGS_OF_01: usize = 16;
 
 static PLAIN_BOOLS: [&str; 7] = ["ON", "OFF", "0", "1", "on", "0.4", "-1"];
 
@@ -44,8 +61,10 @@ static VARIED_BOOLS: [&str; 18] = [
     "000.50",
 ];
 
-/// Units that are refused wherever they stand. Only `:VOLT 5V` is good since #101; it stays, for the
-/// same lines at every request.
+/// Good since #101, and kept among the faulty units for the same lines at every request.
+const GOOD_SINCE_101: &str = ":VOLT 5V";
+
+/// Units that are refused wherever they stand, but for one.
 static FAULTY_UNITS: [&str; 72] = [
     "VOLTA 5",
     ":VOLTA?",
@@ -102,7 +121,7 @@ static FAULTY_UNITS: [&str; 72] = [
     ":OUTP MIN",
     ":VOLT MIN MAX",
     ":VOLT INF",
-    ":VOLT 5V",
+    GOOD_SINCE_101,
     ":VOLT 1E",
     ":VOLT 1 2",
     ":VOLT 1.2.3",
@@ -147,7 +166,18 @@ static FAULTY_SUFFIXES: [&str; 20] = [
 
 impl Lines {
     pub fn new(manner: Manner) -> Lines {
-        Lines { manner }
+        Lines {
+            manner,
+            units: Units::Any,
+        }
+    }
+
+    /// Plain lines of these units only.
+    pub fn of(units: Units) -> Lines {
+        Lines {
+            manner: Manner::Plain,
+            units,
+        }
     }
 
     /// A line whose units are all good in form; only -221, -222 by range and -430 may befall it.
@@ -172,12 +202,41 @@ impl Lines {
         } else {
             dice.pick(&FAULTY_UNITS)
         };
+        self.line_with(dice, fault)
+    }
+
+    /// A line that is refused somewhere.
+    pub fn always_faulty(&self, dice: &mut Dice) -> Vec<u8> {
+        loop {
+            let fault = dice.pick(&FAULTY_UNITS);
+            if fault != GOOD_SINCE_101 {
+                return self.line_with(dice, fault);
+            }
+        }
+    }
+
+    /// The faulty unit alone, or behind or before a good line.
+    fn line_with(&self, dice: &mut Dice, fault: &str) -> Vec<u8> {
         match dice.below(4) {
             // An empty unit needs another beside it, or the line is blank.
             0 => [&self.good(dice)[..], b";", fault.as_bytes()].concat(),
             1 => [fault.as_bytes(), b";", &self.good(dice)[..]].concat(),
             _ if fault.is_empty() => b";".to_vec(),
             _ => fault.as_bytes().to_vec(),
+        }
+    }
+
+    /// A line of about so many bytes, and no more if one unit fits.
+    pub fn long(&self, dice: &mut Dice, length: usize) -> Vec<u8> {
+        let mut path = Vec::new();
+        let mut line = self.unit(dice, &mut path);
+        loop {
+            let unit = self.unit(dice, &mut path);
+            if line.len() + 1 + unit.len() > length {
+                return line.into_bytes();
+            }
+            line.push(';');
+            line.push_str(&unit);
         }
     }
 
@@ -201,7 +260,7 @@ impl Lines {
     fn unit(&self, dice: &mut Dice, path: &mut Vec<&'static str>) -> String {
         let (written, printed) = self.choose(dice, path);
         let header = write_header(dice, &written, path);
-        let query = asks(dice, printed.2);
+        let query = self.asks(dice, printed.2);
         let mark = if query { "?" } else { "" };
         let unit = match self.parameter(dice, printed, query) {
             None => format!("{header}{mark}"),
@@ -219,6 +278,9 @@ impl Lines {
         let mut tries = 8;
         loop {
             let printed = self.any_header(dice);
+            if self.units == Units::Queries && printed.2 == Use::CommandOnly {
+                continue;
+            }
             let nodes = nodes(printed.1).into_iter();
             let kept = nodes.filter(|&(_, optional)| !optional || dice.chance(40));
             let written: Vec<&str> = kept.map(|(node, _)| node).collect();
@@ -233,15 +295,28 @@ impl Lines {
         if self.manner == Manner::Varied && dice.chance(20) {
             return dice.pick(&HEADERS[OF_01..]);
         }
+        if matches!(self.units, Units::Settings | Units::SettingsAndTheirQueries) {
+            return HEADERS[dice.below(SETTINGS_OF_01)];
+        }
         // The settings come twice as often as the rest.
-        let most = dice.pick(&[16, OF_01]);
+        let most = dice.pick(&[SETTINGS_OF_01, OF_01]);
         HEADERS[dice.below(most)]
+    }
+
+    fn asks(&self, dice: &mut Dice, takes: Use) -> bool {
+        match (self.units, takes) {
+            (Units::Settings, _) | (_, Use::CommandOnly) => false,
+            (Units::Queries, _) | (_, Use::QueryOnly) => true,
+            _ => dice.chance(45),
+        }
     }
 
     fn parameter(&self, dice: &mut Dice, printed: Printed, query: bool) -> Option<String> {
         let (place, _, takes) = printed;
+        // Where no unit is to be refused, no MAX may bring the voltage above R12V's limit.
+        let takes_limits = query || place != Some(VOLTAGE) || self.units == Units::Any;
         match takes {
-            Use::Number(..) if dice.chance(if query { 20 } else { 10 }) => {
+            Use::Number(..) if takes_limits && dice.chance(if query { 20 } else { 10 }) => {
                 let limit = dice.pick(&["MINimum", "MAXimum"]);
                 Some(spell(dice, limit))
             }
@@ -276,14 +351,6 @@ impl Lines {
         } else {
             " "
         }
-    }
-}
-
-fn asks(dice: &mut Dice, takes: Use) -> bool {
-    match takes {
-        Use::QueryOnly => true,
-        Use::CommandOnly => false,
-        _ => dice.chance(45),
     }
 }
 
