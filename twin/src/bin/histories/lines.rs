@@ -140,7 +140,7 @@ static FAULTY_UNITS: [&str; 72] = [
     "*SRE 256",
 ];
 
-/// Units whose suffix is refused wherever they stand (02, #101).
+/// Units that are refused for or despite their suffix (02, #101), one of them in R12V only.
 static FAULTY_SUFFIXES: [&str; 20] = [
     ":VOLT 5A",
     ":VOLT 5 s",
