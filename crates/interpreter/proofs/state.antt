@@ -1,3 +1,4 @@
 pub mod Records
 pub mod Events
 pub mod Unique
+pub mod Takes
