@@ -151,7 +151,7 @@ pub raise-fit : (n k : ℕ) (b : Box) → known n ≡ true → Fit k b → Fit k
 raise-fit n k b e f = fit k _ _ (f .core) (raised-good (b .trouble) (f .trouble) n e)
 
 -- the answer dropped
-dropped-fit : (k m : ℕ) (b : Box) → Fit k b → Fit m (answerIs [] b)
+pub dropped-fit : (k m : ℕ) (b : Box) → Fit k b → Fit m (answerIs [] b)
 dropped-fit k m b f = fit m _ _ (fit-answer k (b .core) (f .core) m [] zero-le) (f .trouble)
 
 pub refuse-fit : (n : ℕ) (b : Box) → known n ≡ true → Fit running b → Fit running (refuse n b)

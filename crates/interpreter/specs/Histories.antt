@@ -3,7 +3,9 @@ use mathlib.Core.Path.{_≡_}
 use mathlib.Core.Bool.{Bool, true, false, not}
 use mathlib.Core.List.{List, [], _∷_, _++_, map}
 use Prim.Native.Nat.{ℕ, suc, _+_}
-use Rattle.registers.specs.Text.{if_then_else_}
+use lib.Dec.{eqb}
+use lib.ListN as L
+use Rattle.registers.specs.Text.{Text, if_then_else_}
 use Rattle.interpreter.specs.Box.{Box}
 use Rattle.interpreter.specs.Events.{Event, started, received, take, condition, look, Result, happens}
 
@@ -75,3 +77,19 @@ summed (r ∷ rs) = r .value + summed rs
 
 abbrev pub counted : Box → List Event → ℕ
 counted b es = summed (resultsOf isPiece b es)
+
+-- ---- the bytes of a history
+
+-- all that its pieces bring
+unfoldable pub sent : List Event → Text
+sent [] = []
+sent (started ∷ es) = sent es
+sent (received xs ∷ es) = xs ++ sent es
+sent (take buffer ∷ es) = sent es
+sent (condition x n ∷ es) = sent es
+sent (look ∷ es) = sent es
+
+-- all that its takes copied, one answer behind the other; a refused take copies nothing
+unfoldable pub copied : List Result → Text
+copied [] = []
+copied (r ∷ rs) = (if eqb (r .number) 0 then L.take (r .value) (r .buffer) else []) ++ copied rs

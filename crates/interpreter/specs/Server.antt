@@ -8,7 +8,7 @@ use lib.ListN.{length, take, drop}
 use Rattle.registers.specs.Text.{Text, if_then_else_, empty}
 use Rattle.interpreter.specs.Cuts.{joinFirst}
 use Rattle.interpreter.specs.Box.{Box, answerIs, mostAnswer}
-use Rattle.interpreter.specs.Events.{Happened, happens, received, take as takes}
+use Rattle.interpreter.specs.Events.{Event, Happened, happens, received, take as takes}
 use Rattle.interpreter.specs.State.{boxOf, possibleState}
 use Rattle.interpreter.specs.declared.state.State.{State}
 
@@ -53,11 +53,40 @@ unfoldable pub heard : Box → List Text → Box
 heard b [] = b
 heard b (line ∷ more) = heard (heardLine b line) more
 
+-- the first n bytes end where a line does
+abbrev pub WholeLines : ℕ → Text → Type 0
+WholeLines n t = linesOf t ≡ linesOf (take n t) ++ linesOf (drop n t)
+
+-- ---- the same as lists of events
+
+-- further events, behind a take into the lent bytes if an answer waits
+abbrev pub takingFirst : Box → Text → List Event → List Event
+takingFirst b room es = if empty (b .core .answer) then es else takes room ∷ es
+
+-- those of a chunk: each line is received, and an answer that then waits is taken into the rest of the output
+unfoldable pub eventsOf : Service → List Text → List Event
+eventsOf s [] = []
+eventsOf s (line ∷ more) =
+    if leb mostAnswer (length (s .rest))
+    then received line ∷ takingFirst (happens (s .box) (received line) .box) (s .rest) (eventsOf (servedLine s line) more)
+    else []
+
+-- those of lines heard, with the same bytes lent to every take
+unfoldable pub hearing : Text → Box → List Text → List Event
+hearing room b [] = []
+hearing room b (line ∷ more) = received line ∷ takingFirst (happens b (received line) .box) room (hearing room (heardLine b line) more)
+
+-- ---- what the function says
+
+-- how a chunk begins
+abbrev pub begun : State → Text → Service
+begun s output = service (boxOf s) 0 [] output
+
 -- a chunk on a state s: the refusal's number, the bytes read and written, the state t, and the output left
 pub record Serves (s : State) (input output : Text) (number read written : ℕ) (t : State) (left : Text) : Type 0 where
   pub possible : possibleState s ≡ true
       → (possibleState t ≡ true)
       × (number ≡ 0)
       × (written ≤ length left)
-      × (service (boxOf t) read (take written left) (drop written left) ≡ serves (service (boxOf s) 0 [] output) (linesOf input))
+      × (service (boxOf t) read (take written left) (drop written left) ≡ serves (begun s output) (linesOf input))
   pub impossible : possibleState s ≡ false → (t ≡ s) × (number ≡ 4) × (read ≡ 0) × (written ≡ 0) × (left ≡ output)

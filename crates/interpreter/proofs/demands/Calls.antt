@@ -1,11 +1,16 @@
 -- Calls of the public functions make a history of the definition: what the demands say of histories they say of the code.
 use mathlib.Core.Path.{_≡_, refl, sym, ap, ap₂, _∙_}
-use mathlib.Core.Bool.{true, true≢false}
+use mathlib.Core.Bool.{Bool, true, false, true≢false}
 use mathlib.Core.List.{List, [], _∷_, _++_}
-use Rattle.interpreter.specs.Box.{Box}
-use Rattle.interpreter.specs.Events.{Event, started, received, take, condition, look, Result, result, Happened, happens, after, results}
+use Prim.Native.Nat.{ℕ, _+_}
+use lib.Dec.{leb}
+use lib.ListN.{length}
+use Rattle.registers.specs.Text.{Text, if_then_else_, empty}
+use Rattle.interpreter.specs.Box.{Box, mostAnswer}
+use Rattle.interpreter.specs.Events.{Event, started, received, take as takes, condition, look, Result, result, Happened, happens, after, results}
 use Rattle.interpreter.specs.State.{boxOf, possibleState, admitted, Happens, Started}
-use Rattle.interpreter.specs.Calls.{Call, event, Calls, done, call, History}
+use Rattle.interpreter.specs.Server.{linesOf, Service, service, tookBehind, servedLine, serves, takingFirst, eventsOf, begun, Serves}
+use Rattle.interpreter.specs.Calls.{Call, event, chunk, Calls, done, call, History}
 use Rattle.interpreter.specs.declared.state.State.{State}
 use Rattle.interpreter.proofs.demands.Pieces.{after-append}
 
@@ -13,7 +18,7 @@ use Rattle.interpreter.proofs.demands.Pieces.{after-append}
 pub admits : (s : State) (e : Event) → possibleState s ≡ true → admitted s e ≡ true
 admits s started p = refl
 admits s (received xs) p = p
-admits s (take buffer) p = p
+admits s (takes buffer) p = p
 admits s (condition x n) p = p
 admits s look p = p
 
@@ -22,6 +27,40 @@ pub power-up-happens : (s t : State) → Started t → Happens s started (result
 unfolding happens
 power-up-happens s t h =
     record { possible = λ _. (h .possible, ap (λ (b : Box). record { result = result 0 0 []; box = b }) (h .first)); impossible = λ n. absurd (true≢false n) }
+
+-- ---- the events of a chunk lead to where the chunk does
+
+line-after : (v : Service) (l : Text) (es : List Event)
+    → after (v .box) (received l ∷ takingFirst (happens (v .box) (received l) .box) (v .rest) es) ≡ after (servedLine v l .box) es
+unfolding servedLine after if_then_else_
+line-after v l es = go (empty (happens (v .box) (received l) .box .core .answer))
+  where
+    now : Box
+    now = happens (v .box) (received l) .box
+
+    go : (t : Bool) → after now (if t then es else takes (v .rest) ∷ es)
+        ≡ after ((if t then service now (v .read + length l) (v .answers) (v .rest) else tookBehind (v .read + length l) (v .answers) (happens now (takes (v .rest)))) .box) es
+    go true = refl
+    go false = refl
+
+serves-after : (v : Service) (ls : List Text) → serves v ls .box ≡ after (v .box) (eventsOf v ls)
+unfolding serves eventsOf after if_then_else_
+serves-after v [] = refl
+serves-after v (l ∷ ls) = go (leb mostAnswer (length (v .rest))) (serves-after (servedLine v l) ls)
+  where
+    go : (t : Bool) → serves (servedLine v l) ls .box ≡ after (servedLine v l .box) (eventsOf (servedLine v l) ls)
+        → (if t then serves (servedLine v l) ls else v) .box
+        ≡ after (v .box) (if t then received l ∷ takingFirst (happens (v .box) (received l) .box) (v .rest) (eventsOf (servedLine v l) ls) else [])
+    go true more = more ∙ sym (line-after v l (eventsOf (servedLine v l) ls))
+    go false more = refl
+
+-- a chunk on a state that could be the box's leaves what its events leave
+pub chunk-after : (s t : State) (input output left : Text) (number read written : ℕ) → Serves s input output number read written t left
+    → possibleState s ≡ true → boxOf t ≡ after (boxOf s) (eventsOf (begun s output) (linesOf input))
+chunk-after s t input output left number read written w p =
+    ap (λ (v : Service). v .box) (w .possible p .3) ∙ serves-after (begun s output) (linesOf input)
+
+-- ---- calls
 
 results-append : (b : Box) (es fs : List Event) → results b (es ++ fs) ≡ results b es ++ results (after b es) fs
 unfolding results after
@@ -40,6 +79,8 @@ event-history s t e r p h =
 
 call-history : (s t : State) (es : List Event) (rs : List Result) → possibleState s ≡ true → Call s t es rs → History s t es rs
 call-history s t _ _ p (event {e = e} {r = r} h) = event-history s t e r (admits s e p) h
+call-history s t _ _ p (chunk {input = input} {output = output} {left = left} {number = number} {read = read} {written = written} w) =
+    record { possible = w .possible p .0; box = chunk-after s t input output left number read written w p; results = refl }
 
 -- one history behind another
 then-history : (s u t : State) (es fs : List Event) (rs qs : List Result) → History s u es rs → History u t fs qs → History s t (es ++ fs) (rs ++ qs)

@@ -29,8 +29,8 @@ use Rattle.interpreter.specs.UnitParts.{Allowed, AllowedChange}
 use Rattle.interpreter.specs.Deeds.{blockedChange, blocked, changed, afterQuery, reply, perform}
 use Rattle.interpreter.specs.Line.{Obeyed, attempt, refuse, next, runUnits, unitsOf, interrupted, finished, runLine, endLine, atNewline, held, byte, piece}
 use Rattle.interpreter.specs.Events.{Event, started, received, take, condition, look, Happened, Result, taken, reported, happens, after}
-use Rattle.interpreter.specs.State.{boxOf, admitted, Happens}
-use Rattle.interpreter.specs.Calls.{Call, event, Calls, done, call}
+use Rattle.interpreter.specs.State.{boxOf, possibleState, admitted, Happens}
+use Rattle.interpreter.specs.Calls.{Call, event, chunk, Calls, done, call}
 use Rattle.interpreter.specs.Lock.{leavesKey, Held, InHistories, InCalls, LockHolds}
 use Rattle.interpreter.specs.declared.deed.Deed.{Deed}
 use Rattle.interpreter.specs.declared.deed.Deed.the-variants.{Change, Complete, Clear, Query, Inquire}
@@ -39,6 +39,7 @@ use Rattle.interpreter.specs.declared.deed.Change.the-variants.{Nothing,
 use Rattle.interpreter.specs.declared.deed.Query as queries
 use Rattle.interpreter.specs.declared.deed.Query.the-variants.{Identity, SelfTest, Completed, Limit, Value, Stored, Condition, SetEvents}
 use Rattle.interpreter.specs.declared.state.State.{State}
+use Rattle.interpreter.proofs.demands.Calls.{chunk-after}
 use Rattle.interpreter.proofs.Choices.{if-elim}
 use Rattle.interpreter.proofs.unit.Checks.{Holds, passes, hold-bind, hold-check, holds-from}
 use Rattle.interpreter.proofs.unit.Allowed.{read-allowed, read-known}
@@ -206,6 +207,11 @@ module _ (s : Settings) where
 
   call-held : (a t : State) (es : List Event) (rs : List Result) → Call a t es rs → every leavesKey es ≡ true → HeldBox (boxOf a) → HeldBox (boxOf t)
   call-held a t _ _ (event {e = e} {r = r} p) k h = happens-held a t e r p (and-both (leavesKey e) true k .0) h
+  call-held a t es _ (chunk {input = input} {output = output} {left = left} {number = number} {read = read} {written = written} w) k h = go (possibleState a) refl
+    where
+      go : (b : Bool) → possibleState a ≡ b → HeldBox (boxOf t)
+      go true q = subst HeldBox (sym (chunk-after a t input output left number read written w q)) (history-held (boxOf a) es k h)
+      go false q = subst (λ (x : State). HeldBox (boxOf x)) (sym (w .impossible q .0)) h
 
   calls-held : (a t : State) (es : List Event) (rs : List Result) → Calls t a es rs → every leavesKey es ≡ true → HeldBox (boxOf a) → HeldBox (boxOf t)
   calls-held a t _ _ done k h = h

@@ -2,39 +2,22 @@
 use mathlib.Core.Path.{_≡_, refl, ap}
 use mathlib.Core.Bool.{true}
 use mathlib.Core.List.{List, [], _∷_}
-use Prim.Native.Nat.{ℕ, suc, _+_, _≤_, _<_}
+use Prim.Native.Nat.{ℕ, _+_, _≤_, _<_}
 use native.Mathlib.Nat.{le-refl}
 use native.Mathlib.Omega.{arith}
-use lib.Dec.{eqb, leb}
+use lib.Dec.{leb}
 use lib.ListN.{length, drop}
 use Rattle.registers.specs.Text.{Text, empty}
-use Rattle.interpreter.specs.Cuts.{joinFirst}
 use Rattle.interpreter.specs.Box.{mostAnswer}
 use Rattle.interpreter.specs.Events.{happens, received}
-use Rattle.interpreter.specs.State.{boxOf, possibleState}
+use Rattle.interpreter.specs.State.{possibleState}
 use Rattle.interpreter.specs.FlowParts.{firstLine}
-use Rattle.interpreter.specs.Server.{linesOf, Service, service, servedLine, serves, Serves}
+use Rattle.interpreter.specs.Server.{linesOf, Service, servedLine, serves, begun, Serves}
 use Rattle.interpreter.specs.declared.state.State.{State}
 use Rattle.interpreter.proofs.Choices.{if-elim}
 use Rattle.interpreter.proofs.flow.Laws.{first-some}
 use Rattle.interpreter.proofs.server.Laws.{lines-first, serves-on}
-
--- how many bytes lines have together
-abbrev pub total : List Text → ℕ
-total [] = 0
-total (l ∷ ls) = length l + total ls
-
-joined-total : (b : ℕ) (ls : List Text) → total (joinFirst b ls) ≡ suc (total ls)
-joined-total b [] = omega arith
-joined-total b (l ∷ ls) = omega arith
-
-lines-total : (t : Text) → total (linesOf t) ≡ length t
-unfolding linesOf
-lines-total [] = refl
-lines-total (x ∷ xs) =
-    let more = lines-total xs in
-    let joined = joined-total x (linesOf xs) in
-    if-elim (λ (ls : List Text). total ls ≡ suc (length xs)) (eqb x 10) (λ _. omega arith) (λ _. omega arith)
+use Rattle.interpreter.proofs.server.Bytes.{total, lines-total}
 
 pub line-read : (s : Service) (l : Text) → servedLine s l .read ≡ s .read + length l
 unfolding servedLine
@@ -52,18 +35,15 @@ serves-read s (l ∷ ls) =
 
 module _ (s t : State) (input output left : Text) (number read written : ℕ) (w : Serves s input output number read written t left)
     (p : possibleState s ≡ true) where
-  abbrev begun : Service
-  begun = service (boxOf s) 0 [] output
-
-  is : read ≡ serves begun (linesOf input) .read
+  is : read ≡ serves (begun s output) (linesOf input) .read
   is = ap (λ (v : Service). v .read) (w .possible p .3)
 
   pub reads-within : read ≤ length input
-  reads-within = let most = serves-read begun (linesOf input) .1 in let all = lines-total input in rw is (omega (arith, most, all))
+  reads-within = let most = serves-read (begun s output) (linesOf input) .1 in let all = lines-total input in rw is (omega (arith, most, all))
 
   pub reads-some : mostAnswer ≤ length output → 0 < length input → 0 < read
   reads-some room some =
       let l = firstLine input in
       let more = linesOf (drop (length l) input) in
-      rw (is, lines-first input some, serves-on begun l more room)
-      (omega (arith, serves-read (servedLine begun l) more .0, line-read begun l, first-some input some))
+      rw (is, lines-first input some, serves-on (begun s output) l more room)
+      (omega (arith, serves-read (servedLine (begun s output) l) more .0, line-read (begun s output) l, first-some input some))

@@ -1,97 +1,222 @@
--- A chunk served in parts: what was read was heard, and hearing what was left leads to where hearing the whole does.
-use mathlib.Core.Path.{_≡_, refl, sym, _∙_, ap}
-use mathlib.Core.Bool.{true, false}
-use mathlib.Core.List.{List, [], _∷_, _++_, nil≢cons, head-eq-of-cons-eq, tail-eq-of-cons-eq}
+-- A chunk served: its first lines were heard, by pieces and takes that were not refused. Lines heard are a history, and however the
+-- bytes are cut into chunks they lead to the same box.
+use mathlib.Core.Path.{_≡_, refl, sym, _∙_, ap, subst}
+use mathlib.Core.Bool.{Bool, true, false}
+use mathlib.Core.List.{List, [], _∷_, _++_, append-assoc, append-nil, flatten}
 use Prim.Native.Nat.{ℕ, _+_, _≤_}
 use native.Mathlib.Omega.{arith}
-use lib.Dec.{leb}
-use lib.ListN.{length, take, drop}
-use lib.Seq.{drop-drop}
+use lib.Dec.{eqb, leb, ltb}
+use lib.ListN as L
+use lib.ListN.{length, drop}
 use borrow.Author.Tests.{leb-true, le-leb}
 use Rattle.registers.specs.Text.{Text, if_then_else_, empty}
 use Rattle.registers.specs.Settings.{count}
-use Rattle.interpreter.specs.Box.{Box, answerIs, mostAnswer}
-use Rattle.interpreter.specs.Events.{happens, taken, received, take as takes}
+use Rattle.registers.proofs.Tests.{and-true}
+use Rattle.interpreter.specs.Cuts.{joinFirst}
+use Rattle.interpreter.specs.Box.{Core, Box, answerIs, mostLine, mostAnswer}
+use Rattle.interpreter.specs.Line.{held, byte, piece}
+use Rattle.interpreter.specs.Events.{Event, received, take as takes, result, Happened, happened, happens, taken, after, results}
 use Rattle.interpreter.specs.State.{boxOf, possibleState}
-use Rattle.interpreter.specs.FlowParts.{firstLine}
-use Rattle.interpreter.specs.Server.{linesOf, Service, service, servedLine, serves, Serves, heardLine, heard}
+use Rattle.interpreter.specs.Histories.{resultsOf, answers, sent, copied}
+use Rattle.interpreter.specs.Server.{linesOf, Service, service, tookBehind, servedLine, serves, heardLine, heard, WholeLines, takingFirst, eventsOf, hearing, begun, Serves}
+use Rattle.interpreter.specs.Calls.{Brings, ChunkHistory}
 use Rattle.interpreter.specs.declared.state.State.{State}
 use Rattle.interpreter.proofs.Choices.{if-elim}
 use Rattle.interpreter.proofs.Lists.{is-empty}
-use Rattle.interpreter.proofs.Possible.{Fit, event-fit, fit-from}
+use Rattle.interpreter.proofs.Possible.{Fit, dropped-fit, event-fit, fit-from}
 use Rattle.interpreter.proofs.state.Records.{box-from}
-use Rattle.interpreter.proofs.server.Laws.{lines-first}
 use Rattle.interpreter.proofs.server.Chunks.{line-fits, serves-fit}
-use Rattle.interpreter.proofs.server.Headway.{total, line-read}
+use Rattle.interpreter.proofs.server.Headway.{line-read}
+use Rattle.interpreter.proofs.server.Bytes.{total, first-bytes, first-lines, first-whole}
+
+-- what these answers and those of further events are together
+abbrev Follows : Service → List Event → Text → Type 0
+Follows v es said = v .answers ++ copied (answers (v .box) es) ≡ said
 
 -- ---- one line
 
-taken-whole : (b : Box) (buffer : Text) → empty (b .core .answer) ≡ false → length (b .core .answer) ≤ length buffer
-    → happens b (takes buffer) .box ≡ answerIs [] b
+-- a take that has room for the answer
+taken-whole : (b : Box) (room : Text) → empty (b .core .answer) ≡ false → length (b .core .answer) ≤ length room
+    → happens b (takes room) ≡ happened (result 0 (length (b .core .answer)) (b .core .answer ++ drop (length (b .core .answer)) room)) (answerIs [] b)
 unfolding happens taken if_then_else_
-taken-whole b buffer e h = rw (e, le-leb (length (b .core .answer)) (length buffer) h)
+taken-whole b room e h = rw (e, le-leb (length (b .core .answer)) (length room) h)
 
-line-heard : (v : Service) (l : Text) → Fit mostAnswer (v .box) → mostAnswer ≤ length (v .rest) → servedLine v l .box ≡ heardLine (v .box) l
-unfolding servedLine
-line-heard v l f room =
-    let b = happens (v .box) (received l) .box in
-    let few = event-fit (v .box) (received l) f .core .answer in
-    if-elim (λ (u : Service). u .box ≡ answerIs [] b) (empty (b .core .answer))
-    (λ e. ap (λ (a : Text). answerIs a b) (is-empty (b .core .answer) e)) (λ e. taken-whole b (v .rest) e (omega arith))
+no-answer : (b : Box) → b .core .answer ≡ [] → answerIs [] b ≡ b
+no-answer b e = ap (λ (a : Text). answerIs a b) (sym e)
+
+-- the events of a line bring its bytes, and lead to where the line was heard
+module _ (b : Box) (l room : Text) (f : Fit mostAnswer b) (long : mostAnswer ≤ length room) where
+  abbrev come : Box
+  come = happens b (received l) .box
+
+  whole : empty (come .core .answer) ≡ false
+      → happens come (takes room)
+      ≡ happened (result 0 (length (come .core .answer)) (come .core .answer ++ drop (length (come .core .answer)) room)) (heardLine b l)
+  whole e = let few = event-fit b (received l) f .core .answer in taken-whole come room e (omega arith)
+
+  line-brings : (text : Text) (c : Box) (es : List Event) → Brings text (heardLine b l) c es → Brings (l ++ text) b c (received l ∷ takingFirst come room es)
+  unfolding happens after results sent if_then_else_
+  line-brings text c es m = go (empty (come .core .answer)) refl
+    where
+      go : (t : Bool) → empty (come .core .answer) ≡ t → Brings (l ++ text) b c (received l ∷ (if t then es else takes room ∷ es))
+      go true e =
+          let n = subst (λ (y : Box). Brings text y c es) (no-answer come (is-empty (come .core .answer) e)) m in
+          record { only = n .only; accepted = n .accepted; bytes = ap (λ (t : Text). l ++ t) (n .bytes); box = n .box }
+      go false e =
+          let h = whole e in
+          let n = subst (λ (y : Box). Brings text y c es) (sym (ap (λ (y : Happened). y .box) h)) m in
+          record {
+            only = and-true (le-leb mostAnswer (length room) long) (n .only);
+            accepted = and-true (ap (λ (y : Happened). eqb (y .result .number) 0) h) (n .accepted);
+            bytes = ap (λ (t : Text). l ++ t) (n .bytes);
+            box = n .box;
+          }
+
+module _ (v : Service) (l : Text) (f : Fit mostAnswer (v .box)) (room : mostAnswer ≤ length (v .rest)) where
+  abbrev now : Box
+  now = happens (v .box) (received l) .box
+
+  line-heard : servedLine v l .box ≡ heardLine (v .box) l
+  unfolding servedLine
+  line-heard =
+      if-elim (λ (u : Service). u .box ≡ heardLine (v .box) l) (empty (now .core .answer))
+      (λ e. sym (no-answer now (is-empty (now .core .answer) e))) (λ e. ap (λ (h : Happened). h .box) (whole (v .box) l (v .rest) f room e))
+
+  -- what the line's take copied stands behind the answers before it
+  line-answers : (es : List Event) (said : Text) → Follows (servedLine v l) es said → Follows v (received l ∷ takingFirst now (v .rest) es) said
+  unfolding servedLine happens resultsOf copied if_then_else_
+  line-answers es said = go (empty (now .core .answer)) refl
+    where
+      h : Happened
+      h = happens now (takes (v .rest))
+
+      go : (t : Bool) → empty (now .core .answer) ≡ t
+          → Follows (if t then service now (v .read + length l) (v .answers) (v .rest) else tookBehind (v .read + length l) (v .answers) h) es said
+          → Follows v (received l ∷ (if t then es else takes (v .rest) ∷ es)) said
+      go true e m = m
+      go false e m =
+          let n : h .result .number ≡ 0 = ap (λ (y : Happened). y .result .number) (whole (v .box) l (v .rest) f room e) in
+          rw (n, ← append-assoc) m
 
 -- ---- lines: those that were served, and those that were left
 
-record Split (v : Service) (ls : List Text) (u : Service) : Type 0 where
+record Goes (v : Service) (ls : List Text) (es : List Event) (u : Service) : Type 0 where
   done : List Text
   rest : List Text
   is : ls ≡ done ++ rest
   read : u .read ≡ v .read + total done
-  hears : heard (u .box) rest ≡ heard (v .box) ls
+  hears : u .box ≡ heard (v .box) done
+  events : Brings (flatten done) (v .box) (u .box) es
+  answers : Follows v es (u .answers)
 
-serves-split : (v : Service) (ls : List Text) → Fit mostAnswer (v .box) → Split v ls (serves v ls)
-unfolding serves heard
-serves-split v [] f = record { done = []; rest = []; is = refl; read = omega arith; hears = refl }
-serves-split v (l ∷ ls) f =
-    let m = serves-split (servedLine v l) ls (line-fits v l f) in
-    if-elim (λ (u : Service). Split v (l ∷ ls) u) (leb mostAnswer (length (v .rest)))
-    (λ e. record {
-      done = l ∷ m .done;
-      rest = m .rest;
-      is = ap (λ (ks : List Text). l ∷ ks) (m .is);
-      read = omega (arith, m .read, line-read v l);
-      hears = m .hears ∙ ap (λ (b : Box). heard b ls) (line-heard v l f (leb-true mostAnswer (length (v .rest)) e));
-    })
-    (λ _. record { done = []; rest = l ∷ ls; is = refl; read = omega arith; hears = refl })
+none-left : (v : Service) (ls : List Text) → Goes v ls [] v
+unfolding heard flatten after results sent resultsOf copied
+none-left v ls =
+    record {
+      done = [];
+      rest = ls;
+      is = refl;
+      read = omega arith;
+      hears = refl;
+      events = record { only = refl; accepted = refl; bytes = refl; box = refl };
+      answers = append-nil (v .answers);
+    }
 
-lines-behind : (done rest : List Text) (t : Text) → linesOf t ≡ done ++ rest → linesOf (drop (total done) t) ≡ rest
-unfolding linesOf
-lines-behind [] rest t e = e
-lines-behind (d ∷ done) rest [] e = absurd (nil≢cons e)
-lines-behind (d ∷ done) rest (x ∷ xs) e =
-    let t = x ∷ xs in
-    let both = sym (lines-first t (omega arith)) ∙ e in
-    let more = lines-behind done rest (drop (length (firstLine t)) t) (tail-eq-of-cons-eq both) in
-    rw (← head-eq-of-cons-eq both, ← drop-drop (total done) (length (firstLine t)) t) more
+goes : (v : Service) (ls : List Text) → Fit mostAnswer (v .box) → Goes v ls (eventsOf v ls) (serves v ls)
+unfolding serves eventsOf heard flatten if_then_else_
+goes v [] f = none-left v []
+goes v (l ∷ ls) f = go (leb mostAnswer (length (v .rest))) refl (goes (servedLine v l) ls (line-fits v l f))
+  where
+    es : List Event
+    es = eventsOf (servedLine v l) ls
+
+    u : Service
+    u = serves (servedLine v l) ls
+
+    go : (t : Bool) → leb mostAnswer (length (v .rest)) ≡ t → Goes (servedLine v l) ls es u
+        → Goes v (l ∷ ls) (if t then received l ∷ takingFirst (happens (v .box) (received l) .box) (v .rest) es else []) (if t then u else v)
+    go false e m = none-left v (l ∷ ls)
+    go true e m =
+        let room = leb-true mostAnswer (length (v .rest)) e in
+        let here = line-heard v l f room in
+        record {
+          done = l ∷ m .done;
+          rest = m .rest;
+          is = ap (λ (ks : List Text). l ∷ ks) (m .is);
+          read = omega (arith, m .read, line-read v l);
+          hears = m .hears ∙ ap (λ (b : Box). heard b (m .done)) here;
+          events = line-brings (v .box) l (v .rest) f room (flatten (m .done)) (u .box) es (subst (λ (b : Box). Brings (flatten (m .done)) b (u .box) es) here (m .events));
+          answers = line-answers v l f room es (u .answers) (m .answers);
+        }
 
 -- ---- a chunk
 
 module _ (s t : State) (input output left : Text) (number read written : ℕ) (w : Serves s input output number read written t left)
     (p : possibleState s ≡ true) (long : length (s .settings .values) ≡ count) where
-  abbrev begun : Service
-  begun = service (boxOf s) 0 [] output
-
   fits : Fit mostAnswer (boxOf s)
   fits = fit-from (boxOf s) long (box-from s p)
 
-  is : service (boxOf t) read (take written left) (drop written left) ≡ serves begun (linesOf input)
+  is : service (boxOf t) read (L.take written left) (drop written left) ≡ serves (begun s output) (linesOf input)
   is = w .possible p .3
 
-  pub left-long : length (t .settings .values) ≡ count
-  left-long = rw (ap (λ (v : Service). v .box .core .settings) is) (serves-fit begun (linesOf input) fits .core .long)
+  went : Goes (begun s output) (linesOf input) (eventsOf (begun s output) (linesOf input)) (service (boxOf t) read (L.take written left) (drop written left))
+  went = rw is (goes (begun s output) (linesOf input) fits)
 
-  pub left-heard : heard (boxOf t) (linesOf (drop read input)) ≡ heard (boxOf s) (linesOf input)
-  left-heard =
-      let m = serves-split begun (linesOf input) fits in
-      let box = ap (λ (v : Service). v .box) is in
-      let n : read ≡ total (m .done) = omega (arith, ap (λ (v : Service). v .read) is, m .read) in
-      rw (n, lines-behind (m .done) (m .rest) input (m .is), box) (m .hears)
+  n : read ≡ total (went .done)
+  n = omega (arith, went .read)
+
+  pub left-long : length (t .settings .values) ≡ count
+  left-long = rw (ap (λ (v : Service). v .box .core .settings) is) (serves-fit (begun s output) (linesOf input) fits .core .long)
+
+  -- what was read was heard, in whole lines
+  pub part-heard : WholeLines read input × (boxOf t ≡ heard (boxOf s) (linesOf (L.take read input)))
+  part-heard =
+      (rw n (first-whole input (went .done) (went .rest) (went .is)), rw (n, first-lines input (went .done) (went .rest) (went .is)) (went .hears))
+
+  -- a call is a history of pieces and takes: what it answers and leaves is what those events answer and leave
+  pub serves-history : ChunkHistory s t input left read written (eventsOf (begun s output) (linesOf input))
+  serves-history =
+      record { events = rw (n, first-bytes input (went .done) (went .rest) (went .is)) (went .events); answers = went .answers }
+
+-- ---- lines heard
+
+pub heard-append : (b : Box) (ks ls : List Text) → heard b (ks ++ ls) ≡ heard (heard b ks) ls
+unfolding heard
+heard-append b [] ls = refl
+heard-append b (k ∷ ks) ls = heard-append (heardLine b k) ks ls
+
+-- they are a history too, whatever bytes are lent to its takes
+pub heard-history : (room : Text) → mostAnswer ≤ length room → (b : Box) (ls : List Text) → Fit mostAnswer b
+    → Brings (flatten ls) b (heard b ls) (hearing room b ls)
+unfolding heard hearing flatten after results sent
+heard-history room long b [] f = record { only = refl; accepted = refl; bytes = refl; box = refl }
+heard-history room long b (l ∷ ls) f =
+    let g = dropped-fit mostAnswer mostAnswer (happens b (received l) .box) (event-fit b (received l) f) in
+    line-brings b l room f long (flatten ls) _ _ (heard-history room long (heardLine b l) ls g)
+
+-- ---- however the bytes are cut: where no answer waits, chunks heard one after the other are heard as one
+
+plain-answer : (b : Box) (x : ℕ) → eqb x 10 ≡ false → byte b x .core .answer ≡ b .core .answer
+unfolding byte held if_then_else_
+plain-answer b x e =
+    rw e (if-elim (λ (c : Core). c .answer ≡ b .core .answer) (ltb (length (b .core .line)) mostLine) (λ _. refl) (λ _. refl))
+
+joined-heard : (b : Box) (x : ℕ) (ls : List Text) → byte b x .core .answer ≡ [] → heard b (joinFirst x ls) ≡ heard (byte b x) ls
+unfolding heard happens piece
+joined-heard b x [] e = no-answer (byte b x) e
+joined-heard b x (l ∷ ls) e = refl
+
+pub heard-on : (xs ys : Text) (b : Box) → b .core .answer ≡ [] → heard b (linesOf (xs ++ ys)) ≡ heard (heard b (linesOf xs)) (linesOf ys)
+unfolding linesOf heard if_then_else_
+heard-on [] ys b e = refl
+heard-on (x ∷ xs) ys b e = go (eqb x 10) refl (λ c k. heard-on xs ys c k)
+  where
+    go : (t : Bool) → eqb x 10 ≡ t → ((c : Box) → c .core .answer ≡ [] → heard c (linesOf (xs ++ ys)) ≡ heard (heard c (linesOf xs)) (linesOf ys))
+        → heard b (if t then (x ∷ []) ∷ linesOf (xs ++ ys) else joinFirst x (linesOf (xs ++ ys)))
+        ≡ heard (heard b (if t then (x ∷ []) ∷ linesOf xs else joinFirst x (linesOf xs))) (linesOf ys)
+    go true q more = more (heardLine b (x ∷ [])) refl
+    go false q more =
+        let none = plain-answer b x q ∙ e in
+        joined-heard b x (linesOf (xs ++ ys)) none
+        ∙ more (byte b x) none
+        ∙ ap (λ (c : Box). heard c (linesOf ys)) (sym (joined-heard b x (linesOf xs) none))
