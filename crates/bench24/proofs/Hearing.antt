@@ -1,41 +1,45 @@
--- The loop over what was read: a part of it is served, then the rest.
+-- What was read is heard part by part, and what one read after another gave is heard as one. What was heard since power-up is a history.
 use mathlib.Core.Path.{_≡_, refl, _∙_}
-use mathlib.Core.Bool.{Bool, false, true, false≢true}
+use mathlib.Core.Bool.{true, false, false≢true}
+use mathlib.Core.List.{[], _++_}
 use Prim.Native.Nat.{ℕ, _+_, _-_, _≤_, _<_, zero-le}
 use native.Mathlib.Omega.{arith}
-use lib.ListN.{length, take, drop, length-drop, drop-of-length-le}
-use lib.Seq.{drop-drop}
+use lib.ListN.{length, take, drop, length-drop}
 use Rattle.registers.specs.Text.{Text}
 use Rattle.registers.specs.Settings.{count}
-use Rattle.interpreter.specs.Box.{mostAnswer}
-use Rattle.interpreter.specs.State.{boxOf, possibleState}
-use Rattle.interpreter.specs.Server.{linesOf, heard, Serves}
+use Rattle.interpreter.specs.Box.{powerUp, mostAnswer}
+use Rattle.interpreter.specs.State.{boxOf, possibleState, Started}
+use Rattle.interpreter.specs.Server.{linesOf, WholeLines, heard, hearing, Serves}
+use Rattle.interpreter.specs.Calls.{Brings}
 use Rattle.interpreter.specs.declared.state.State.{State}
 use Rattle.interpreter.proofs.Lists.{rest-is}
+use Rattle.interpreter.proofs.Possible.{power-up-fit}
+use Rattle.interpreter.proofs.server.Bytes.{lines-whole, whole-further}
 use Rattle.interpreter.proofs.server.Headway.{reads-within, reads-some}
-use Rattle.interpreter.proofs.server.Heard.{left-long, left-heard}
-use Rattle.bench24.specs.Heard.{HeardAll}
+use Rattle.interpreter.proofs.server.Heard.{left-long, part-heard, heard-append, heard-on, heard-history}
+use Rattle.bench24.specs.Heard.{HeardPart, HeardSince}
 use Rattle.bench24.specs.declared.Bench.{Bench}
 
-abbrev pub bench-of : State → Bool → Bench
-bench-of s serving = record { state = s; serving = serving }
+-- ---- what was read: a part of it is served, then the rest
 
--- what was not read yet leads to where the whole does
-pub record Hearing (start : Bench) (room : ℕ) (input output : Text) (bench : Bench) (at : ℕ) : Type 0 where
+-- what was served so far was heard
+pub record Hearing (start : State) (room : ℕ) (input output : Text) (state : State) (at : ℕ) : Type 0 where
   pub outputs : length output ≡ room
   pub within : at ≤ length input
-  pub possible : possibleState (bench .state) ≡ true
-  pub long : length (bench .state .settings .values) ≡ count
-  pub left : heard (boxOf (bench .state)) (linesOf (drop at input)) ≡ heard (boxOf (start .state)) (linesOf input)
+  pub possible : possibleState state ≡ true
+  pub long : length (state .settings .values) ≡ count
+  pub whole : WholeLines at input
+  pub box : boxOf state ≡ heard (boxOf start) (linesOf (take at input))
 
-pub hear-begun : (start : Bench) (input output : Text) → possibleState (start .state) ≡ true → length (start .state .settings .values) ≡ count
+pub hear-begun : (start : State) (input output : Text) → possibleState start ≡ true → length (start .settings .values) ≡ count
     → Hearing start (length output) input output start 0
-hear-begun start input output p long = record { outputs = refl; within = zero-le; possible = p; long = long; left = refl }
+unfolding linesOf heard
+hear-begun start input output p long = record { outputs = refl; within = zero-le; possible = p; long = long; whole = refl; box = refl }
 
-module _ (start bench : Bench) (room at : ℕ) (input output : Text) (g : Hearing start room input output bench at)
+module _ (start state : State) (room at : ℕ) (input output : Text) (g : Hearing start room input output state at)
     (t : State) (number read written : ℕ) (outputs′ : Text)
-    (w : Serves (bench .state) (take (length input - at) (drop at input)) output number read written t outputs′) where
-  served : Serves (bench .state) (drop at input) output number read written t outputs′
+    (w : Serves state (take (length input - at) (drop at input)) output number read written t outputs′) where
+  served : Serves state (drop at input) output number read written t outputs′
   served = rw (rest-is input at (g .within)) at w
 
   pub read-within : at + read ≤ length input
@@ -54,25 +58,67 @@ module _ (start bench : Bench) (room at : ℕ) (input output : Text) (g : Hearin
   pub wrote-within : written ≤ length outputs′
   wrote-within = served .possible (g .possible) .2
 
-  still : possibleState t ≡ true
-  still = served .possible (g .possible) .0
-
-  pub hear-on : length outputs′ ≡ length output → (serving : Bool) → Hearing start room input outputs′ (bench-of t serving) (at + read)
-  hear-on same serving =
+  pub hear-on : length outputs′ ≡ length output → Hearing start room input outputs′ t (at + read)
+  hear-on same =
+      let part = part-heard _ _ _ _ _ _ _ _ served (g .possible) (g .long) in
+      let further = whole-further input at read read-within (g .whole) (part .0) in
       record {
         outputs = same ∙ g .outputs;
         within = read-within;
-        possible = still;
+        possible = served .possible (g .possible) .0;
         long = left-long _ _ _ _ _ _ _ _ served (g .possible) (g .long);
-        left = rw (← drop-drop read at input) (left-heard _ _ _ _ _ _ _ _ served (g .possible) (g .long) ∙ g .left);
+        whole = further .0;
+        box = rw (further .1, heard-append (boxOf start) (linesOf (take at input)) (linesOf (take read (drop at input))), ← g .box) (part .1);
       }
 
-  -- a write failed
-  pub hear-stop : HeardAll start input (bench-of t false)
-  hear-stop = record { possible = still; whole = λ e. absurd (false≢true e) }
+-- a write failed, or all was heard
+module _ (start state : State) (room at : ℕ) (input output : Text) (g : Hearing start room input output state at) where
+  pub hear-stop : 0 < at → HeardPart start input (record { state = state; serving = false })
+  hear-stop some =
+      record {
+        possible = g .possible;
+        bytes = at;
+        within = g .within;
+        whole = g .whole;
+        box = g .box;
+        some = λ _. some;
+        all = λ e. absurd (false≢true e);
+      }
 
-pub hear-end : (start bench : Bench) (room at : ℕ) (input output : Text) → Hearing start room input output bench at → length input ≤ at
-    → HeardAll start input bench
+  pub hear-end : length input ≤ at → HeardPart start input (record { state = state; serving = true })
+  hear-end h =
+      let k = g .within in
+      record {
+        possible = g .possible;
+        bytes = at;
+        within = k;
+        whole = g .whole;
+        box = g .box;
+        some = λ some. omega arith;
+        all = λ _. omega arith;
+      }
+
+-- ---- reads one after the other
+
+pub since-begun : (s : State) → Started s → HeardSince s
 unfolding linesOf heard
-hear-end start bench room at input output g h =
-    record { possible = g .possible; whole = λ _. rw (drop-of-length-le input h) at (g .left) }
+since-begun s w = record { possible = w .possible; bytes = []; box = w .first }
+
+quiet-start : powerUp .core .answer ≡ []
+unfolding powerUp
+quiet-start = refl
+
+pub since-on : (s : State) (input : Text) (r : Bench) → HeardSince s → HeardPart s input r → HeardSince (r .state)
+since-on s input r h w =
+    let more = take (w .bytes) input in
+    record {
+      possible = w .possible;
+      bytes = h .bytes ++ more;
+      box = w .box ∙ rw (h .box, heard-on (h .bytes) more powerUp quiet-start);
+    }
+
+-- what the program has heard since power-up is a history, whatever bytes are lent to its takes: so the demands speak of the program
+pub a-history : (s : State) (h : HeardSince s) (room : Text) → mostAnswer ≤ length room
+    → Brings (h .bytes) powerUp (boxOf s) (hearing room powerUp (linesOf (h .bytes)))
+a-history s h room long =
+    rw (h .box) (rw (lines-whole (h .bytes)) at (heard-history room long powerUp (linesOf (h .bytes)) power-up-fit))

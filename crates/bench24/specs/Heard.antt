@@ -1,13 +1,29 @@
--- "A program over it reads lines from standard input and writes each answer": what the program does with the bytes of one read.
+-- "A program over it reads lines from standard input and writes each answer": what the program has heard of one read, and since power-up.
+-- No contract can say which bytes the system read or wrote: the kit's read promises nothing of the bytes, its write nothing of its answer.
 use mathlib.Core.Path.{_≡_}
 use mathlib.Core.Bool.{true}
+use Prim.Native.Nat.{ℕ, _≤_, _<_}
+use lib.ListN.{length, take}
 use Rattle.registers.specs.Text.{Text}
+use Rattle.interpreter.specs.Box.{powerUp}
 use Rattle.interpreter.specs.State.{boxOf, possibleState}
-use Rattle.interpreter.specs.Server.{linesOf, heard}
+use Rattle.interpreter.specs.Server.{linesOf, WholeLines, heard}
+use Rattle.interpreter.specs.declared.state.State.{State}
 use Rattle.bench24.specs.declared.Bench.{Bench}
 
--- where the bench still serves, every line was received and its answer taken. A bench that closed says nothing of its lines: that it
--- closes only after a failed write is read off the code, since the kit's write promises nothing of its answer
-pub record HeardAll (start : Bench) (input : Text) (r : Bench) : Type 0 where
+-- of what was read a first part was heard, in whole lines: each line was received once and in order, and an answer that then waited was
+-- taken. The part is never empty, and it is all that was read where the bench still serves
+pub record HeardPart (start : State) (input : Text) (r : Bench) : Type 0 where
   pub possible : possibleState (r .state) ≡ true
-  pub whole : r .serving ≡ true → boxOf (r .state) ≡ heard (boxOf (start .state)) (linesOf input)
+  pub bytes : ℕ
+  pub within : bytes ≤ length input
+  pub whole : WholeLines bytes input
+  pub box : boxOf (r .state) ≡ heard (boxOf start) (linesOf (take bytes input))
+  pub some : 0 < length input → 0 < bytes
+  pub all : r .serving ≡ true → bytes ≡ length input
+
+-- since power-up the lines of some bytes were heard, however reads cut them
+pub record HeardSince (r : State) : Type 0 where
+  pub possible : possibleState r ≡ true
+  pub bytes : Text
+  pub box : boxOf r ≡ heard powerUp (linesOf bytes)

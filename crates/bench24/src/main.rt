@@ -6,10 +6,12 @@
 // What was read is served at once, so a pipe that waits for an answer gets it, and a long file goes
 // through 64 KB at a time. The first write that fails ends the run.
 //
-// The contracts say that nothing goes wrong, that every run ends, and that what was read was served
-// to its end where the bench still serves. That only a failed write, or the input's end, closes it is
-// to be read below: the kit's write promises nothing of its answer. What is written is what
-// `server::serve` says.
+// The contracts say that nothing goes wrong and that every run ends; that of what was read a first part
+// was heard, in whole lines, never an empty one, and all of it where the bench still serves; and that
+// what was heard since power-up are the lines of some bytes, each once and in order. No contract can
+// say which bytes the system read or wrote. That what was served is written, and that only the input's
+// end or a failed write ends the run, is to be read below: the kit's write promises nothing of its
+// answer, and its read nothing of the bytes.
 use interpreter::server;
 use interpreter::state::State;
 ghost use mathlib.Core.Path.{_≡_};
@@ -18,71 +20,65 @@ ghost use Prim.Native.Nat.{_≤_};
 ghost use lib.ListN.{length};
 ghost use Rattle.interpreter.specs.Box.{mostAnswer};
 ghost use Rattle.interpreter.specs.State.{possibleState};
-ghost use Rattle.bench24.specs.Heard.{HeardAll};
+ghost use Rattle.bench24.specs.Heard.{HeardPart, HeardSince};
 
+// The box behind what was heard, and whether it still serves.
 struct Bench {
     state: State,
     serving: bool,
 }
 
-// Serves what was read, a full output at a time.
-fn serve_all(start: Bench, input: &[u8], output: &mut [u8]) -> Bench
-    requires { ⌜ (possibleState (start .state) ≡ true) × (mostAnswer ≤ length (now output)) ⌝ }
-    ensures { λ r. ⌜ HeardAll start (now (input .entry)) r ⌝ }
+// Serves what was read, a full output at a time. A write that fails closes the bench.
+fn serve_all(start: State, input: &[u8], output: &mut [u8]) -> Bench
+    requires { ⌜ (possibleState start ≡ true) × (mostAnswer ≤ length (now output)) ⌝ }
+    ensures { λ r. ⌜ HeardPart start (now (input .entry)) r ⌝ }
 {
-    let mut bench = start;
+    let mut state = start;
     let mut at: usize = 0;
     while at < input.len() {
-        let served = server::serve(bench.state, &input[at..], output);
-        let next = served.state;
+        let served = server::serve(state, &input[at..], output);
         let end = served.written;
-        bench.state = next;
+        state = served.state;
         at += served.read;
         if !io::write_all(libc::STDOUT_FILENO, &output[0..end]) {
-            bench.serving = false;
-            return bench;
+            return Bench {
+                state,
+                serving: false,
+            };
         }
     }
-    bench
-}
-
-// One read. At the input's end, or where it can't be read, the bench is closed.
-fn serve_some(mut bench: Bench, input: &mut [u8], output: &mut [u8]) -> Bench
-    requires { ⌜ (possibleState (bench .state) ≡ true) × (mostAnswer ≤ length (now output)) ⌝ }
-    ensures { λ r. ⌜ possibleState (r .state) ≡ true ⌝ }
-{
-    let got = libc::read(libc::STDIN_FILENO, input);
-    let n = io::count(got, input);
-    if n == 0 {
-        bench.serving = false;
-        return bench;
+    Bench {
+        state,
+        serving: true,
     }
-    serve_all(bench, &input[0..n], output)
 }
 
-// Serves until the bench is closed. A proved loop has to end, so it counts its turns down, from a
-// number that no run uses up.
-fn run(start: Bench, input: &mut [u8], output: &mut [u8])
-    requires { ⌜ (possibleState (start .state) ≡ true) × (mostAnswer ≤ length (now output)) ⌝ }
+// Serves from power-up until the input ends, or can't be read, or the bench is closed. A proved loop has
+// to end, so it counts its turns down, from a number that no run uses up.
+fn run(input: &mut [u8], output: &mut [u8]) -> State
+    requires { ⌜ mostAnswer ≤ length (now output) ⌝ }
+    ensures { λ r. ⌜ HeardSince r ⌝ }
 {
-    let mut bench = start;
+    let mut state = State::power_up();
     let mut turns = u64::MAX;
     while turns > 0 {
         turns -= 1;
-        bench = serve_some(bench, input, output);
+        let got = libc::read(libc::STDIN_FILENO, input);
+        let n = io::count(got, input);
+        if n == 0 {
+            return state;
+        }
+        let bench = serve_all(state, &input[0..n], output);
+        state = bench.state;
         if !bench.serving {
-            return;
+            return state;
         }
     }
+    state
 }
 
 fn main() {
     let mut input = io::large_buffer();
     let mut output = io::large_buffer();
-    let state = State::power_up();
-    let start = Bench {
-        state,
-        serving: true,
-    };
-    run(start, &mut input, &mut output);
+    run(&mut input, &mut output);
 }

@@ -8,10 +8,10 @@ use Rattle.bench24.proofs.serve_all.Statement.{statement}
 use Rattle.bench24.proofs.serve_all.Tie as tie
 
 abbrev Inv-loop : tie.InvT-loop
-Inv-loop input output₀ bench₀ at₀ output bench at = Hearing bench₀ (length output₀) input output bench at
+Inv-loop input output₀ state₀ at₀ output state at = Hearing state₀ (length output₀) input output state at
 
 abbrev μ-loop : tie.MeasureT-loop
-μ-loop input output₀ bench₀ at₀ output bench at = length input - at
+μ-loop input output₀ state₀ at₀ output state at = length input - at
 
 -- where the loop stands as a part is served
 abbrev loop-at : tie.After-serve Inv-loop μ-loop → tie.At-loop Inv-loop μ-loop
@@ -62,7 +62,10 @@ same-length c =
 returns : tie.Need-returns Inv-loop μ-loop
 returns c =
     let v = c .before .before .before .before .before .before .before .before in
-    hear-stop _ _ _ _ _ _ (loop-at v .loop .inv) _ _ _ _ _ (v .serve .ensures)
+    let g = loop-at v .loop .inv in
+    let more = v .before .before .before .loop-test .taken in
+    let some = read-some _ _ _ _ _ _ g _ _ _ _ _ (v .serve .ensures) (loop-at v .before .before .before .pre .1) more in
+    hear-stop _ _ _ _ _ _ (hear-on _ _ _ _ _ _ g _ _ _ _ _ (v .serve .ensures) (v .serve .kept .1 .1 .0)) (omega arith)
 
 loop-less : tie.Need-loop-less Inv-loop μ-loop
 loop-less c =
@@ -76,7 +79,7 @@ loop-less c =
 loop-again : tie.Need-loop-again Inv-loop μ-loop
 loop-again c =
     let v = c .before .before .before .before .before .before .before .before in
-    hear-on _ _ _ _ _ _ (loop-at v .loop .inv) _ _ _ _ _ (v .serve .ensures) (v .serve .kept .1 .1 .0) _
+    hear-on _ _ _ _ _ _ (loop-at v .loop .inv) _ _ _ _ _ (v .serve .ensures) (v .serve .kept .1 .1 .0)
 
 same-length-2 : tie.Need-same-length-2 Inv-loop μ-loop
 same-length-2 c = c .before .loop .inv .outputs
