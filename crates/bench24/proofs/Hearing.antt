@@ -1,6 +1,6 @@
 -- What was read is heard part by part, and what one read after another gave is heard as one. What was heard since power-up is a history.
 use mathlib.Core.Path.{_≡_, refl, _∙_}
-use mathlib.Core.Bool.{true, false, false≢true}
+use mathlib.Core.Bool.{Bool, true, false, false≢true}
 use mathlib.Core.List.{[], _++_}
 use Prim.Native.Nat.{ℕ, _+_, _-_, _≤_, _<_, zero-le}
 use native.Mathlib.Omega.{arith}
@@ -85,8 +85,8 @@ module _ (start state : State) (room at : ℕ) (input output : Text) (g : Hearin
         all = λ e. absurd (false≢true e);
       }
 
-  pub hear-end : length input ≤ at → HeardPart start input (record { state = state; serving = true })
-  hear-end h =
+  pub hear-end : length input ≤ at → (serving : Bool) → HeardPart start input (record { state = state; serving = serving })
+  hear-end h serving =
       let k = g .within in
       record {
         possible = g .possible;

@@ -85,7 +85,7 @@ same-length-2 : tie.Need-same-length-2 Inv-loop μ-loop
 same-length-2 c = c .before .loop .inv .outputs
 
 returns-2 : tie.Need-returns-2 Inv-loop μ-loop
-returns-2 c = hear-end _ _ _ _ _ _ (c .before .loop .inv) (c .loop-test .left)
+returns-2 c = hear-end _ _ _ _ _ _ (c .before .loop .inv) (c .loop-test .left) _
 
 pub serve-all-spec : {M : Type 1} → statement M
 serve-all-spec =
