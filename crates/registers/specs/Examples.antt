@@ -24,8 +24,6 @@ use Rattle.registers.specs.Status.{registersOf, troubleOf, withoutBit6, 
 use Rattle.registers.specs.declared.error.Error.{Error}
 use Rattle.registers.specs.declared.error.Error.the-variants.{Syntax, DataOutOfRange, InputBufferOverrun, QueryUnterminated}
 use Rattle.registers.specs.declared.number.Decimal.{Decimal}
-use Rattle.registers.specs.declared.rounding.Fit.{Fit}
-use Rattle.registers.specs.declared.rounding.Fit.the-variants.{Within, Outside}
 use Rattle.registers.specs.declared.rounding.Side.{Side}
 use Rattle.registers.specs.declared.rounding.Side.the-variants.{On, Below, Above}
 use Rattle.registers.specs.declared.settings.Settings.{Settings}
@@ -54,12 +52,11 @@ data Example : Type 0 where
   value : String → Bool → ℕ → ℕ → ℕ → Example  -- a number: is its sign a minus, its digits, its powers of ten up and down
   wrong : ℕ → List String → Example  -- an error, and texts that check 6 refuses by it for a row without a quantity
   switch : String → Bool → Example  -- a number given for a bool: is it on
-  rounds : String → ℕ → ℤ → ℤ → Fit → Example  -- a number, how many steps make one, the limits in steps, and what check 7 says
+  rounds : String → ℕ → ℤ → ℤ → Checked ℤ → Example  -- a number, how many steps make one, the limits in steps, and what check 7 says
   rests : String → ℕ → Side → Example  -- a number, how many steps make one, and how the exact value stands to the rounded one
   exams : String → ℤ → Side → Bool → Example  -- a header and the value stored for it at *RST: does a number on that side then pass
   sets : String → String → String → Example  -- a header, a number given for it at *RST, and what the header then answers
-  outside : String → String → Example  -- a header, and a number given for it at *RST: -222
-  refuses : String → ℕ → List String → Example  -- a header, an error, and texts that check 6 refuses by it
+  refuses : String → ℕ → List String → Example  -- a header, an error, and texts that check 6 or 7 refuses by it at *RST
   limits : String → String → String → String → Example  -- a header's lowest, highest and own value at *RST, as answers
   answers : List (String × ℤ) → String → String → Example  -- values stored by header from *RST on, and what a header then answers
   lays : String → String → String → Example  -- a text, a lent tail, and that tail with the text in it
@@ -110,15 +107,15 @@ examples =
     ∷ sets "VOLT" "5e3mv" "5.0"
     ∷ sets "VOLT" "7250mV" "7.3"
     ∷ sets "VOLT" "7249.9 Mv" "7.2"
-    ∷ outside "VOLT" "12050 MV"
+    ∷ refuses "VOLT" 222 ("12050 MV" ∷ [])
     ∷ sets "FREQ" "60HZ" "60.0"
     ∷ sets "FREQ" "0.06 KHZ" "60.0"
     ∷ sets "FREQ" "6E-5 MHZ" "60.0"
-    ∷ outside "FREQ" "60 MHZ"
+    ∷ refuses "FREQ" 222 ("60 MHZ" ∷ [])
     ∷ sets "CURR:LIM:RMS" "1.5A" "1.5"
     ∷ sets "CURR:LIM:PEAK:HIGH" "750ma" "0.8"
     ∷ sets "CURR:LIM:PEAK:LOW" "-450 MA" "-0.5"
-    ∷ outside "CURR:LIM:PEAK:LOW" "-449.9 MA"
+    ∷ refuses "CURR:LIM:PEAK:LOW" 222 ("-449.9 MA" ∷ [])
     ∷ sets "CURR:LIM:RMS:TIME" "2.5 s" "3"
     ∷ sets "CURR:LIM:PEAK:TIME" "2S" "2"
     ∷ refuses "VOLT" 131 ("5A" ∷ "5V2" ∷ "5E" ∷ "5 V V" ∷ "5KV" ∷ "5VM" ∷ "1E10A" ∷ "5VOLT" ∷ [])
@@ -137,13 +134,13 @@ examples =
     ∷ switch "-1" true
     ∷ switch "-0" false
     -- check 7: rounded to the step, halves away from zero, and only then compared
-    ∷ rounds "2.5" 1 (minus 9) (pos 9) (Within (pos 3))
-    ∷ rounds "2.49999999999" 1 (minus 9) (pos 9) (Within (pos 2))
-    ∷ rounds "-2.5" 1 (minus 9) (pos 9) (Within (minus 3))
-    ∷ rounds "-0.4" 1 (minus 9) (pos 9) (Within (pos 0))
-    ∷ rounds "123456789012E9" 1 (minus 9) (pos 9) Outside
-    ∷ rounds "255.4" 1 (pos 0) (pos 255) (Within (pos 255))
-    ∷ rounds "255.5" 1 (pos 0) (pos 255) Outside
+    ∷ rounds "2.5" 1 (minus 9) (pos 9) (passed (pos 3))
+    ∷ rounds "2.49999999999" 1 (minus 9) (pos 9) (passed (pos 2))
+    ∷ rounds "-2.5" 1 (minus 9) (pos 9) (passed (minus 3))
+    ∷ rounds "-0.4" 1 (minus 9) (pos 9) (passed (pos 0))
+    ∷ rounds "123456789012E9" 1 (minus 9) (pos 9) (refused 222)
+    ∷ rounds "255.4" 1 (pos 0) (pos 255) (passed (pos 255))
+    ∷ rounds "255.5" 1 (pos 0) (pos 255) (refused 222)
     -- what was rounded off: the exact value against the rounded one, which is below zero with it
     ∷ rests "5.10" 10 On
     ∷ rests "5.05" 10 Below
@@ -169,19 +166,19 @@ examples =
     ∷ sets "VOLT" "7.25" "7.3"
     ∷ sets "VOLT" "7.2499" "7.2"
     ∷ sets "VOLT" "12.04" "12.0"
-    ∷ outside "VOLT" "12.05"
+    ∷ refuses "VOLT" 222 ("12.05" ∷ [])
     ∷ sets "VOLT" "-0.04" "0.0"
-    ∷ outside "VOLT" "-0.05"
+    ∷ refuses "VOLT" 222 ("-0.05" ∷ [])
     ∷ sets "CURR:LIM:PEAK:LOW" "-0.45" "-0.5"
-    ∷ outside "CURR:LIM:PEAK:LOW" "-0.44"
+    ∷ refuses "CURR:LIM:PEAK:LOW" 222 ("-0.44" ∷ [])
     ∷ sets "CURR:LIM:PEAK:LOW" "-8.04" "-8.0"
-    ∷ outside "CURR:LIM:PEAK:LOW" "-8.05"
+    ∷ refuses "CURR:LIM:PEAK:LOW" 222 ("-8.05" ∷ [])
     ∷ sets "FREQ" "39.95" "40.0"
-    ∷ outside "FREQ" "39.94"
+    ∷ refuses "FREQ" 222 ("39.94" ∷ [])
     ∷ sets "CURR:LIM:RMS:TIME" "0.5" "1"
-    ∷ outside "CURR:LIM:RMS:TIME" "0.4"
+    ∷ refuses "CURR:LIM:RMS:TIME" 222 ("0.4" ∷ [])
     ∷ sets "DISP:BRIG" "99.4" "99"
-    ∷ outside "DISP:BRIG" "99.5"
+    ∷ refuses "DISP:BRIG" 222 ("99.5" ∷ [])
     -- the seventeen settings: lowest and highest value, and the one at *RST
     ∷ limits "OUTP" "0" "1" "0"
     ∷ limits "OUTP:PON" "0" "1" "0"
@@ -311,11 +308,9 @@ fails n (passed a) = false
 alike : Bool → Bool → Bool
 alike a b = if a then b else not b
 
-sameFit : Fit → Fit → Bool
-sameFit (Within a) (Within b) = leZ a b && leZ b a
-sameFit (Within a) Outside = false
-sameFit Outside (Within b) = false
-sameFit Outside Outside = true
+sameFit : Checked ℤ → Checked ℤ → Bool
+sameFit (passed a) m = passes (λ (b : ℤ). leZ a b && leZ b a) m
+sameFit (refused n) m = fails n m
 
 sameSide : Side → Side → Bool
 sameSide On On = true
@@ -342,8 +337,8 @@ row : String → ℕ
 row header = rowIn table (code ":" ∷ bytes header)
 
 -- checks 6 and 7 on a number
-fit : Quantity → ℕ → ℤ → ℤ → String → Checked Fit
-fit q k low high t = number q (bytes t) >>= λ d. passed (fitted k low high d)
+fit : Quantity → ℕ → ℤ → ℤ → String → Checked ℤ
+fit q k low high t = number q (bytes t) >>= fitted k low high
 
 -- on a number given for a row
 stepsOf : Kind → ℕ
@@ -351,15 +346,11 @@ stepsOf bool = 1
 stepsOf (words ws) = 1
 stepsOf (steps k low high) = k
 
-given : ℕ → String → Checked Fit
+given : ℕ → String → Checked ℤ
 given i t = fit (quantityOf i) (stepsOf (kindOf i)) (lowest i) (highest atReset i) t
 
 answered : ℕ → String → ℤ → Bool
 answered i answer v = same (answerOf (kindOf i) v) (bytes answer)
-
-answeredFit : ℕ → String → Fit → Bool
-answeredFit i answer (Within v) = answered i answer v
-answeredFit i answer Outside = false
 
 storedAll : List (String × ℤ) → Settings → Settings
 storedAll [] s = s
@@ -384,11 +375,10 @@ holds (value t m n up down) =
     passes (λ (d : Decimal). alike (d .minus) m && (eqb (d .digits) n && (eqb (d .up) up && eqb (d .down) down))) (number Nothing (bytes t))
 holds (wrong n ts) = every (λ (t : String). fails n (number Nothing (bytes t))) ts
 holds (switch t on) = passes (λ (d : Decimal). alike (switchedOn d) on) (number Nothing (bytes t))
-holds (rounds t k low high r) = passes (sameFit r) (fit Nothing k low high t)
+holds (rounds t k low high r) = sameFit r (fit Nothing k low high t)
 holds (rests t k x) = passes (λ (d : Decimal). sameSide (sideIn k d) x) (number Nothing (bytes t))
 holds (exams h v x on) = alike (accepted (stored (row h) v atReset) x) on
-holds (sets h t answer) = passes (answeredFit (row h) answer) (given (row h) t)
-holds (outside h t) = passes (sameFit Outside) (given (row h) t)
+holds (sets h t answer) = passes (answered (row h) answer) (given (row h) t)
 holds (refuses h n ts) = every (λ (t : String). fails n (given (row h) t)) ts
 holds (limits h low high reset) =
     answered (row h) low (lowest (row h))
@@ -405,7 +395,7 @@ holds (locks xs on) = alike (locked (registersOf (stepsFrom atStart xs))) on
 holds (possible s on) = alike (possibleStatus s) on
 
 all-hold : T (every holds examples)
-unfolding examples passes fails alike sameFit sameSide fit stepsOf shortest rowIn row given answered answeredFit storedAll step stepsFrom holds
+unfolding examples passes fails alike sameFit sameSide fit stepsOf shortest rowIn row given answered storedAll step stepsFrom holds
     if_then_else_ bytes white digit small letter capital same _>>=_ _>>_ check shortForm inPlaces decimal tenths over
     eventBit messages messageIn errorText queueable known
     afterSign fractionOf afterFraction exponentOf afterExponent lowering written numeralFrom decimalOf valueOf scaled suffixes noSuffix powerIn remains number switchedOn

@@ -1,11 +1,13 @@
 -- Check 7: "The exact decimal value is rounded to the row's step, halves away from zero, and only then compared". And
 -- what was rounded off: "whether the exact value was on the step, below or above it" (02, #107).
+use mathlib.Core.Path.{_≡_}
 use mathlib.Core.Bool.{Bool, true, false, not, _&&_}
 use Prim.Native.Nat.{ℕ, _+_, _*_, _/_, _^_}
 use lib.Dec.{eqb, ltb}
-use lib.IntN.{ℤ, pos, negℤ}
-use lib.Signed.{leZ}
+use lib.IntN.{ℤ, pos, negℤ, _*ℤ_}
+use lib.Signed.{leZ, ltZ}
 use Rattle.registers.specs.Text.{if_then_else_}
+use Rattle.registers.specs.Check.{Checked, refused, passed, _>>_, check}
 use Rattle.registers.specs.declared.number.Decimal.{Decimal}
 use Rattle.registers.specs.declared.rounding.Fit.{Fit}
 use Rattle.registers.specs.declared.rounding.Fit.the-variants.{Within, Outside}
@@ -29,9 +31,16 @@ sizeIn k d = nearest (d .digits * 10 ^ d .up * k) (10 ^ d .down)
 unfoldable pub rounded : ℕ → Decimal → ℤ
 rounded k d = signed (d .minus) (sizeIn k d)
 
--- rounded, and only then compared with the lowest and the highest value; `Outside` is -222
-unfoldable pub fitted : ℕ → ℤ → ℤ → Decimal → Fit
-fitted k low high d = if leZ low (rounded k d) && leZ (rounded k d) high then Within (rounded k d) else Outside
+-- the exact value in steps of which k make one, and a whole number of steps, both times the value's denominator
+abbrev pub exactly : ℕ → Decimal → ℤ
+exactly k d = signed (d .minus) (d .digits * 10 ^ d .up * k)
+
+abbrev pub wholly : ℤ → Decimal → ℤ
+wholly z d = z *ℤ pos (10 ^ d .down)
+
+-- rounded, "and only then compared: -222 outside the limits"
+unfoldable pub fitted : ℕ → ℤ → ℤ → Decimal → Checked ℤ
+fitted k low high d = check 222 (leZ low (rounded k d) && leZ (rounded k d) high) >> passed (rounded k d)
 
 -- how the exact size num / den stands to the one that it was rounded to
 unfoldable pub sizeSide : ℕ → ℕ → ℕ → Side
@@ -48,10 +57,24 @@ turned false x = x
 unfoldable pub sideIn : ℕ → Decimal → Side
 sideIn k d = turned (d .minus) (sizeSide (d .digits * 10 ^ d .up * k) (10 ^ d .down) (sizeIn k d))
 
--- check 7 with what was rounded off; a value outside the limits was rounded too, and has its side
-unfoldable pub roundedIn : ℕ → ℤ → ℤ → Decimal → Rounded
-roundedIn k low high d = record { fit = fitted k low high d; side = sideIn k d }
-
 -- a bool is "ON, OFF, or a number": the number is rounded to a whole one, and zero is off (02, #102)
 unfoldable pub switchedOn : Decimal → Bool
 switchedOn d = not (eqb (sizeIn 1 d) 0)
+
+-- ---- what the answer means
+
+-- a value in steps, or 01's number for one outside the limits
+abbrev pub meantFit : Fit → Checked ℤ
+meantFit (Within v) = passed v
+meantFit Outside = refused 222
+
+-- how the exact value stands to the rounded one: it is that value, or it is below or above it
+abbrev pub Stands : Side → ℤ → ℤ → Type 0
+Stands On exact near = exact ≡ near
+Stands Below exact near = ltZ exact near ≡ true
+Stands Above exact near = ltZ near exact ≡ true
+
+-- check 7 with what was rounded off; a value outside the limits was rounded too, and has its side
+pub record RoundedIn (k : ℕ) (low high : ℤ) (d : Decimal) (r : Rounded) : Type 0 where
+  pub fit : meantFit (r .fit) ≡ fitted k low high d
+  pub side : Stands (r .side) (exactly k d) (wholly (rounded k d) d)

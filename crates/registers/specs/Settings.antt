@@ -177,7 +177,27 @@ answerOf bool v = signedText decimal v
 answerOf (words ws) v = wordText ws v
 answerOf (number k low high) v = signedText (if eqb k 10 then tenths else decimal) v
 
--- a row's kind of values as the code names it
+-- ---- what a row's values are, as the code names it
+
+-- the columns Values and Step of 01's table, without the words and the limits
+pub data Sort : Type 0 where
+  bools : Sort
+  someWords : Sort
+  numbers : ℕ → Sort  -- how many steps make one
+
+abbrev pub sortOf : Kind → Sort
+sortOf bool = bools
+sortOf (words ws) = someWords
+sortOf (number k low high) = numbers k
+
+-- what each name means: of step 0.1 ten make one
+abbrev pub meantValues : Values → Sort
+meantValues BoolValue = bools
+meantValues Word = someWords
+meantValues Tenths = numbers 10
+meantValues Whole = numbers 1
+
+-- the name of a kind that has one
 abbrev pub valuesIn : Kind → Values
 valuesIn bool = BoolValue
 valuesIn (words ws) = Word

@@ -4,7 +4,7 @@ use crate::number::Decimal;
 ghost use mathlib.Core.Path.{_≡_};
 ghost use mathlib.Core.Bool.{true};
 ghost use Prim.Native.Nat.{_+_, _*_, _^_, min};
-ghost use Rattle.registers.specs.Rounding.{turned, roundedIn};
+ghost use Rattle.registers.specs.Rounding.{turned, RoundedIn};
 ghost use Rattle.registers.specs.RoundingParts.{beyond, sizedOver, heldOver, heldIn};
 
 // A value in steps, or none.
@@ -139,7 +139,7 @@ fn steps(d: Decimal, tens: u32) -> Stepped
 
 // Check 7 for a row of which 10 to the power tens steps make one.
 pub fn round_in(d: Decimal, tens: u32, low: i32, high: i32) -> Rounded
-    ensures { λ r. ⌜ r ≡ roundedIn (10 ^ tens) low high d ⌝ }
+    ensures { λ r. ⌜ RoundedIn (10 ^ tens) low high d r ⌝ }
 {
     let steps = steps(d, tens);
     let v = steps.value;

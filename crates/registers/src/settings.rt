@@ -3,7 +3,7 @@
 use crate::rounding::Side;
 use crate::suffix::Quantity;
 ghost use mathlib.Core.Path.{_≡_};
-ghost use Rattle.registers.specs.Settings.{valueAt, atReset, lowest, highest, within, conflict, possibleSettings, stored, kindOf, quantityOf, valuesIn, accepted};
+ghost use Rattle.registers.specs.Settings.{valueAt, atReset, lowest, highest, within, conflict, possibleSettings, stored, kindOf, quantityOf, sortOf, meantValues, accepted};
 
 // How many there are.
 const ROWS: usize = 17;
@@ -54,7 +54,7 @@ impl Settings {
 
     // What a row's values are; a row behind the table counts as a bool.
     pub fn values_of(row: usize) -> Values
-        ensures { λ r. ⌜ r ≡ valuesIn (kindOf row) ⌝ }
+        ensures { λ r. ⌜ meantValues r ≡ sortOf (kindOf row) ⌝ }
     {
         if Settings::COUNT <= row {
             return Values::Bool;

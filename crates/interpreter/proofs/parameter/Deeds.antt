@@ -1,5 +1,5 @@
 -- Check 7 and exam mode on a value, and how what checks 5 and 6 say of a parameter is carried on.
-use mathlib.Core.Path.{_≡_, refl, sym, _∙_}
+use mathlib.Core.Path.{_≡_, refl, sym, ap, _∙_}
 use mathlib.Core.Bool.{Bool, true, false, not, _&&_, false≢true}
 use mathlib.Core.List.{[], _∷_}
 use Prim.Native.Nat.{ℕ, _≤_, _<_}
@@ -14,7 +14,7 @@ use borrow.Author.Tests.{leb-true, ne-eqb}
 use Rattle.registers.specs.Text.{Text, if_then_else_}
 use Rattle.registers.specs.Check.{Checked, refused, passed, _>>=_, _>>_, check}
 use Rattle.registers.specs.Errors.{numberOf}
-use Rattle.registers.specs.Rounding.{rounded, fitted, sideIn, roundedIn}
+use Rattle.registers.specs.Rounding.{rounded, fitted, sideIn, meantFit, RoundedIn}
 use Rattle.registers.specs.Settings.{count, Kind, bool, words, number, kindOf, quantityOf, lowest, highest, within, accepted}
 use Rattle.registers.specs.Status.{widest}
 use Rattle.registers.specs.declared.error.Error.{Error}
@@ -28,6 +28,7 @@ use Rattle.registers.specs.declared.suffix.Quantity.the-variants.{Nothing}
 use Rattle.registers.specs.declared.status.Register.{Register}
 use Rattle.registers.specs.declared.status.Register.the-variants.{Ese, Sre, Enable, Ntr, Ptr}
 use Rattle.registers.proofs.rounding.Laws.{rounded-once}
+use Rattle.registers.proofs.rounding.Meaning.{fit-is, side-is}
 use Rattle.interpreter.specs.Parameter.{Given, Word, Figure, parameter, wordsOf, takesNumbers, asksLimits, limitWords, limitAt, limitGiven, valueGiven, sideGiven, least, greatest, settingDeed, limitDeed, registerDeed, deedOf}
 use Rattle.interpreter.specs.ParameterParts.{meantGiven, fitIn, roundedTo, putFit, storeTo, registerTo, partsOf}
 use Rattle.interpreter.specs.declared.deed.Deed.the-variants.{Change, Query}
@@ -63,10 +64,10 @@ module _ {m : Checked Given} {p : Parameter} (is : meantGiven p ≡ m) where
 
 -- ---- check 7 and exam mode on a value of a setting
 
-pub rounded-in : (k : ℕ) (s : Settings) (i : ℕ) (d : Decimal)
-    → roundedIn k (lowest i) (highest s i) d ≡ roundedTo s i (rounded k d) (sideIn k d)
-unfolding roundedIn fitted fitIn within
-rounded-in k s i d = refl
+pub rounded-in : (k : ℕ) (s : Settings) (i : ℕ) (d : Decimal) {low high : ℤ} {r : Rounded} → low ≡ lowest i → high ≡ highest s i
+    → RoundedIn k low high d r → r ≡ roundedTo s i (rounded k d) (sideIn k d)
+unfolding fitIn within
+rounded-in k s i d l h p = let q = rw (l, h) at p in λ j. record { fit = fit-is q j; side = side-is q j }
 
 pub fit-within : (s : Settings) (i : ℕ) (v : ℤ) → within s i v ≡ true → Within v ≡ fitIn s i v
 unfolding fitIn if_then_else_
@@ -99,21 +100,21 @@ small-natural : (x : Register) (z : ℤ) → leZ (pos 0) z ≡ true → leZ z (p
 small-natural x (pos n) low high = (tt, omega (arith, leb-true n (widest x) high, widest-small x))
 small-natural x (negsuc n) low high = absurd (false≢true low)
 
-module _ (x : Register) (d : Decimal) {f : Fit} (is : f ≡ fitted 1 (pos 0) (pos (widest x)) d) where
+module _ (x : Register) (d : Decimal) {f : Fit} (is : meantFit f ≡ fitted 1 (pos 0) (pos (widest x)) d) where
   pub store-natural : (z : ℤ) → f ≡ Within z → T (nonNeg z) × Fits w16 (natAbs z)
   store-natural z told =
-      let h = rounded-once 1 (pos 0) (pos (widest x)) d .within z (sym is ∙ told) in
+      let h = rounded-once 1 (pos 0) (pos (widest x)) d .within z (sym is ∙ ap meantFit told) in
       small-natural x z (h .1) (h .2)
 
   pub store-within : (z : ℤ) → f ≡ Within z → (side : Side) → passed (Change (Store x (natAbs z) side)) ≡ storeTo x (rounded 1 d) side
   unfolding storeTo check _>>_
   store-within z told side =
-      let h = rounded-once 1 (pos 0) (pos (widest x)) d .within z (sym is ∙ told) in
+      let h = rounded-once 1 (pos 0) (pos (widest x)) d .within z (sym is ∙ ap meantFit told) in
       rw (← h .0, h .1, h .2)
 
   pub store-outside : f ≡ Outside → (side : Side) → refused 222 ≡ storeTo x (rounded 1 d) side
   unfolding storeTo check _>>_
-  store-outside told side = rw (rounded-once 1 (pos 0) (pos (widest x)) d .outside (sym is ∙ told))
+  store-outside told side = rw (rounded-once 1 (pos 0) (pos (widest x)) d .outside (sym is ∙ ap meantFit told))
 
 -- ---- checks 5 to 7 on a setting
 

@@ -13,7 +13,7 @@ use denote.Enum.Declared.{tagOf}
 use borrow.Author.Tests.{leb-true, ltb-true, ltb-false}
 use Rattle.registers.specs.Text.{if_then_else_}
 use Rattle.registers.specs.Rounding.{switchedOn, rounded, sideIn}
-use Rattle.registers.specs.Settings.{count, Kind, bool, words, number, table, settingAt, kindOf, quantityOf, valuesIn, highest}
+use Rattle.registers.specs.Settings.{count, Kind, bool, words, number, table, settingAt, kindOf, quantityOf, sortOf, meantValues, valuesIn, highest}
 use Rattle.registers.specs.declared.number.Decimal.{Decimal}
 use Rattle.registers.specs.declared.rounding.Side.{Side}
 use Rattle.registers.specs.declared.rounding.Side.the-variants.{On}
@@ -21,7 +21,7 @@ use Rattle.registers.specs.declared.settings.Settings.{Settings}
 use Rattle.registers.specs.declared.settings.Values.{Values}
 use Rattle.registers.specs.declared.settings.Values.the-variants.{Bool as BoolValue, Word as WordValue, Tenths, Whole}
 use Rattle.registers.proofs.Tests.{below-at}
-use Rattle.registers.proofs.settings.Laws.{behind-is}
+use Rattle.registers.proofs.settings.Laws.{behind-is, values-is}
 use Rattle.registers.proofs.settings.Values as values
 use Rattle.interpreter.specs.RowsParts.{headerWords, wordCount, wordList}
 use Rattle.interpreter.specs.Parameter.{Word, Figure, least, greatest, asksLimits, takesNumbers, wordsOf, limitAt, valueGiven, sideGiven}
@@ -52,11 +52,11 @@ figureIn d Tenths = rounded 10 d
 figureIn d Whole = rounded 1 d
 
 -- where the code has been told the sort
-pub figure-in : (i : ℕ) {v told : Values} → told ≡ v → told ≡ valuesIn (kindOf i) → (s : Settings) (d : Decimal)
+pub figure-in : (i : ℕ) {v told : Values} → told ≡ v → meantValues told ≡ sortOf (kindOf i) → (s : Settings) (d : Decimal)
     → figureIn d v ≡ valueGiven s i (kindOf i) (Figure d)
 unfolding listed settingAt table if_then_else_ valueGiven
 figure-in i is of s d =
-    ap (figureIn d) (sym is ∙ of) ∙ kinds-agree (λ k. figureIn d (valuesIn k)) (λ k. valueGiven s i k (Figure d)) refl refl i
+    ap (figureIn d) (sym is ∙ values-is _ (kindOf i) of) ∙ kinds-agree (λ k. figureIn d (valuesIn k)) (λ k. valueGiven s i k (Figure d)) refl refl i
 
 -- and which side of the step a number is on
 abbrev pub sideOf : Decimal → Values → Side
@@ -65,9 +65,9 @@ sideOf d WordValue = On
 sideOf d Tenths = sideIn 10 d
 sideOf d Whole = sideIn 1 d
 
-pub side-of : (i : ℕ) {v told : Values} → told ≡ v → told ≡ valuesIn (kindOf i) → (d : Decimal) → sideOf d v ≡ sideGiven (kindOf i) (Figure d)
+pub side-of : (i : ℕ) {v told : Values} → told ≡ v → meantValues told ≡ sortOf (kindOf i) → (d : Decimal) → sideOf d v ≡ sideGiven (kindOf i) (Figure d)
 unfolding listed settingAt table if_then_else_
-side-of i is of d = ap (sideOf d) (sym is ∙ of) ∙ kinds-agree (λ k. sideOf d (valuesIn k)) (λ k. sideGiven k (Figure d)) refl refl i
+side-of i is of d = ap (sideOf d) (sym is ∙ values-is _ (kindOf i) of) ∙ kinds-agree (λ k. sideOf d (valuesIn k)) (λ k. sideGiven k (Figure d)) refl refl i
 
 abbrev pub numberIn : Values → Bool
 numberIn BoolValue = false
@@ -75,9 +75,9 @@ numberIn WordValue = false
 numberIn Tenths = true
 numberIn Whole = true
 
-pub number-in : (k : Kind) {v told : Values} → told ≡ v → told ≡ valuesIn k → isNumber k ≡ numberIn v
+pub number-in : (k : Kind) {v told : Values} → told ≡ v → meantValues told ≡ sortOf k → isNumber k ≡ numberIn v
 unfolding if_then_else_
-number-in k is of = go k ∙ ap numberIn (sym of ∙ is)
+number-in k is of = go k ∙ ap numberIn (sym (values-is _ k of) ∙ is)
   where
     sort : (t : Bool) → true ≡ numberIn (if t then Tenths else Whole)
     sort true = refl
@@ -90,9 +90,9 @@ number-in k is of = go k ∙ ap numberIn (sym of ∙ is)
 
 -- ---- numbers, which are of two sorts
 
-module _ (k : Kind) (told : Values) (is : told ≡ valuesIn k) where
+module _ (k : Kind) (told : Values) (is : meantValues told ≡ sortOf k) where
   pub told-number : OneOf (2 ∷ 3 ∷ []) (tagOf values.the-type told) → true ≡ isNumber k
-  told-number h = go k (rw is at h)
+  told-number h = go k (rw (values-is told k is) at h)
     where
       go : (k : Kind) → OneOf (2 ∷ 3 ∷ []) (tagOf values.the-type (valuesIn k)) → true ≡ isNumber k
       go bool h = absurd (miss (2 ∷ 3 ∷ []) 0 tt h)
@@ -101,7 +101,7 @@ module _ (k : Kind) (told : Values) (is : told ≡ valuesIn k) where
 
   pub told-other : OneOf (0 ∷ 1 ∷ []) (tagOf values.the-type told) → false ≡ isNumber k
   unfolding if_then_else_
-  told-other h = go k (rw is at h)
+  told-other h = go k (rw (values-is told k is) at h)
     where
       none : (t : Bool) → OneOf (0 ∷ 1 ∷ []) (tagOf values.the-type (if t then Tenths else Whole)) → ⊥
       none true h = miss (0 ∷ 1 ∷ []) 2 tt h

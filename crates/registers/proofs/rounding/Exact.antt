@@ -1,61 +1,25 @@
 -- What the side says, once over every step, sign and value: how the exact value stands to the rounded one. Both are whole numbers
--- when multiplied by the value's denominator, so this is comparison of those.
+-- when multiplied by the value's denominator, so this is comparison of those: first of the sizes, and then with the sign.
 use mathlib.Core.Path.{_≡_, refl, ap, sym, _∙_}
-use mathlib.Core.Bool.{Bool, true, false, false≢true}
-use Prim.Native.Nat.{ℕ, zero, suc, _+_, _*_, _^_, _<_}
+use mathlib.Core.Bool.{Bool, true, false}
+use Prim.Native.Nat.{ℕ, zero, suc, _*_, _^_, _<_}
 use native.Mathlib.Omega.{arith}
 use lib.Dec.{ltb}
 use lib.IntN.{ℤ, pos, negsuc, negℤ, natAbs, _*ℤ_, pos-*ℤ-pos, negsuc-*ℤ-pos}
 use lib.Signed.{ltZ}
 use borrow.Author.Tests.{ltb-true, ltb-false, lt-ltb}
-use Rattle.registers.specs.Rounding.{nearest, signed, sizeIn, rounded, sizeSide, turned, sideIn}
+use Rattle.registers.specs.Rounding.{nearest, signed, sizeIn, rounded, sizeSide, turned, sideIn, exactly, wholly, Stands}
 use Rattle.registers.specs.declared.number.Decimal.{Decimal}
-use Rattle.registers.specs.declared.rounding.Side.{Side}
 use Rattle.registers.specs.declared.rounding.Side.the-variants.{On, Below, Above}
 use Rattle.registers.proofs.rounding.Laws.{nearest-only}
 use Rattle.registers.proofs.rounding.Tens.{ten-positive}
 use Rattle.registers.proofs.rounding.Sides.{side-on, side-below, side-above}
 
--- the exact value in steps of which k make one, and a whole number of steps, both times the value's denominator
-abbrev pub exactly : ℕ → Decimal → ℤ
-exactly k d = signed (d .minus) (d .digits * 10 ^ d .up * k)
-
-abbrev pub wholly : ℤ → Decimal → ℤ
-wholly z d = z *ℤ pos (10 ^ d .down)
-
 -- the side tells whether the exact value is the rounded one, below it or above it; and it is on the step exactly where any
 -- whole number of steps is the exact value
 pub record Tells (k : ℕ) (d : Decimal) : Type 0 where
-  pub on : sideIn k d ≡ On → exactly k d ≡ wholly (rounded k d) d
-  pub below : sideIn k d ≡ Below → ltZ (exactly k d) (wholly (rounded k d) d) ≡ true
-  pub above : sideIn k d ≡ Above → ltZ (wholly (rounded k d) d) (exactly k d) ≡ true
+  pub stands : Stands (sideIn k d) (exactly k d) (wholly (rounded k d) d)
   pub whole : (z : ℤ) → exactly k d ≡ wholly z d → sideIn k d ≡ On
-
--- ---- sizes
-
-record Sizes (num den r : ℕ) (x : Side) : Type 0 where
-  on : x ≡ On → num ≡ r * den
-  below : x ≡ Below → num < r * den
-  above : x ≡ Above → r * den < num
-
-sizes : (num den r : ℕ) → Sizes num den r (sizeSide num den r)
-sizes num den r = go (ltb num (r * den)) refl (ltb (r * den) num) refl
-  where
-    go : (a : Bool) → ltb num (r * den) ≡ a → (b : Bool) → ltb (r * den) num ≡ b → Sizes num den r (sizeSide num den r)
-    go true e b f =
-        let h = ltb-true num (r * den) e in
-        let is = side-below num den r h in
-        record { on = λ q. absurd (false≢true cc); below = λ q. h; above = λ q. absurd (false≢true cc) }
-    go false e true f =
-        let h = ltb-true (r * den) num f in
-        let is = side-above num den r h in
-        record { on = λ q. absurd (false≢true cc); below = λ q. absurd (false≢true cc); above = λ q. h }
-    go false e false f =
-        let s = ltb-false num (r * den) e in
-        let t = ltb-false (r * den) num f in
-        let h : num ≡ r * den = omega arith in
-        let is = side-on num den r h in
-        record { on = λ q. h; below = λ q. absurd (false≢true cc); above = λ q. absurd (false≢true cc) }
 
 -- ---- signs
 
@@ -68,6 +32,20 @@ more-minus : (a b : ℕ) → a < b → ltZ (signed true b) (signed true a) ≡ t
 more-minus a zero h = absurd (omega arith)
 more-minus zero (suc b) h = refl
 more-minus (suc a) (suc b) h = lt-ltb a b (omega arith)
+
+-- a size that stands so to another, with the sign
+module _ {a b : ℕ} where
+  equal : (m : Bool) → a ≡ b → Stands (turned m On) (signed m a) (signed m b)
+  equal false e = ap pos e
+  equal true e = ap (signed true) e
+
+  less : (m : Bool) → a < b → Stands (turned m Below) (signed m a) (signed m b)
+  less false h = lt-ltb a b h
+  less true h = more-minus a b h
+
+  more : (m : Bool) → b < a → Stands (turned m Above) (signed m a) (signed m b)
+  more false h = lt-ltb b a h
+  more true h = more-minus b a h
 
 size-minus : (n : ℕ) → natAbs (negℤ (pos n)) ≡ n
 size-minus zero = refl
@@ -87,40 +65,24 @@ module _ (num den : ℕ) where
   abbrev r : ℕ
   r = nearest num den
 
-  abbrev exact : Bool → ℤ
-  exact m = signed m num
-
-  abbrev near : Bool → ℤ
-  near m = signed m r *ℤ pos den
-
-  told-on : (m : Bool) → turned m (sizeSide num den r) ≡ On → exact m ≡ near m
-  told-on m e = rw (signed-times m r den) (ap (signed m) (sizes num den r .on (back m (sizeSide num den r) e)))
+  told-stands : (m : Bool) → Stands (turned m (sizeSide num den r)) (signed m num) (signed m r *ℤ pos den)
+  told-stands m = go (ltb num (r * den)) refl (ltb (r * den) num) refl
     where
-      back : (m : Bool) (x : Side) → turned m x ≡ On → x ≡ On
-      back false x e = e
-      back true On e = refl
-      back true Below e = cc
-      back true Above e = cc
+      go : (a : Bool) → ltb num (r * den) ≡ a → (b : Bool) → ltb (r * den) num ≡ b
+          → Stands (turned m (sizeSide num den r)) (signed m num) (signed m r *ℤ pos den)
+      go true e b f =
+          let h = ltb-true num (r * den) e in
+          rw (side-below num den r h, signed-times m r den) (less m h)
+      go false e true f =
+          let h = ltb-true (r * den) num f in
+          rw (side-above num den r h, signed-times m r den) (more m h)
+      go false e false f =
+          let s = ltb-false num (r * den) e in
+          let t = ltb-false (r * den) num f in
+          let h : num ≡ r * den = omega arith in
+          rw (side-on num den r h, signed-times m r den) (equal m h)
 
-  told-below : (m : Bool) → turned m (sizeSide num den r) ≡ Below → ltZ (exact m) (near m) ≡ true
-  told-below false e = lt-ltb num (r * den) (sizes num den r .below e)
-  told-below true e = rw (signed-times true r den) (more-minus (r * den) num (sizes num den r .above (back (sizeSide num den r) e)))
-    where
-      back : (x : Side) → turned true x ≡ Below → x ≡ Above
-      back On e = cc
-      back Below e = cc
-      back Above e = refl
-
-  told-above : (m : Bool) → turned m (sizeSide num den r) ≡ Above → ltZ (near m) (exact m) ≡ true
-  told-above false e = lt-ltb (r * den) num (sizes num den r .above e)
-  told-above true e = rw (signed-times true r den) (more-minus num (r * den) (sizes num den r .below (back (sizeSide num den r) e)))
-    where
-      back : (x : Side) → turned true x ≡ Above → x ≡ Below
-      back On e = cc
-      back Below e = refl
-      back Above e = cc
-
-  told-whole : 0 < den → (m : Bool) (z : ℤ) → exact m ≡ z *ℤ pos den → turned m (sizeSide num den r) ≡ On
+  told-whole : 0 < den → (m : Bool) (z : ℤ) → signed m num ≡ z *ℤ pos den → turned m (sizeSide num den r) ≡ On
   told-whole h m z e =
       let n : num ≡ natAbs z * den = sym (size-signed m num) ∙ ap natAbs e ∙ size-times z den in
       let w : r ≡ natAbs z = nearest-only (record { low = omega arith; high = omega arith }) in
@@ -136,9 +98,4 @@ unfolding sideIn rounded sizeIn
 tells k d =
     let num = d .digits * 10 ^ d .up * k in
     let den = 10 ^ d .down in
-    record {
-      on = told-on num den (d .minus);
-      below = told-below num den (d .minus);
-      above = told-above num den (d .minus);
-      whole = told-whole num den (ten-positive (d .down)) (d .minus);
-    }
+    record { stands = told-stands num den (d .minus); whole = told-whole num den (ten-positive (d .down)) (d .minus) }

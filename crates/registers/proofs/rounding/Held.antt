@@ -10,8 +10,8 @@ use mir.Syntax.{w32, w64}
 use mir.Val.{SFits, toZ, ofZ}
 use mir.Facts.{toZ-pos, toZ-ofZ, sfits-widen, and-yes}
 use borrow.Author.Tests.{leb-true, leb-false, lt-leb, ne-eqb}
-use Rattle.registers.specs.Text.{if_then_else_}
-use Rattle.registers.specs.Rounding.{nearest, signed, sizeIn, rounded, fitted, turned, sideIn, roundedIn}
+use Rattle.registers.specs.Check.{Checked, passed, _>>_, check}
+use Rattle.registers.specs.Rounding.{nearest, signed, sizeIn, rounded, fitted, turned, sideIn, exactly, wholly, Stands, RoundedIn}
 use Rattle.registers.specs.RoundingParts.{beyond, heldOver, heldIn}
 use Rattle.registers.specs.declared.number.Decimal.{Decimal}
 use Rattle.registers.specs.declared.rounding.Fit.{Fit}
@@ -21,6 +21,7 @@ use Rattle.registers.specs.declared.rounding.Side.{Side}
 use Rattle.registers.specs.declared.rounding.Sized.{Sized}
 use Rattle.registers.specs.declared.rounding.Stepped.{Stepped}
 use Rattle.registers.proofs.rounding.Tens.{times-tens}
+use Rattle.registers.proofs.rounding.Exact.{tells}
 
 -- ---- a size with its sign
 
@@ -85,11 +86,11 @@ outcome f x = record { fit = f; side = x }
 
 -- so a held value is within such limits exactly where the value itself is, and is then that value
 module _ (k : ℕ) (d : Decimal) (low high : ℤ) (l : SFits w32 low) (h : SFits w32 high) (r : Stepped) (is : r ≡ heldIn k d) where
-  chosen : ℤ → Fit
-  chosen z = if inside low high z then Within z else Outside
+  chosen : ℤ → Checked ℤ
+  chosen z = check 222 (inside low high z) >> passed z
 
   fitted-held : fitted k low high d ≡ chosen (r .value)
-  unfolding fitted rounded heldIn if_then_else_ chosen
+  unfolding fitted rounded heldIn chosen check _>>_
   fitted-held = rw is (go (sizeIn k d) (leb (sizeIn k d) beyond) refl)
     where
       go : (n : ℕ) (b : Bool) → leb n beyond ≡ b → chosen (signed (d .minus) n) ≡ chosen (signed (d .minus) (min beyond n))
@@ -100,17 +101,17 @@ module _ (k : ℕ) (d : Decimal) (low high : ℤ) (l : SFits w32 low) (h : SFits
           rw (z, far low high l h (d .minus) n (omega arith), far low high l h (d .minus) beyond (omega arith))
 
   -- and its side is the value's
-  side-held : r .side ≡ sideIn k d
+  side-held : Stands (r .side) (exactly k d) (wholly (rounded k d) d)
   unfolding heldIn
-  side-held = ap (λ (x : Stepped). x .side) is
+  side-held = rw is (tells k d .stands)
 
-  pub fit-yes : inside low high (r .value) ≡ true → outcome (Within (r .value)) (r .side) ≡ roundedIn k low high d
-  unfolding roundedIn if_then_else_ chosen
-  fit-yes e = rw (side-held, fitted-held, e)
+  pub fit-yes : inside low high (r .value) ≡ true → RoundedIn k low high d (outcome (Within (r .value)) (r .side))
+  unfolding chosen check _>>_
+  fit-yes e = record { fit = rw (fitted-held, e); side = side-held }
 
-  pub fit-no : inside low high (r .value) ≡ false → outcome Outside (r .side) ≡ roundedIn k low high d
-  unfolding roundedIn if_then_else_ chosen
-  fit-no e = rw (side-held, fitted-held, e)
+  pub fit-no : inside low high (r .value) ≡ false → RoundedIn k low high d (outcome Outside (r .side))
+  unfolding chosen check _>>_
+  fit-no e = record { fit = rw (fitted-held, e); side = side-held }
 
 -- a size is held at zero exactly where it is zero: for a bool
 pub held-zero : (d : Decimal) (r : Sized) → r ≡ heldOver (d .digits * 10 ^ d .up) (10 ^ d .down) → eqb (r .size) 0 ≡ eqb (sizeIn 1 d) 0

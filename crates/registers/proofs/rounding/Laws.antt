@@ -6,10 +6,9 @@ use native.Mathlib.Omega.{arith}
 use native.Mathlib.Nat.{div-add-mod', mod-lt, div-eq-of-lt-le}
 use lib.IntN.{ℤ}
 use lib.Signed.{leZ}
-use Rattle.registers.specs.Text.{if_then_else_}
+use Rattle.registers.specs.Check.{Checked, refused, passed, _>>_, check}
 use Rattle.registers.specs.Rounding.{nearest, rounded, fitted}
 use Rattle.registers.specs.declared.number.Decimal.{Decimal}
-use Rattle.registers.specs.declared.rounding.Fit.the-variants.{Within, Outside}
 
 -- r is nearest to num / den: num / den is at least r - 1/2 and below r + 1/2, so it is never more than a half away,
 -- and a value half way between two whole numbers goes to the greater one. A value's size is rounded so, and then has
@@ -36,11 +35,11 @@ nearest-only {num} {den} {r} n =
 -- a value is rounded, and only then compared: what is within the limits is the rounded value, and what is outside has a
 -- rounded value beyond one of them
 pub record RoundedOnce (k : ℕ) (low high : ℤ) (d : Decimal) : Type 0 where
-  pub within : (v : ℤ) → fitted k low high d ≡ Within v → (v ≡ rounded k d) × (leZ low v ≡ true) × (leZ v high ≡ true)
-  pub outside : fitted k low high d ≡ Outside → (leZ low (rounded k d) && leZ (rounded k d) high) ≡ false
+  pub within : (v : ℤ) → fitted k low high d ≡ passed v → (v ≡ rounded k d) × (leZ low v ≡ true) × (leZ v high ≡ true)
+  pub outside : fitted k low high d ≡ refused 222 → (leZ low (rounded k d) && leZ (rounded k d) high) ≡ false
 
 pub rounded-once : (k : ℕ) (low high : ℤ) (d : Decimal) → RoundedOnce k low high d
-unfolding fitted if_then_else_
+unfolding fitted check _>>_
 rounded-once k low high d =
     record { within = in-limits (leZ low z) refl (leZ z high) refl; outside = off-limits (leZ low z && leZ z high) }
   where
@@ -48,11 +47,11 @@ rounded-once k low high d =
     z = rounded k d
 
     in-limits : (a : Bool) → leZ low z ≡ a → (b : Bool) → leZ z high ≡ b
-        → (v : ℤ) → (if a && b then Within z else Outside) ≡ Within v → (v ≡ z) × (leZ low v ≡ true) × (leZ v high ≡ true)
+        → (v : ℤ) → _≡_ {A = Checked ℤ} (check 222 (a && b) >> passed z) (passed v) → (v ≡ z) × (leZ low v ≡ true) × (leZ v high ≡ true)
     in-limits true p true q v e = let s : v ≡ z = cc in (s, rw s p, rw s q)
     in-limits true p false q v e = (cc, cc, cc)
     in-limits false p b q v e = (cc, cc, cc)
 
-    off-limits : (a : Bool) → (if a then Within z else Outside) ≡ Outside → a ≡ false
+    off-limits : (a : Bool) → _≡_ {A = Checked ℤ} (check 222 a >> passed z) (refused 222) → a ≡ false
     off-limits true e = cc
     off-limits false e = refl

@@ -14,9 +14,11 @@ use mir.Val.{SFits, toZ, ofZ}
 use mir.Facts.{toZ-ofZ}
 use borrow.Author.Tests.{ltb-true, ltb-false}
 use Rattle.registers.specs.Text.{if_then_else_, below}
-use Rattle.registers.specs.Settings.{Setting, bool, table, row, kindOf, quantityOf, settingAt, lowestOf, highestOf, lowest, highest, wideRange, voltage, range, twelveVolts, valueAt, valuesIn, within, conflict, stored, withValue, count, possibleSettings}
+use Rattle.registers.specs.Settings.{Kind, bool, words, number, Setting, table, row, kindOf, quantityOf, settingAt, lowestOf, highestOf, lowest, highest, wideRange, voltage, range, twelveVolts, valueAt, Sort, bools, someWords, numbers, sortOf, meantValues, valuesIn, within, conflict, stored, withValue, count, possibleSettings}
 use Rattle.registers.specs.SettingsParts.{valuesFrom, quantityFrom}
 use Rattle.registers.specs.declared.settings.Settings.{Settings}
+use Rattle.registers.specs.declared.settings.Values.{Values}
+use Rattle.registers.specs.declared.settings.Values.the-variants.{Bool as BoolValue, Word, Tenths, Whole}
 use Rattle.registers.specs.declared.suffix.Quantity.the-variants.{Nothing}
 use Rattle.registers.proofs.Tests.{and-both, and-fails, below-fails, ltZ-not}
 
@@ -47,11 +49,37 @@ unfolding table settingAt
 high-at i h = getD-any highTable i (pos 0) (pos 1) h ∙ List·getD-map (λ (x : Setting). highestOf (x .kind)) table i behind
 
 -- the code's kinds of values
-pub kind-at : (i : ℕ) → valuesFrom (getD (0 ∷ 0 ∷ 0 ∷ 1 ∷ 2 ∷ 1 ∷ 2 ∷ 2 ∷ 1 ∷ 1 ∷ 3 ∷ 3 ∷ 2 ∷ 2 ∷ 3 ∷ 0 ∷ 0 ∷ []) i 0) ≡ valuesIn (kindOf i)
+pub kind-at : (i : ℕ) → meantValues (valuesFrom (getD (0 ∷ 0 ∷ 0 ∷ 1 ∷ 2 ∷ 1 ∷ 2 ∷ 2 ∷ 1 ∷ 1 ∷ 3 ∷ 3 ∷ 2 ∷ 2 ∷ 3 ∷ 0 ∷ 0 ∷ []) i 0)) ≡ sortOf (kindOf i)
 unfolding table settingAt valuesFrom if_then_else_
 kind-at i =
-    sym (List·getD-map valuesFrom (0 ∷ 0 ∷ 0 ∷ 1 ∷ 2 ∷ 1 ∷ 2 ∷ 2 ∷ 1 ∷ 1 ∷ 3 ∷ 3 ∷ 2 ∷ 2 ∷ 3 ∷ 0 ∷ 0 ∷ []) i 0)
-    ∙ List·getD-map (λ (x : Setting). valuesIn (x .kind)) table i behind
+    sym (List·getD-map (λ (n : ℕ). meantValues (valuesFrom n)) (0 ∷ 0 ∷ 0 ∷ 1 ∷ 2 ∷ 1 ∷ 2 ∷ 2 ∷ 1 ∷ 1 ∷ 3 ∷ 3 ∷ 2 ∷ 2 ∷ 3 ∷ 0 ∷ 0 ∷ []) i 0)
+    ∙ List·getD-map (λ (x : Setting). sortOf (x .kind)) table i behind
+
+-- a name is told by what it means
+nameOf : Sort → Values
+nameOf bools = BoolValue
+nameOf someWords = Word
+nameOf (numbers k) = if eqb k 10 then Tenths else Whole
+
+named : (v : Values) → v ≡ nameOf (meantValues v)
+unfolding nameOf if_then_else_
+named BoolValue = refl
+named Word = refl
+named Tenths = refl
+named Whole = refl
+
+pub values-only : (a b : Values) → meantValues a ≡ meantValues b → a ≡ b
+values-only a b e = named a ∙ ap nameOf e ∙ sym (named b)
+
+-- and is then the kind's own
+pub values-is : (v : Values) (k : Kind) → meantValues v ≡ sortOf k → v ≡ valuesIn k
+unfolding nameOf
+values-is v k e = named v ∙ ap nameOf e ∙ own k
+  where
+    own : (k : Kind) → nameOf (sortOf k) ≡ valuesIn k
+    own bool = refl
+    own (words ws) = refl
+    own (number n low high) = refl
 
 -- the code's quantities
 abbrev quantities : List ℕ

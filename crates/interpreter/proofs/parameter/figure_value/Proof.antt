@@ -4,8 +4,8 @@ use Prim.Native.Nat.{ℕ}
 use lib.IntN.{ℤ}
 use mir.Syntax.{w32}
 use mir.Val.{ofZ, toZ}
-use Rattle.registers.specs.Rounding.{rounded, sideIn, roundedIn}
-use Rattle.registers.specs.Settings.{kindOf, lowest}
+use Rattle.registers.specs.Rounding.{rounded, sideIn, RoundedIn}
+use Rattle.registers.specs.Settings.{kindOf}
 use Rattle.registers.specs.declared.rounding.Fit.the-variants.{Within}
 use Rattle.registers.specs.declared.rounding.Rounded.{Rounded}
 use Rattle.registers.specs.declared.rounding.Side.{Side}
@@ -43,15 +43,13 @@ side-in p told = let a = entry p .args in side-of (a .row) told (p .values-of .e
 
 number-is : (p : tie.After-values-of) {v : Values} → p .values-of .result ≡ v → (k : ℕ)
     → figureIn (entry p .args .d) v ≡ rounded k (entry p .args .d) → sideOf (entry p .args .d) v ≡ sideIn k (entry p .args .d)
-    → roundedIn k (toZ w32 (ofZ w32 (p .before .before .lowest .result))) (toZ w32 (ofZ w32 (p .before .highest .result))) (entry p .args .d)
-    ≡ answer p
-number-is p told k is on =
+    → {r : Rounded} → RoundedIn k (toZ w32 (ofZ w32 (p .before .before .lowest .result))) (toZ w32 (ofZ w32 (p .before .highest .result))) (entry p .args .d) r
+    → r ≡ answer p
+number-is p told k is on e =
     let a = entry p .args in
     let low = p .before .before .lowest in
     let high = p .before .highest in
-    ap (λ z. roundedIn k z (toZ w32 (ofZ w32 (high .result))) (a .d)) (back (low .result) (low .ok) ∙ low .ensures)
-    ∙ ap (λ z. roundedIn k (lowest (a .row)) z (a .d)) (back (high .result) (high .ok) ∙ high .ensures)
-    ∙ rounded-in k (a .settings) (a .row) (a .d)
+    rounded-in k (a .settings) (a .row) (a .d) (back (low .result) (low .ok) ∙ low .ensures) (back (high .result) (high .ok) ∙ high .ensures) e
     ∙ ap (λ z. roundedTo (a .settings) (a .row) z (sideIn k (a .d))) (sym is ∙ value-in p told)
     ∙ ap (roundedTo (a .settings) (a .row) (value p)) (sym on ∙ side-in p told)
 
@@ -99,10 +97,10 @@ enum-told-4 : tie.Need-enum-told-4
 enum-told-4 c = c .match .keys4
 
 returns : tie.Need-returns
-returns c = c .round-in .ensures ∙ number-is (c .before .before .before) (c .before .enum-told .given .1) 10 refl refl
+returns c = number-is (c .before .before .before) (c .before .enum-told .given .1) 10 refl refl (c .round-in .ensures)
 
 returns-2 : tie.Need-returns-2
-returns-2 c = c .round-in2 .ensures ∙ number-is (c .before .before .before) (c .before .enum-told2 .given .1) 1 refl refl
+returns-2 c = number-is (c .before .before .before) (c .before .enum-told2 .given .1) 1 refl refl (c .round-in2 .ensures)
 
 returns-3 : tie.Need-returns-3
 returns-3 c =
