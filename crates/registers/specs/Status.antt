@@ -76,10 +76,14 @@ groupIn x r = getD (r .groups) (placeOf x) noGroup
 abbrev pub withGroup : RegisterSet → Group → Registers → Registers
 withGroup x g r = record { ese = r .ese; sre = r .sre; groups = set (r .groups) (placeOf x) g }
 
+-- refusal 4: "255 for the event status register, *ESE and *SRE"
+abbrev pub widestByte : ℕ
+widestByte = 255
+
 -- "0 to 255", "0 to 32,767"
 abbrev pub widest : Register → ℕ
-widest Ese = 255
-widest Sre = 255
+widest Ese = widestByte
+widest Sre = widestByte
 widest (Enable x) = widestGroup
 widest (Ntr x) = widestGroup
 widest (Ptr x) = widestGroup
@@ -157,11 +161,11 @@ statusByte r t answers = summary r t answers + bitIf (meet (summary r t answers)
 
 -- "a register above its width (255 for .. *ESE and *SRE, 32,767 for the others), *SRE with bit 6"
 unfoldable pub possibleRegisters : Registers → Bool
-possibleRegisters r = leb (r .ese) 255 && leb (r .sre) 255 && eqb (bitAnd (r .sre) (2 ^ 6)) 0 && every possibleGroup (r .groups)
+possibleRegisters r = leb (r .ese) widestByte && leb (r .sre) widestByte && eqb (bitAnd (r .sre) (2 ^ 6)) 0 && every possibleGroup (r .groups)
 
 -- "a queue above 16 or holding a number this paper never puts there"; the event status register above 255
 unfoldable pub possibleTrouble : Trouble → Bool
-possibleTrouble t = leb (length (t .queue)) most && (leb (t .events) 255 && every known (t .queue))
+possibleTrouble t = leb (length (t .queue)) most && (leb (t .events) widestByte && every known (t .queue))
 
 -- the record's own queue length is tested, since `troubleOf` cuts the queue to its sixteen places
 unfoldable pub possibleStatus : Status → Bool

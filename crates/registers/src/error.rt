@@ -81,7 +81,7 @@ impl Error {
 }
 
 // The event bit of an error number, by its hundreds.
-pub fn event_bit(number: u16) -> u16
+pub(crate) fn event_bit(number: u16) -> u16
     ensures { λ r. ⌜ r ≡ eventBit number ⌝ }
 {
     if number < 200 {
@@ -96,7 +96,7 @@ pub fn event_bit(number: u16) -> u16
 }
 
 // Whether 01 puts a number into the queue.
-pub fn is_known(number: u16) -> bool
+pub(crate) fn is_known(number: u16) -> bool
     ensures { λ r. ⌜ r ≡ known number ⌝ }
 {
     let numbers = QUEUEABLE;

@@ -14,7 +14,7 @@ impl Group {
     // The widest value of each register.
     pub const WIDEST: u16 = 32_767;
 
-    pub fn power_up() -> Group
+    pub(crate) fn power_up() -> Group
         ensures { λ r. ⌜ r ≡ groupAtStart ⌝ }
     {
         Group {
@@ -27,7 +27,7 @@ impl Group {
     }
 
     // The condition is reported: bits that rise under PTR or fall under NTR become events.
-    pub fn report(mut self, condition: u16) -> Group
+    pub(crate) fn report(mut self, condition: u16) -> Group
         ensures { λ r. ⌜ r ≡ conditionIs condition self ⌝ }
     {
         let changed = self.condition ^ condition;
@@ -39,7 +39,7 @@ impl Group {
     }
 
     // The event register is read, and so cleared.
-    pub fn read_event(mut self) -> Group
+    pub(crate) fn read_event(mut self) -> Group
         ensures { λ r. ⌜ r ≡ eventRead self ⌝ }
     {
         self.event = 0;
@@ -47,14 +47,14 @@ impl Group {
     }
 
     // Whether an event is enabled.
-    pub fn sums_up(self) -> bool
+    pub(crate) fn sums_up(self) -> bool
         ensures { λ r. ⌜ r ≡ meet (self .event) (self .enable) ⌝ }
     {
         self.event & self.enable != 0
     }
 
     // Refusal 4 on the group: no register above its width.
-    pub fn possible(self) -> bool
+    pub(crate) fn possible(self) -> bool
         ensures { λ r. ⌜ r ≡ possibleGroup self ⌝ }
     {
         (self.condition <= Group::WIDEST)

@@ -125,7 +125,7 @@ impl Settings {
     }
 
     // Check 7's comparison.
-    pub fn within(self, row: usize, value: i32) -> bool
+    fn within(self, row: usize, value: i32) -> bool
         ensures { λ r. ⌜ r ≡ within self row value ⌝ }
     {
         let low = Settings::lowest(row);

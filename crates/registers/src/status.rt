@@ -17,9 +17,9 @@ pub struct Status {
     pub events: u16,
     pub ese: u16,
     pub sre: u16,
-    pub groups: [Group; 3],
+    pub groups: [Group; RegisterSet::COUNT],
     pub queued: usize,
-    pub errors: [u16; 16],
+    pub errors: [u16; Status::MOST],
 }
 
 // The register sets STATus:OPERation, STATus:LOCK and STATus:WARNing.
@@ -38,13 +38,16 @@ pub enum Register {
     Ptr(RegisterSet),
 }
 
+// The last place of the queue.
+const LAST: usize = Status::MOST - 1;
+
 // All but the first number, and a 0 behind them.
-fn shifted(errors: [u16; 16]) -> [u16; 16]
+fn shifted(errors: [u16; Status::MOST]) -> [u16; Status::MOST]
     ensures { λ r. ⌜ r ≡ drop 1 errors ++ 0 ∷ [] ⌝ }
 {
-    let mut next = [0u16; 16];
+    let mut next = [0u16; Status::MOST];
     let mut i: usize = 0;
-    while i < 15 {
+    while i < LAST {
         next[i] = errors[i + 1];
         i += 1;
     }
@@ -52,7 +55,7 @@ fn shifted(errors: [u16; 16]) -> [u16; 16]
 }
 
 // Whether every number that waits may stand in the queue.
-fn all_known(errors: [u16; 16], count: usize) -> bool
+fn all_known(errors: [u16; Status::MOST], count: usize) -> bool
     requires { ⌜ count ≤ 16 ⌝ }
     ensures { λ r. ⌜ r ≡ every known (take count errors) ⌝ }
 {
@@ -67,7 +70,7 @@ fn all_known(errors: [u16; 16], count: usize) -> bool
 }
 
 // Every group with its event register read.
-fn all_read(groups: [Group; 3]) -> [Group; 3]
+fn all_read(groups: [Group; RegisterSet::COUNT]) -> [Group; RegisterSet::COUNT]
     ensures { λ r. ⌜ r ≡ map eventRead groups ⌝ }
 {
     [
@@ -78,14 +81,14 @@ fn all_read(groups: [Group; 3]) -> [Group; 3]
 }
 
 // Refusal 4 on the groups.
-fn all_possible(groups: [Group; 3]) -> bool
+fn all_possible(groups: [Group; RegisterSet::COUNT]) -> bool
     ensures { λ r. ⌜ r ≡ every possibleGroup groups ⌝ }
 {
     groups[0].possible() & groups[1].possible() & groups[2].possible()
 }
 
 // The groups' bits of the status byte: OPERation's is bit 7, LOCK's bit 0, WARNing's bit 1.
-fn set_bits(groups: [Group; 3]) -> u8
+fn set_bits(groups: [Group; RegisterSet::COUNT]) -> u8
     ensures { λ r. ⌜ r ≡ setBits groups ⌝ }
     ensures { λ r. ⌜ r ≤ 131 ⌝ }
 {
@@ -103,8 +106,10 @@ fn bit_if(on: bool, weight: u8) -> u8
 }
 
 impl RegisterSet {
+    pub const COUNT: usize = 3;
+
     // The set's place among the three.
-    pub fn place(self) -> usize
+    fn place(self) -> usize
         ensures { λ r. ⌜ r ≡ placeOf self ⌝ }
     {
         match self {
@@ -121,11 +126,11 @@ impl Register {
         ensures { λ r. ⌜ r ≡ widest self ⌝ }
     {
         match self {
-            Register::Ese => 255,
-            Register::Sre => 255,
-            Register::Enable(_) => 32_767,
-            Register::Ntr(_) => 32_767,
-            Register::Ptr(_) => 32_767,
+            Register::Ese => Status::WIDEST,
+            Register::Sre => Status::WIDEST,
+            Register::Enable(_) => Group::WIDEST,
+            Register::Ntr(_) => Group::WIDEST,
+            Register::Ptr(_) => Group::WIDEST,
         }
     }
 }
@@ -136,6 +141,9 @@ impl Status {
 
     pub const OVERFLOW: u16 = 350;
 
+    // The widest value of *ESE, *SRE and the event status register.
+    pub const WIDEST: u16 = 255;
+
     pub fn power_up() -> Status
         ensures { λ r. ⌜ r ≡ atStart ⌝ }
     {
@@ -144,9 +152,9 @@ impl Status {
             events: 128,
             ese: 0,
             sre: 0,
-            groups: [group; 3],
+            groups: [group; RegisterSet::COUNT],
             queued: 0,
-            errors: [0u16; 16],
+            errors: [0u16; Status::MOST],
         }
     }
 
@@ -161,7 +169,7 @@ impl Status {
             self.errors[at] = number;
             self.queued = at + 1;
         } else {
-            self.errors[15] = Status::OVERFLOW;
+            self.errors[LAST] = Status::OVERFLOW;
             self.events = self.events | error::event_bit(Status::OVERFLOW);
         }
         self
@@ -333,10 +341,11 @@ impl Status {
         if Status::MOST < count {
             return false;
         }
-        let registers = (self.ese <= 255) & (self.sre <= 255) & (self.sre & 64 == 0);
+        let enables = (self.ese <= Status::WIDEST) & (self.sre <= Status::WIDEST);
+        let registers = enables & (self.sre & 64 == 0);
         let errors = self.errors;
         let groups = self.groups;
-        let trouble = (self.events <= 255) & all_known(errors, count);
+        let trouble = (self.events <= Status::WIDEST) & all_known(errors, count);
         registers & all_possible(groups) & trouble
     }
 }
