@@ -169,7 +169,7 @@ fn figure_value(settings: Settings, row: usize, d: Decimal) -> Rounded
         Values::Tenths => rounding::round_in(d, 1, low, high),
         Values::Whole => rounding::round_in(d, 0, low, high),
         Values::Bool => Rounded {
-            fit: Fit::Within(d.switches_on() as i32),
+            fit: Fit::Within(rounding::switches_on(d) as i32),
             side: Side::On,
         },
         Values::Word => Rounded {

@@ -1,6 +1,5 @@
 // Check 6: the number that a parameter starts with, exactly, scaled by the suffix behind it.
 use crate::error::Error;
-use crate::rounding;
 use crate::suffix;
 use crate::suffix::Power;
 use crate::suffix::Quantity;
@@ -10,7 +9,6 @@ ghost use mathlib.Core.Path.{_≡_};
 ghost use Prim.Native.Nat.{_-_, _^_, _≤_, _<_};
 ghost use lib.ListN.{length};
 ghost use Rattle.registers.specs.Number.{number, meant};
-ghost use Rattle.registers.specs.Rounding.{switchedOn};
 ghost use Rattle.registers.specs.NumberParts.{held, DigitsRead, MantissaRead, ExponentRead, valueRead};
 
 // A number's exact value: its digits, times 10 to the power up, over 10 to the power down.
@@ -48,16 +46,6 @@ struct Exponent {
 // Digits are counted up to the first number that has thirteen of them: -124 and -123 need no more,
 // and so nothing wraps however many digits a line holds.
 const HELD: u64 = 1_000_000_000_000;
-
-impl Decimal {
-    // Rounded to a whole number, "zero is off, any other is on".
-    pub fn switches_on(self) -> bool
-        ensures { λ r. ⌜ r ≡ switchedOn self ⌝ }
-    {
-        let sized = rounding::size_of(self.digits, self.up as u64, self.down);
-        sized.size != 0
-    }
-}
 
 // The digits from a place on, behind those of `from`.
 fn read_digits(text: &[u8], at: usize, from: u64) -> Digits

@@ -4,7 +4,7 @@ use crate::number::Decimal;
 ghost use mathlib.Core.Path.{_≡_};
 ghost use mathlib.Core.Bool.{true};
 ghost use Prim.Native.Nat.{_+_, _*_, _^_, min};
-ghost use Rattle.registers.specs.Rounding.{turned, RoundedIn};
+ghost use Rattle.registers.specs.Rounding.{turned, RoundedIn, switchedOn};
 ghost use Rattle.registers.specs.RoundingParts.{beyond, sizedOver, heldOver, heldIn};
 
 // A value in steps, or none.
@@ -27,9 +27,9 @@ pub struct Rounded {
 }
 
 // A size in steps, and how the exact size stands to it.
-pub(crate) struct Sized {
-    pub(crate) size: u64,
-    pub(crate) side: Side,
+struct Sized {
+    size: u64,
+    side: Side,
 }
 
 // A value in steps, and how the exact value stands to it.
@@ -89,7 +89,7 @@ fn lowered(x: u64, n: u64) -> Sized
 }
 
 // x times 10 to the power up over 10 to the power down, rounded and held.
-pub(crate) fn size_of(x: u64, up: u64, down: u64) -> Sized
+fn size_of(x: u64, up: u64, down: u64) -> Sized
     ensures { λ r. ⌜ r ≡ heldOver (x * 10 ^ up) (10 ^ down) ⌝ }
 {
     if down <= up {
@@ -154,4 +154,12 @@ pub fn round_in(d: Decimal, tens: u32, low: i32, high: i32) -> Rounded
         fit: Fit::Outside,
         side,
     }
+}
+
+// A number given for a bool is rounded to a whole one: zero is off, any other is on.
+pub fn switches_on(d: Decimal) -> bool
+    ensures { λ r. ⌜ r ≡ switchedOn d ⌝ }
+{
+    let sized = size_of(d.digits, d.up as u64, d.down);
+    sized.size != 0
 }
