@@ -88,6 +88,7 @@ examples =
     ∷ behind (sent "STAT:LOCK:NTR 4;PTR 0" ∷ condition Lock 4 ∷ condition Lock 0 ∷ []) "STAT:LOCK:COND?;EVEN?" "0;4\n" [] [] 0
     ∷ behind (condition Lock 32768 ∷ []) "STAT:LOCK:COND?;EVEN?" "0;0\n" [] [] 0
     ∷ behind (condition Operation 1 ∷ condition Lock 2 ∷ condition Warning 4 ∷ []) "*CLS;:STAT:OPER?;LOCK?;WARN?;WARN:COND?" "0;0;0;4\n" [] [] 0
+    ∷ behind (condition Operation 1 ∷ condition Lock 2 ∷ condition Lock 0 ∷ condition Warning 4 ∷ []) "*RST;:STAT:OPER?;LOCK?;WARN?" "1;2;4\n" [] [] 0
     -- their summaries: WARNing in bit 1, LOCK in bit 0, where the event is enabled
     ∷ behind (sent "STAT:WARN:ENAB 5" ∷ condition Warning 4 ∷ []) "*STB?" "2\n" [] [] 2
     ∷ behind (sent "STAT:LOCK:ENAB 5" ∷ condition Lock 4 ∷ []) "*STB?" "1\n" [] [] 1
