@@ -85,7 +85,7 @@ Fresh c = (c .line ≡ []) × (c .overlong ≡ false)
 abbrev pub LinesBegin : Type 0
 LinesBegin = Fresh (powerUp .core) × ((es : List Event) → Fresh (after powerUp (es ++ newline ∷ []) .core))
 
--- "any line in it that is refused .. by a number other than -430"; of a line that isn't refused nothing is cut
+-- "any line in it that is refused .. by a number other than -430"; of one that is not refused nothing is cut but a blank line's white space
 pub record ALine (before during : List Event) : Type 0 where
   pub begins : Fresh (after powerUp before .core)
   pub underWay : every inLine during ≡ true
