@@ -19,7 +19,7 @@ import sys
 TESTS = os.path.dirname(os.path.abspath(__file__))
 ROOT = os.path.dirname(TESTS)
 NO_ERROR = '0,"No error"'
-# The longest answer is shorter, and the player lends no more.
+# No answer is longer, and the player lends no more.
 ROOM = 4096
 # The player's letter of a condition, and its value.
 CONDITIONS = {'key turned': ('k', 1), 'key back': ('k', 0), 'operation begins': ('c', 1), 'warning begins': ('w', 1)}
@@ -40,7 +40,7 @@ def command(name):
 
 
 class Program:
-    """A program that answers lines with lines, started when it is first needed."""
+    """A program of the repository that answers lines with lines."""
     words = {}
 
     def __init__(self, name):
