@@ -1,6 +1,6 @@
 -- Laws of lists by the place: what a test of all members, or an equation of two lists, says of one member, and a table of bytes
 -- whose rows stand one behind the other.
-use mathlib.Core.Path.{_≡_, refl, sym, _∙_, ap}
+use mathlib.Core.Path.{_≡_, refl, sym, _∙_, ap, ap₂}
 use mathlib.Core.Bool.{Bool, true, false≢true}
 use mathlib.Core.List.{List, [], _∷_, _++_, map}
 use Prim.Native.Nat.{ℕ, zero, suc, _+_, _-_, _*_, _≤_, _<_}
@@ -8,13 +8,34 @@ use native.Mathlib.Omega.{arith}
 use lib.Dec.{eqb}
 use lib.ListN.{length, getD, take, drop, length-append, length-drop}
 use lib.Seq.{drop-nil, drop-cons, drop-append-add, getD-drop, take-all}
-use borrow.Author.Tests.{eqb-true}
-use Rattle.registers.specs.Text.{Text, every, empty, rest}
-use Rattle.registers.proofs.Tests.{and-both}
+use borrow.Author.Tests.{eqb-true, eq-eqb}
+use Rattle.registers.specs.Text.{Text, every, empty, rest, same}
+use Rattle.registers.proofs.Tests.{and-both, and-true}
 
 pub is-empty : (t : Text) → empty t ≡ true → t ≡ []
 is-empty [] q = refl
 is-empty (x ∷ xs) q = absurd (false≢true q)
+
+-- ---- the same bytes
+
+pub same-eq : (x y : Text) → same x y ≡ true → x ≡ y
+unfolding same
+same-eq [] [] e = refl
+same-eq [] (y ∷ ys) e = absurd (false≢true e)
+same-eq (x ∷ xs) [] e = absurd (false≢true e)
+same-eq (x ∷ xs) (y ∷ ys) e =
+    let p = and-both (eqb x y) (same xs ys) e in
+    ap₂ (λ (a : ℕ) (b : Text). a ∷ b) (eqb-true x y (p .0)) (same-eq xs ys (p .1))
+
+pub same-refl : (x y : Text) → x ≡ y → same x y ≡ true
+unfolding same
+same-refl x y e = rw e (go y)
+  where
+    go : (y : Text) → same y y ≡ true
+    go [] = refl
+    go (b ∷ bs) = and-true (eq-eqb b b refl) (go bs)
+
+-- ---- places
 
 -- a loop that goes on by one place
 pub fewer : {k n : ℕ} → k < n → n - (k + 1) < n - k

@@ -1,4 +1,6 @@
-pub mod Grammar
-pub mod Paths
 pub mod Laws
+pub mod Scan
+pub mod Tail
+pub mod Entering
+pub mod Path
 pub mod Whole

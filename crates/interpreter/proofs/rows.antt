@@ -1,9 +1,9 @@
 pub mod Greedy
 pub mod Words
 pub mod Letters
-pub mod Names
 pub mod Spelling
 pub mod Rows
+pub mod Numbers
 pub mod Walks
 pub mod Search
 pub mod Table

@@ -1,76 +1,92 @@
 -- What the header reader's own functions say. Nothing of 01 is defined here: see Header.antt and Rows.antt.
 use mathlib.Core.Path.{_≡_}
-use mathlib.Core.Bool.{Bool, true, false, not, _&&_, _||_}
-use mathlib.Core.List.{List, [], _∷_}
-use Prim.Native.Nat.{ℕ, _+_, _≤_}
+use mathlib.Core.Bool.{Bool, true, false}
+use mathlib.Core.List.{List, [], _∷_, _++_, map}
+use Prim.Native.Nat.{ℕ, _+_, _≤_, _<_}
 use lib.Dec.{eqb}
 use lib.ListN.{length, take, drop}
-use Rattle.registers.specs.Text.{Text, if_then_else_, letter, wordByte, empty, first, rest}
-use Rattle.registers.specs.Check.{Checked, refused, passed}
-use Rattle.registers.specs.Words.{must}
-use Rattle.interpreter.specs.Cuts.{last, front, cutAt}
-use Rattle.interpreter.specs.Header.{Place, common, root, here, Header, header, placed, asks, fullNames, pathAfter, isCommon}
-use Rattle.interpreter.specs.RowsParts.{rowOf, named}
-use Rattle.interpreter.specs.declared.header.Heading.{Heading}
+use mir.Val.{boolByte}
+use Rattle.registers.specs.Text.{Text, if_then_else_, dark, every, empty, first, rest, start}
+use Rattle.registers.specs.Check.{refused, passed}
+use Rattle.interpreter.specs.Cuts.{front, cutAt}
+use Rattle.interpreter.specs.Header.{Header, header, name, asks, fullNames, pathAfter, isCommon}
+use Rattle.interpreter.specs.NameParts.{keyOf}
+use Rattle.interpreter.specs.RowsParts.{rowCount, rowOf}
+use Rattle.interpreter.specs.declared.header.Names.{Names}
 use Rattle.interpreter.specs.declared.header.Looked.{Looked}
 use Rattle.interpreter.specs.declared.header.Looked.the-variants.{Bad, At}
 
--- ---- the path as text
-
--- a text that is empty or ends in a colon: what a path is
-unfoldable pub closed : Text → Bool
-closed p = empty p || eqb (last p) 58
-
--- the longest start of a text that ends in a colon
-unfoldable pub pathOf : Text → Text
-pathOf [] = []
-pathOf (b ∷ bs) = let m = pathOf bs in if empty m then (if eqb b 58 then b ∷ [] else []) else b ∷ m
-
--- ---- a header's grammar, byte by byte: 2 where a name must start, 1 within a name, 0 where it is broken
-
-unfoldable pub nameByte : Bool → ℕ → ℕ → ℕ
-nameByte joined s b = if eqb s 2 then (if letter b then 1 else 0) else (if joined && eqb b 58 then 2 else (if wordByte b then 1 else 0))
-
-unfoldable pub well : Bool → ℕ → Text → Bool
-well joined s [] = eqb s 1
-well joined s (b ∷ bs) = if eqb (nameByte joined s b) 0 then false else well joined (nameByte joined s b) bs
+-- ---- the header that a text starts with
 
 -- a header without its `?`
 unfoldable pub bodyOf : Text → Text
 bodyOf t = if asks t then front t else t
 
--- the header of a body
-unfoldable pub headerOf : Text → Bool → Checked Header
-headerOf body q =
-    if eqb (first body) 42 then placed common (rest body ∷ []) q
-    else (if eqb (first body) 58 then placed root (cutAt 58 (rest body)) q
-    else placed here (cutAt 58 body) q)
+-- whether it asks, and its names: one, or those joined by colons
+abbrev pub asksIn : Text → Bool
+asksIn t = asks (start dark t)
 
-abbrev pub placeOf : Bool → Bool → Place
-placeOf true b = common
-placeOf false true = root
-placeOf false false = here
+unfoldable pub namesIn : Bool → Text → List Text
+namesIn joined t = if joined then cutAt 58 (bodyOf (start dark t)) else bodyOf (start dark t) ∷ []
+
+-- a `?` that starts a text is skipped
+unfoldable pub unasked : Text → Text
+unasked t = if eqb (first t) 63 then rest t else t
+
+-- ---- the path as numbers
+
+-- so many names are held
+abbrev pub mostNames : ℕ
+mostNames = 7
+
+pub record Holds (names : List Text) (keys : List ℕ) (used : ℕ) : Type 0 where
+  pub all : every name names ≡ true
+  pub is : take used keys ≡ map keyOf names
+  pub few : used < mostNames
+
+-- a path is held
+abbrev pub Held : List ℕ → ℕ → Type 0
+Held keys used = (names : List Text) × Holds names keys used
 
 -- ---- what each function finds
 
-unfoldable pub headed : Heading → Text → Bool → Checked Header
-headed h body q =
-    if h .good then passed (record { place = placeOf (h .star) (h .root); names = cutAt 58 (drop (h .start) body); query = q }) else refused 102
+-- a number, or 0
+abbrev pub orZero : Bool → ℕ → ℕ
+orZero true n = n
+orZero false n = 0
 
-pub record HeadingRead (body : Text) (h : Heading) : Type 0 where
-  pub is : (asked : Bool) → headerOf body asked ≡ headed h body asked
-  pub names : h .good ≡ well (not (h .star)) 2 (drop (h .start) body)
-  pub within : h .start ≤ length body
+-- a number is entered behind others, as long as so many are held
+pub record Entered (keys : List ℕ) (count key r : ℕ) (left : List ℕ) : Type 0 where
+  pub is : take r left ≡ take mostNames (take count keys ++ key ∷ [])
+  pub few : r ≤ mostNames
+  pub some : 0 < r
 
--- checks 2 and 3 on a header: the row of the names that it stands for, and the path that it leaves in the buffer
-pub record FoundRow (path : List Text) (room : ℕ) (h : Header) (row used : ℕ) (asked : Bool) (buffer : Text) : Type 0 where
+pub record TailRead (t : Text) (at held : ℕ) (r : Names) : Type 0 where
+  pub good : r .good ≡ empty (start dark (unasked (drop at t)))
+  pub asked : r .asked ≡ eqb (first (drop at t)) 63
+  pub end : r .end ≡ at + boolByte (eqb (first (drop at t)) 63)
+  pub count : r .count ≡ held
+
+-- a header's names from a place on are entered behind those of the path
+pub record NamesGood (joined : Bool) (t : Text) (at : ℕ) (path : List ℕ) (r : Names) (keys : List ℕ) : Type 0 where
+  pub asked : r .asked ≡ asksIn (drop at t)
+  pub end : r .end ≡ at + length (start dark (drop at t))
+  pub held : take (r .count) keys ≡ take mostNames (path ++ map keyOf (namesIn joined (drop at t)))
+  pub few : r .count ≤ mostNames
+  pub some : 0 < r .count
+
+pub record NamesRead (joined : Bool) (t : Text) (at : ℕ) (path : List ℕ) (r : Names) (keys : List ℕ) : Type 0 where
+  pub good : r .good ≡ every name (namesIn joined (drop at t))
+  pub found : r .good ≡ true → NamesGood joined t at path r keys
+
+-- checks 2 and 3 on a header: the row of the names that it stands for, where it ends, and the path that it leaves where there is
+-- such a row
+pub record FoundRow (path : List Text) (t : Text) (h : Header) (row used : ℕ) (asked : Bool) (end : ℕ) (keys : List ℕ) : Type 0 where
   pub query : asked ≡ h .query
   pub at : row ≡ rowOf (isCommon (h .place)) (fullNames (h .place) path (h .names)) (h .query)
-  pub left : named (take used buffer) ≡ pathAfter (h .place) path (h .names)
-  pub shut : closed (take used buffer) ≡ true
-  pub short : used ≤ room
+  pub ends : end ≡ length (start dark t)
+  pub left : row < rowCount → Holds (pathAfter (h .place) path (h .names)) keys used
 
-abbrev pub LookedUp : Text → Text → Looked → Text → Type 0
-LookedUp path t Bad buffer = header t ≡ refused 102
-LookedUp path t (At row used asked) buffer =
-    (h : Header) × (header t ≡ passed h) × FoundRow (named path) (length path + length t) h row used asked buffer
+abbrev pub LookedUp : List Text → Text → Looked → List ℕ → Type 0
+LookedUp path t Bad keys = header (start dark t) ≡ refused 102
+LookedUp path t (At row used asked end) keys = (h : Header) × (header (start dark t) ≡ passed h) × FoundRow path t h row used asked end keys

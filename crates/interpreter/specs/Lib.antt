@@ -3,6 +3,7 @@
 pub mod Cuts
 pub mod Header
 pub mod Rows
+pub mod NameParts
 pub mod RowsParts
 pub mod HeaderParts
 pub mod Parameter

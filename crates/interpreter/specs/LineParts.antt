@@ -1,8 +1,8 @@
 -- What the line reader's own functions say. Nothing of 01 is defined here: see Line.antt.
 use mathlib.Core.Path.{_≡_}
 use mathlib.Core.Bool.{Bool, true, false}
-use mathlib.Core.List.{[]}
-use Prim.Native.Nat.{ℕ, _+_, _≤_, _<_}
+use mathlib.Core.List.{List, []}
+use Prim.Native.Nat.{ℕ, _≤_, _<_}
 use lib.ListN.{length, take}
 use Rattle.registers.specs.Text.{Text}
 use Rattle.registers.specs.Check.{refused, passed}
@@ -12,8 +12,7 @@ use Rattle.registers.specs.declared.error.Error.{Error}
 use Rattle.interpreter.specs.Cuts.{cutAt}
 use Rattle.interpreter.specs.Box.{Box, box, mostAnswer}
 use Rattle.interpreter.specs.Line.{attempt, refuse, runUnits, interrupted, runLine}
-use Rattle.interpreter.specs.HeaderParts.{closed}
-use Rattle.interpreter.specs.RowsParts.{named}
+use Rattle.interpreter.specs.HeaderParts.{Holds}
 use Rattle.interpreter.specs.DeedsParts.{boxIn}
 use Rattle.interpreter.specs.declared.perform.Present.{Present}
 use Rattle.interpreter.specs.declared.perform.Done.{Done}
@@ -30,17 +29,16 @@ pub record RefusedWith (e : Error) (d r : Done) : Type 0 where
   pub room : r .answered ≤ d .answered
 
 -- a unit was obeyed, or refused
-pub record UnitRan (d : Done) (path unit out : Text) (r : Done) (paths left : Text) : Type 0 where
+pub record UnitRan (d : Done) (path : List Text) (unit out : Text) (r : Done) (keys : List ℕ) (left : Text) : Type 0 where
   pub queued : r .present .status .queued ≤ most
   pub room : r .answered < mostAnswer
   pub goes : r .obeyed ≡ true
-      → (attempt (named path) (boxAt (d .present) (d .answered) out) unit
-      ≡ passed (record { path = named (take (r .used) paths); box = boxAt (r .present) (r .answered) left }))
-      × (closed (take (r .used) paths) ≡ true)
-      × (r .used ≤ length path + length unit)
+      → (names : List Text)
+      × (attempt path (boxAt (d .present) (d .answered) out) unit ≡ passed (record { path = names; box = boxAt (r .present) (r .answered) left }))
+      × Holds names keys (r .used)
   pub stops : r .obeyed ≡ false
       → (n : ℕ)
-      × (attempt (named path) (boxAt (d .present) (d .answered) out) unit ≡ refused n)
+      × (attempt path (boxAt (d .present) (d .answered) out) unit ≡ refused n)
       × (boxAt (r .present) (r .answered) left ≡ refuse n (boxAt (d .present) (d .answered) out))
 
 pub record UnitsRan (p : Present) (line : Text) (r : Ran) (left : Text) : Type 0 where

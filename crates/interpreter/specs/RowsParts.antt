@@ -1,24 +1,24 @@
 -- How the code keeps the words and the rows, as a table of bytes made of 01's rows, and what the row search's own functions say. Nothing
 -- of 01 is defined here.
 use mathlib.Core.Path.{_≡_}
-use mathlib.Core.Bool.{Bool, true, false, not, _||_}
+use mathlib.Core.Bool.{Bool, true, false, not, _&&_, _||_}
 use mathlib.Core.List.{List, [], _∷_, _++_, map}
-use Prim.Native.Nat.{ℕ, suc, _+_, _-_, _*_, _≤_}
+use Prim.Native.Nat.{ℕ, zero, suc, _+_, _-_, _*_, _/_, _%_, _≤_, _<_}
 use Prim.Native.String.{String}
 use lib.Dec.{ltb, eqb}
 use lib.Bits.{bitAnd}
 use lib.ListN.{length, getD, drop, replicate}
-use Rattle.registers.specs.Text.{Text, if_then_else_, bytes, same, capital, empty, first, start}
-use Rattle.registers.specs.Words.{Node, must, may, shortForm, longForm, matches}
-use Rattle.interpreter.specs.Cuts.{joinFirst}
-use Rattle.interpreter.specs.Rows.{Row, rows, hasForm, fitsRow}
+use Rattle.registers.specs.Text.{Text, if_then_else_, bytes, same, capital, empty}
+use Rattle.registers.specs.Words.{Node, must, may, shortForm, longForm}
+use Rattle.interpreter.specs.NameParts.{codeOf, keyOf}
+use Rattle.interpreter.specs.Rows.{Row, rows, sameBool, hasForm, fitsRow}
 use Rattle.registers.specs.declared.status.RegisterSet.{RegisterSet}
 use Rattle.registers.specs.declared.status.RegisterSet.the-variants.{Operation, Lock, Warning}
 use Rattle.registers.specs.declared.status.Register.the-variants.{Enable, Ntr, Ptr}
 use Rattle.interpreter.specs.declared.deed.Deed.the-variants.{Query}
 use Rattle.interpreter.specs.declared.deed.Query.the-variants.{Condition, SetEvents}
 use Rattle.interpreter.specs.declared.deed.Role.{Role}
-use Rattle.interpreter.specs.declared.deed.Role.the-variants.{Setting, Register, Order, Question}
+use Rattle.interpreter.specs.declared.deed.Role.the-variants.{Setting, Register, Question}
 use Rattle.interpreter.specs.declared.rows.Walk.{Walk}
 use Rattle.interpreter.specs.declared.rows.Walk.the-variants.{To, Missed}
 
@@ -36,38 +36,53 @@ roleOfSet x i =
     else (if eqb i 1 then Question (Query (SetEvents x))
     else (if eqb i 2 then Register (Enable x) else (if eqb i 3 then Register (Ntr x) else Register (Ptr x))))
 
--- ---- words: those of the headers, and behind them those of the parameters, so that each row's words stand together
+-- ---- words: those of the parameters, so that each row's words stand together, and those of the rows' nodes
 
 unfoldable pub wordList : List String
-wordList =
+wordList = "CURRent" ∷ "SCURrent" ∷ "VOLTage" ∷ "R12V" ∷ "R24V" ∷ "CONTinuous" ∷ "OFF" ∷ "ON" ∷ "MINimum" ∷ "MAXimum" ∷ []
+
+unfoldable pub nodeList : List String
+nodeList =
     "OUTPut" ∷ "STATe" ∷ "PON" ∷ "RELay" ∷ "MONitor" ∷ "MODE" ∷ "SOURce" ∷ "VOLTage" ∷ "LEVel" ∷ "IMMediate" ∷ "AMPLitude" ∷ "RANGe"
     ∷ "FREQuency" ∷ "CURRent" ∷ "LIMit" ∷ "RMS" ∷ "PEAK" ∷ "TIME" ∷ "HIGH" ∷ "LOW" ∷ "DISPlay" ∷ "BRIGhtness" ∷ "SYSTem" ∷ "KLOCk"
     ∷ "IDN" ∷ "TST" ∷ "OPC" ∷ "WAI" ∷ "RST" ∷ "CLS" ∷ "ESE" ∷ "SRE" ∷ "ESR" ∷ "STB" ∷ "STATus" ∷ "OPERation" ∷ "CONDition" ∷ "EVENt"
-    ∷ "ENABle" ∷ "NTRansition" ∷ "PTRansition" ∷ "ERRor" ∷ "EXAM" ∷ "LOCK" ∷ "WARNing"
-    ∷ "CURRent" ∷ "SCURrent" ∷ "VOLTage" ∷ "R12V" ∷ "R24V" ∷ "CONTinuous" ∷ "OFF" ∷ "ON" ∷ "MINimum" ∷ "MAXimum" ∷ []
+    ∷ "ENABle" ∷ "NTRansition" ∷ "PTRansition" ∷ "ERRor" ∷ "EXAM" ∷ "LOCK" ∷ "WARNing" ∷ []
 
--- how many words there are, how many of them are the headers', and how many rows
+-- how many words the parameters have, how many the nodes, and how many rows there are
 abbrev pub wordCount : ℕ
-wordCount = 55
+wordCount = 10
 
-abbrev pub headerWords : ℕ
-headerWords = 45
+abbrev pub nodeCount : ℕ
+nodeCount = 45
 
 abbrev pub rowCount : ℕ
 rowCount = 44
 
--- how many bytes the words take in the table, the rows, and both
+-- how many bytes the parameters' words take in the table, the rows, and the numbers of the nodes' words
 abbrev pub wordBytes : ℕ
 wordBytes = wordCount * 16
 
 abbrev pub rowBytes : ℕ
 rowBytes = rowCount * 8
 
+abbrev pub keyBytes : ℕ
+keyBytes = nodeCount * 16
+
+-- where the numbers begin, where the codes begin, and where the table ends
+abbrev pub firstKey : ℕ
+firstKey = wordBytes + rowBytes
+
+abbrev pub firstCode : ℕ
+firstCode = firstKey + keyBytes
+
 abbrev pub tableBytes : ℕ
-tableBytes = wordBytes + rowBytes
+tableBytes = firstCode + 256
 
 unfoldable pub wordAt : ℕ → String
 wordAt i = getD wordList i ""
+
+unfoldable pub nodeAt : ℕ → String
+nodeAt i = getD nodeList i ""
 
 -- 16 bytes to a word: the lengths of its short and its long form, its letters, and zeros
 unfoldable pub wordRow : String → Text
@@ -89,8 +104,8 @@ placeIn (v ∷ vs) w = let more = suc (placeIn vs w) in if same (bytes v) (bytes
 
 -- a node's word, and 128 more if it is optional
 unfoldable pub nodeByte : Node → ℕ
-nodeByte (must w) = placeIn wordList w
-nodeByte (may w) = placeIn wordList w + 128
+nodeByte (must w) = placeIn nodeList w
+nodeByte (may w) = placeIn nodeList w + 128
 
 abbrev pub bitIf : Bool → ℕ → ℕ
 bitIf true n = n
@@ -102,37 +117,54 @@ formByte r =
     if r .star then bitIf (hasForm false (r .role)) 4 + bitIf (hasForm true (r .role)) 8
     else bitIf (hasForm false (r .role)) 1 + bitIf (hasForm true (r .role)) 2
 
--- how many nodes two rows begin with alike
-unfoldable pub shared : List Node → List Node → ℕ
-shared [] nodes = 0
-shared (x ∷ xs) [] = 0
-shared (x ∷ xs) (y ∷ ys) = let more = suc (shared xs ys) in if eqb (nodeByte x) (nodeByte y) then more else 0
+-- 8 bytes to a row: its forms, how many nodes, the nodes, and zeros
+unfoldable pub rowRow : Row → Text
+rowRow r = formByte r ∷ length (r .nodes) ∷ map nodeByte (r .nodes) ++ replicate (6 - length (r .nodes)) 0
 
--- a row and the nodes of the row before it
-pub record Following : Type 0 where
-  pub before : List Node
-  pub row : Row
-
-unfoldable pub following : List Node → List Row → List Following
-following before [] = []
-following before (r ∷ rs) = record { before = before; row = r } ∷ following (r .nodes) rs
-
--- 8 bytes to a row: its forms, how many nodes, how many of them the row before begins with too, the nodes, and zeros
-unfoldable pub rowRow : Following → Text
-rowRow f =
-    let nodes = f .row .nodes in
-    formByte (f .row) ∷ length nodes ∷ shared (f .before) nodes ∷ map nodeByte nodes ++ replicate (5 - length nodes) 0
-
-unfoldable pub rowTableOf : List Following → Text
+unfoldable pub rowTableOf : List Row → Text
 rowTableOf [] = []
-rowTableOf (f ∷ fs) = rowRow f ++ rowTableOf fs
+rowTableOf (r ∷ rs) = rowRow r ++ rowTableOf rs
 
 unfoldable pub rowTable : Text
-rowTable = rowTableOf (following [] rows)
+rowTable = rowTableOf rows
 
--- the table that is searched: the words, and behind them the rows
+-- ---- the numbers of the nodes' words, and the codes of all bytes
+
+-- a number in two, four and eight bytes, low byte first
+abbrev pub two : ℕ → Text
+two n = n % 256 ∷ n / 256 ∷ []
+
+abbrev pub four : ℕ → Text
+four n = two (n % 65536) ++ two (n / 65536)
+
+abbrev pub eight : ℕ → Text
+eight n = four (n % 4294967296) ++ four (n / 4294967296)
+
+-- 16 bytes to a word: the numbers of its short and its long form
+unfoldable pub keyRow : String → Text
+keyRow w = eight (keyOf (shortForm w)) ++ eight (keyOf (longForm w))
+
+unfoldable pub keyTableOf : List String → Text
+keyTableOf [] = []
+keyTableOf (w ∷ ws) = keyRow w ++ keyTableOf ws
+
+unfoldable pub keyTable : Text
+keyTable = keyTableOf nodeList
+
+-- what a function says of n numbers from one on
+unfoldable pub listFrom : ℕ → ℕ → (ℕ → ℕ) → Text
+listFrom i zero f = []
+listFrom i (suc n) f = f i ∷ listFrom (suc i) n f
+
+unfoldable pub codeTable : Text
+codeTable = listFrom 0 256 codeOf
+
+-- the table that is searched: the parameters' words, and behind them what finds a header's row
+unfoldable pub searchTable : Text
+searchTable = rowTable ++ (keyTable ++ codeTable)
+
 unfoldable pub commandTable : Text
-commandTable = wordTable ++ rowTable
+commandTable = wordTable ++ searchTable
 
 -- ---- the row that a search finds
 
@@ -144,38 +176,34 @@ firstFit p (r ∷ rs) = if p r then 0 else suc (firstFit p rs)
 unfoldable pub rowOf : Bool → List Text → Bool → ℕ
 rowOf star names asked = firstFit (fitsRow star names asked) rows
 
--- ---- a text of names, each ended by a colon or by the end
+-- ---- names as numbers: whether one is that of a word's short or long form
 
-unfoldable pub named : Text → List Text
-named [] = []
-named (b ∷ bs) = if eqb b 58 then [] ∷ named bs else joinFirst b (named bs)
-
--- a byte of a name
-abbrev pub inName : ℕ → Bool
-inName b = not (eqb b 58)
+unfoldable pub keyMatches : String → ℕ → Bool
+keyMatches w k = eqb k (keyOf (shortForm w)) || eqb k (keyOf (longForm w))
 
 -- ---- the greedy walk over a row's nodes: a node that matches is taken, an optional one that doesn't is left out
 
-unfoldable pub greedy : List Node → List Text → Bool
-greedy [] names = empty names
+unfoldable pub greedy : List Node → List ℕ → Bool
+greedy [] keys = empty keys
 greedy (must w ∷ nodes) [] = false
-greedy (must w ∷ nodes) (n ∷ names) = if matches w n then greedy nodes names else false
+greedy (must w ∷ nodes) (k ∷ keys) = if keyMatches w k then greedy nodes keys else false
 greedy (may w ∷ nodes) [] = greedy nodes []
-greedy (may w ∷ nodes) (n ∷ names) = if matches w n then greedy nodes names else greedy nodes (n ∷ names)
+greedy (may w ∷ nodes) (k ∷ keys) = if keyMatches w k then greedy nodes keys else greedy nodes (k ∷ keys)
 
--- ---- a word at a name
+unfoldable pub fitsKeys : Bool → List ℕ → Bool → Row → Bool
+fitsKeys star keys asked r = sameBool star (r .star) && (hasForm asked (r .role) && greedy (r .nodes) keys)
+
+-- the first row that the names' numbers spell in the form asked for; the number of rows where none does
+unfoldable pub rowOfKeys : Bool → List ℕ → Bool → ℕ
+rowOfKeys star keys asked = firstFit (fitsKeys star keys asked) rows
+
+-- ---- a word of a parameter
 
 -- how many first bytes of a text, in capitals, are the letters
 unfoldable pub agreed : Text → Text → ℕ
 agreed [] letters = 0
 agreed (b ∷ bs) [] = 0
 agreed (b ∷ bs) (x ∷ xs) = let more = suc (agreed bs xs) in if eqb (capital b) x then more else 0
-
--- the name at a place is the word, and what follows it begins at another; or it is not
-abbrev pub WordTaken : ℕ → Text → ℕ → Walk → Type 0
-WordTaken w t at (To n) =
-    (matches (wordAt w) (start inName (drop at t)) ≡ true) × (named (drop at t) ≡ start inName (drop at t) ∷ named (drop n t)) × (n ≤ length t)
-WordTaken w t at Missed = matches (wordAt w) (start inName (drop at t)) ≡ false
 
 -- ---- cells of the tables
 
@@ -189,16 +217,40 @@ formLength w n = eqb n (wordCell w 0) || eqb n (wordCell w 1)
 unfoldable pub rowCell : ℕ → ℕ → ℕ
 rowCell r i = getD rowTable (r * 8 + i) 0
 
+-- two and four bytes as a number
+abbrev pub pairAt : Text → ℕ → ℕ
+pairAt t at = getD t at 0 + getD t (at + 1) 0 * 256
+
+abbrev pub quadAt : Text → ℕ → ℕ
+quadAt t at = pairAt t at + pairAt t (at + 2) * 65536
+
+pub record PairRead (t : Text) (at r : ℕ) : Type 0 where
+  pub is : r ≡ pairAt t at
+  pub small : r < 65536
+
+pub record QuadRead (t : Text) (at r : ℕ) : Type 0 where
+  pub is : r ≡ quadAt t at
+  pub small : r < 4294967296
+
+-- the number of a word's short form, or its long one
+unfoldable pub keyCell : ℕ → ℕ → ℕ
+keyCell w i = keyOf (if eqb i 0 then shortForm (nodeAt w) else longForm (nodeAt w))
+
+-- a node's byte: its word, and whether the node may be left out
 unfoldable pub wordIn : ℕ → ℕ
-wordIn x = if ltb x 128 then x else x - 128
+wordIn x = x % 128
 
 unfoldable pub nodeOf : ℕ → Node
-nodeOf x = if ltb x 128 then must (wordAt x) else may (wordAt (x - 128))
+nodeOf x = if ltb x 128 then must (nodeAt (wordIn x)) else may (nodeAt (wordIn x))
 
--- one node is taken or left out, or it is missed
-abbrev pub Walked : Node → Text → ℕ → Walk → Type 0
-Walked x t at (To n) = ((nodes : List Node) → greedy (x ∷ nodes) (named (drop at t)) ≡ greedy nodes (named (drop n t))) × (n ≤ length t)
-Walked x t at Missed = (nodes : List Node) → greedy (x ∷ nodes) (named (drop at t)) ≡ false
+-- one node is taken at a place of the names' numbers, or left out, or it is missed
+abbrev pub Walked : Node → List ℕ → ℕ → Walk → Type 0
+Walked x keys at (To n) = ((nodes : List Node) → greedy (x ∷ nodes) (drop at keys) ≡ greedy nodes (drop n keys)) × (n ≤ length keys)
+Walked x keys at Missed = (nodes : List Node) → greedy (x ∷ nodes) (drop at keys) ≡ false
+
+-- a node that no name spells
+unfoldable pub leftOut : ℕ → ℕ → Walk
+leftOut node at = if ltb node 128 then Missed else To at
 
 -- a header's form as a bit, and whether a row has it
 unfoldable pub formBit : Bool → Bool → ℕ

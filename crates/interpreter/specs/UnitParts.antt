@@ -1,9 +1,10 @@
 -- What the unit reader's own functions say. Nothing of 01 is defined here: see Unit.antt.
 use mathlib.Core.Path.{_≡_}
-use mathlib.Core.Bool.{Bool, true, not}
-use Prim.Native.Nat.{ℕ, _+_, _≤_, _<_}
+use mathlib.Core.Bool.{Bool, true, false, not}
+use mathlib.Core.List.{List}
+use Prim.Native.Nat.{ℕ, _≤_, _<_}
 use lib.Dec.{leb, ltb}
-use lib.ListN.{length, take}
+use lib.ListN.{length}
 use Rattle.registers.specs.Text.{Text, if_then_else_, every, empty}
 use Rattle.registers.specs.Check.{Checked, refused, passed, _>>=_, _>>_, check}
 use Rattle.registers.specs.Errors.{numberOf}
@@ -11,8 +12,8 @@ use Rattle.registers.specs.Settings.{count, within, accepted}
 use Rattle.registers.specs.Status.{widest}
 use Rattle.registers.specs.declared.settings.Settings.{Settings}
 use Rattle.interpreter.specs.Parameter.{parameters, least, greatest, deedOf}
-use Rattle.interpreter.specs.RowsParts.{rowCount, roleAt, named}
-use Rattle.interpreter.specs.HeaderParts.{closed}
+use Rattle.interpreter.specs.RowsParts.{rowCount, roleAt}
+use Rattle.interpreter.specs.HeaderParts.{Holds}
 use Rattle.interpreter.specs.Unit.{readUnit}
 use Rattle.interpreter.specs.declared.deed.Deed.{Deed}
 use Rattle.interpreter.specs.declared.deed.Deed.the-variants.{Change as change, Complete, Clear, Query as query, Inquire}
@@ -37,13 +38,11 @@ decided s row asked t =
     check 109 (leb (least r asked) (length (parameters t))) >>
     deedOf s r asked (parameters t)
 
--- a unit is refused by an error's number, or leaves its deed and a path that takes so much of the buffer
-abbrev pub UnitRead : Settings → Text → Text → Decision → ℕ → Text → Type 0
-UnitRead s path u (Refused e) used buffer = readUnit s (named path) u ≡ refused (numberOf e)
-UnitRead s path u (Obey d) used buffer =
-    (readUnit s (named path) u ≡ passed (record { deed = d; path = named (take used buffer) }))
-    × (closed (take used buffer) ≡ true)
-    × (used ≤ length path + length u)
+-- a unit is refused by an error's number, or leaves its deed and a path
+abbrev pub UnitRead : Settings → List Text → Text → Decision → ℕ → List ℕ → Type 0
+UnitRead s path u (Refused e) used keys = readUnit s path u ≡ refused (numberOf e)
+UnitRead s path u (Obey d) used keys =
+    (left : List Text) × (readUnit s path u ≡ passed (record { deed = d; path = left })) × Holds left keys used
 
 -- ---- what a unit that was read asks for: what it stores is within its limits and, in exam mode, on the step, and the settings
 -- that it names are there

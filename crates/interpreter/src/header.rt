@@ -1,135 +1,133 @@
 // Checks 2 and 3 on a header: its grammar, the path, and the row that spells it.
 //
-// The path is kept as text, as it was written: each name ended by a colon, in a lent buffer. A
-// header's names are entered behind it, and the path that is left is the start up to the last colon.
+// The path is the numbers of its names. One scan finds a header's end, its grammar and its names, which are entered behind the
+// path; the path that is left is all of them but the last.
+use crate::name;
 use crate::rows;
 use registers::text;
 ghost use mathlib.Core.Path.{_≡_};
-ghost use mathlib.Core.Bool.{true, not};
-ghost use Prim.Native.Nat.{_+_, _≤_, _<_};
+ghost use mathlib.Core.List.{List};
+ghost use Prim.Native.Nat.{_≤_, _<_};
 ghost use lib.ListN.{length, take};
-ghost use lib.Dec.{eqb};
-ghost use Rattle.interpreter.specs.Header.{asks};
+ghost use Rattle.registers.specs.Text.{Text};
 ghost use Rattle.interpreter.specs.RowsParts.{commandTable};
-ghost use Rattle.interpreter.specs.HeaderParts.{closed, pathOf, nameByte, well, bodyOf, HeadingRead, LookedUp};
+ghost use Rattle.interpreter.specs.HeaderParts.{mostNames, orZero, Entered, TailRead, NamesRead, Holds, LookedUp};
 
-// A header's grammar, where its names start, and what leads them.
-struct Heading {
+// How many names are held: no row has more than five nodes, so a header with more names has no row, and nothing is lost.
+pub(crate) const MOST: usize = 7;
+
+// The names of a header: whether it is one, whether it asks, where it ends, and how many names are held.
+struct Names {
     good: bool,
-    start: usize,
-    star: bool,
-    root: bool,
+    asked: bool,
+    end: usize,
+    count: usize,
 }
 
-// What is found of a header: its row, or rows::ROWS, and how much of the buffer the new path takes.
+// What is found of a header: its row, or ROWS, how many names the new path has, and where the header ends.
 pub(crate) enum Looked {
     Bad,
     At {
         row: usize,
         used: usize,
         asked: bool,
+        end: usize,
     },
 }
 
-// One byte more of a header's names.
-fn name_byte(joined: bool, state: u8, b: u8) -> u8
-    ensures { λ r. ⌜ r ≡ nameByte joined state b ⌝ }
+// A number, or 0.
+fn or_zero(keep: bool, n: usize) -> usize
+    ensures { λ r. ⌜ r ≡ orZero keep n ⌝ }
 {
-    if state == 2 {
-        return text::is_letter(b) as u8;
-    }
-    if joined & (b == 58) {
-        return 2;
-    }
-    text::is_word_byte(b) as u8
+    if keep { n } else { 0 }
 }
 
-// Whether a text is a name, or names joined by single colons.
-fn well_named(text: &[u8], joined: bool) -> bool
-    ensures { λ r. ⌜ r ≡ well joined 2 (now (text .entry)) ⌝ }
+// Enters a name behind others, and answers how many there are then.
+fn enter(path: &mut [u64], count: usize, key: u64) -> usize
+    requires { ⌜ (count ≤ mostNames) × (length (now path) ≡ mostNames) ⌝ }
+    ensures { λ r. ⌜ Entered (now (path .entry)) count key r (now (path .exit)) ⌝ }
 {
-    let mut state: u8 = 2;
-    let mut i: usize = 0;
-    while i < text.len() {
-        state = name_byte(joined, state, text[i]);
-        if state == 0 {
-            return false;
+    if path.len() <= count {
+        return count;
+    }
+    path[count] = key;
+    count + 1
+}
+
+// What stands behind a header's last name: "with an optional `?` at the end", and "the header runs to the first white space".
+fn read_tail(text: &[u8], at: usize, count: usize) -> Names
+    ensures { λ r. ⌜ TailRead (now (text .entry)) at count r ⌝ }
+{
+    let asked = text::byte_at(text, at) == 63;
+    let end = at + asked as usize;
+    if text.len() <= end {
+        return Names {
+            good: true,
+            asked,
+            end,
+            count,
+        };
+    }
+    Names {
+        good: text::is_white(text[end]),
+        asked,
+        end,
+        count,
+    }
+}
+
+// Reads a name, or names joined by single colons, from a place on, and enters them behind the path.
+fn read_names(
+    table: &[u8],
+    text: &[u8],
+    at: usize,
+    joined: bool,
+    path: &mut [u64],
+    used: usize,
+) -> Names
+    requires { ⌜ (now table ≡ commandTable) × (used ≤ mostNames) × (length (now path) ≡ mostNames) ⌝ }
+    ensures { λ r. ⌜ NamesRead joined (now (text .entry)) at (take used (now (path .entry))) r (now (path .exit)) ⌝ }
+{
+    let mut count = used;
+    let mut i = at;
+    loop {
+        let name = name::read(table, text, i);
+        if name.key == 0 {
+            return Names {
+                good: false,
+                asked: false,
+                end: i,
+                count,
+            };
         }
-        i += 1;
-    }
-    state == 1
-}
-
-// Where a header ends without its `?`.
-fn body_end(text: &[u8]) -> usize
-    ensures { λ r. ⌜ (take r (now (text .entry)) ≡ bodyOf (now (text .entry))) × (r ≤ length (now (text .entry))) × (asks (now (text .entry)) ≡ not (eqb r (length (now (text .entry))))) ⌝ }
-{
-    let n = text.len();
-    if n == 0 {
-        return 0;
-    }
-    if text[n - 1] == 63 {
-        return n - 1;
-    }
-    n
-}
-
-fn read_body(body: &[u8]) -> Heading
-    ensures { λ r. ⌜ HeadingRead (now (body .entry)) r ⌝ }
-{
-    let b = text::byte_at(body, 0);
-    let star = b == 42;
-    let root = b == 58;
-    let start = (star | root) as usize;
-    Heading {
-        good: well_named(&body[start..], !star),
-        start,
-        star,
-        root,
-    }
-}
-
-// Where the longest start of a text that ends in a colon ends.
-fn path_end(text: &[u8]) -> usize
-    ensures { λ r. ⌜ (take r (now (text .entry)) ≡ pathOf (now (text .entry))) × (r ≤ length (now (text .entry))) ⌝ }
-{
-    let mut e = text.len();
-    while 0 < e {
-        if text[e - 1] == 58 {
-            return e;
+        count = enter(path, count, name.key);
+        let end = name.end;
+        if !joined | (text::byte_at(text, end) != 58) {
+            return read_tail(text, end, count);
         }
-        e -= 1;
+        i = end + 1;
     }
-    0
 }
 
-// A header's row, and the path that it leaves in the path's buffer: its names are entered behind the path, or at the
-// root, where the search reads them.
-pub(crate) fn look_up(table: &[u8], path: &mut [u8], used: usize, header: &[u8]) -> Looked
-    requires { ⌜ now table ≡ commandTable ⌝ }
-    requires { ⌜ (used + length (now header) ≤ length (now path)) × (closed (take used (now path)) ≡ true) ⌝ }
-    ensures { λ r. ⌜ LookedUp (take used (now (path .entry))) (now (header .entry)) r (now (path .exit)) ⌝ }
+// The row of the header that a text starts with, and the path that it leaves. A common command is entered behind the path too,
+// and the search begins with it.
+pub(crate) fn look_up(table: &[u8], path: &mut [u64], used: usize, text: &[u8]) -> Looked
+    requires { ⌜ (now table ≡ commandTable) × (used < mostNames) × (length (now path) ≡ mostNames) ⌝ }
+    ensures { λ r. ⌜ ((names : List Text) → Holds names (now (path .entry)) used → LookedUp names (now (text .entry)) r (now (path .exit))) ⌝ }
 {
-    let end = body_end(header);
-    let asked = end < header.len();
-    let body = &header[0..end];
-    let h = read_body(body);
-    if !h.good {
+    let lead = text::byte_at(text, 0);
+    let star = lead == 42;
+    let root = lead == 58;
+    let from = or_zero(!root, used);
+    let names = read_names(table, text, (star | root) as usize, !star, path, from);
+    if !names.good {
         return Looked::Bad;
     }
-    let start = h.start;
-    let names = &body[start..];
-    if h.star {
-        let row = rows::find(table, names, true, asked);
-        return Looked::At { row, used, asked };
-    }
-    let from = if h.root { 0 } else { used };
-    let n = bytes::copy(names, &mut path[from..]);
-    let all = from + n;
-    let entered = &path[0..all];
+    let first = or_zero(star, used);
     Looked::At {
-        row: rows::find(table, entered, false, asked),
-        used: path_end(entered),
-        asked,
+        row: rows::find(table, path, first, names.count, star, names.asked),
+        used: names.count - 1,
+        asked: names.asked,
+        end: names.end,
     }
 }

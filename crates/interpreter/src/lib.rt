@@ -7,6 +7,7 @@ pub mod deed;
 mod flow;
 mod header;
 mod line;
+mod name;
 mod parameter;
 mod perform;
 mod reply;

@@ -1,20 +1,21 @@
 // A line: its units left to right, and its end.
+use crate::header::MOST;
 use crate::parameter::Decision;
 use crate::perform;
 use crate::perform::Done;
 use crate::perform::Present;
-use crate::state::LINE;
 use crate::unit;
 use registers::error::Error;
 use registers::text;
 ghost use mathlib.Core.Path.{_≡_};
-ghost use mathlib.Core.Bool.{true};
-ghost use Prim.Native.Nat.{_+_, _≤_, _<_};
-ghost use lib.ListN.{length, take};
+ghost use mathlib.Core.List.{List};
+ghost use Prim.Native.Nat.{_≤_, _<_};
+ghost use lib.ListN.{length};
+ghost use Rattle.registers.specs.Text.{Text};
 ghost use Rattle.registers.specs.Status.{most};
-ghost use Rattle.interpreter.specs.Box.{mostLine, mostAnswer};
+ghost use Rattle.interpreter.specs.Box.{mostAnswer};
 ghost use Rattle.interpreter.specs.RowsParts.{commandTable};
-ghost use Rattle.interpreter.specs.HeaderParts.{closed};
+ghost use Rattle.interpreter.specs.HeaderParts.{Holds, Held};
 ghost use Rattle.interpreter.specs.LineParts.{RefusedWith, UnitRan, UnitsRan, LineRan, Discarded};
 
 // What a line leaves.
@@ -40,14 +41,13 @@ fn refuse(mut done: Done, error: Error) -> Done
 fn run_unit(
     table: &[u8],
     mut done: Done,
-    path: &mut [u8; LINE],
+    path: &mut [u64; MOST],
     unit: &[u8],
     out: &mut [u8],
 ) -> Done
-    requires { ⌜ now table ≡ commandTable ⌝ }
-    requires { ⌜ (done .used + length (now unit) ≤ mostLine) × (closed (take (done .used) (now path)) ≡ true) ⌝ }
+    requires { ⌜ (now table ≡ commandTable) × Held (now path) (done .used) ⌝ }
     requires { ⌜ (done .answered < mostAnswer) × (length (now out) ≡ mostAnswer) × (done .present .status .queued ≤ most) ⌝ }
-    ensures { λ r. ⌜ UnitRan done (take (done .used) (now (path .entry))) (now (unit .entry)) (now (out .entry)) r (now (path .exit)) (now (out .exit)) ⌝ }
+    ensures { λ r. ⌜ ((names : List Text) → Holds names (now (path .entry)) (done .used) → UnitRan done names (now (unit .entry)) (now (out .entry)) r (now (path .exit)) (now (out .exit))) ⌝ }
 {
     let reading = unit::read(table, done.present.settings, path, done.used, unit);
     let decision = reading.decision;
@@ -69,7 +69,7 @@ fn run_unit(
 // its line: it starts at the root, and is gone at the newline.
 fn run_units(table: &[u8], present: Present, line: &[u8], out: &mut [u8]) -> Ran
     requires { ⌜ now table ≡ commandTable ⌝ }
-    requires { ⌜ (length (now line) ≤ mostLine) × (length (now out) ≡ mostAnswer) × (present .status .queued ≤ most) ⌝ }
+    requires { ⌜ (length (now out) ≡ mostAnswer) × (present .status .queued ≤ most) ⌝ }
     ensures { λ r. ⌜ UnitsRan present (now (line .entry)) r (now (out .exit)) ⌝ }
 {
     let mut done = Done {
@@ -78,7 +78,7 @@ fn run_units(table: &[u8], present: Present, line: &[u8], out: &mut [u8]) -> Ran
         used: 0,
         obeyed: true,
     };
-    let mut path = [0u8; LINE];
+    let mut path = [0u64; MOST];
     let mut at: usize = 0;
     loop {
         let end = bytes::scan::find(line, at, line.len(), 59);
@@ -104,7 +104,7 @@ pub(crate) fn run_line(
     out: &mut [u8],
 ) -> Ran
     requires { ⌜ now table ≡ commandTable ⌝ }
-    requires { ⌜ (length (now line) ≤ mostLine) × (length (now out) ≡ mostAnswer) × (present .status .queued ≤ most) ⌝ }
+    requires { ⌜ (length (now out) ≡ mostAnswer) × (present .status .queued ≤ most) ⌝ }
     ensures { λ r. ⌜ LineRan present (now (line .entry)) overlong r (now (out .exit)) ⌝ }
 {
     if overlong {

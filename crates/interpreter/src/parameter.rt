@@ -53,9 +53,6 @@ pub(crate) struct Takes {
     pub(crate) quantity: Quantity,
 }
 
-// Where the parameters' words begin in the table of words: behind those of the headers.
-const HEADER_WORDS: usize = 45;
-
 // Where each setting's words begin among those of the parameters, and how many there are. The first six
 // are those of the settings that take words only.
 const FIRST_WORDS: [u8; Settings::COUNT] = [6, 6, 6, 0, 8, 3, 8, 8, 5, 5, 8, 8, 8, 8, 8, 6, 6];
@@ -102,7 +99,7 @@ pub(crate) fn setting_takes(row: usize) -> Takes
     let counts = WORD_COUNTS;
     let first = firsts[row] as usize;
     Takes {
-        first: HEADER_WORDS + first,
+        first,
         count: counts[row] as usize,
         numbers: 6 <= first,
         quantity: Settings::quantity_of(row),

@@ -1,24 +1,13 @@
-// Check 3: the row that spells the names of a header, and how a name spells a word.
+// Check 3: the row that spells the names of a header; and how a parameter spells a word.
+use crate::table::FIRST_KEY;
+use crate::table::FIRST_ROW;
+use crate::table::ROWS;
 use registers::text;
 ghost use mathlib.Core.Path.{_≡_};
-ghost use Prim.Native.Nat.{_≤_, _<_};
-ghost use lib.ListN.{length};
+ghost use Prim.Native.Nat.{_+_, _≤_, _<_};
+ghost use lib.ListN.{length, take, drop};
 ghost use Rattle.registers.specs.Words.{longForm, matches};
-ghost use Rattle.interpreter.specs.RowsParts.{wordCount, rowCount, commandTable, wordAt, rowOf, named, agreed, formLength, WordTaken, wordCell, rowCell, wordIn, nodeOf, Walked, formBit};
-
-// How many rows there are.
-pub(crate) const ROWS: usize = 44;
-
-// How many words there are.
-const WORDS: usize = 55;
-
-// Where the rows begin in the table, behind its words of 16 bytes, and where they end.
-const FIRST_ROW: usize = WORDS * 16;
-
-pub(crate) const TABLE: usize = FIRST_ROW + ROWS * 8;
-
-// More nodes than any row has: what is passed of a row that was not walked.
-const UNTRIED: usize = 8;
+ghost use Rattle.interpreter.specs.RowsParts.{wordCount, nodeCount, rowCount, commandTable, wordAt, nodeAt, agreed, formLength, wordCell, rowCell, PairRead, QuadRead, keyCell, keyMatches, wordIn, nodeOf, leftOut, Walked, formBit, rowOfKeys};
 
 // Where a walk over a row's nodes goes on.
 enum Walk {
@@ -79,46 +68,61 @@ pub(crate) fn is_word(table: &[u8], name: &[u8], word: usize) -> bool
     (n == name.len()) & has_length(table, word, n)
 }
 
-// Takes a word as the name at a place, with the colon behind it. No letter is a colon, so one walk over
-// the letters finds the name's end too. Most names differ from a word in the first letter, so that is
-// compared before the walk begins.
-fn take_word(table: &[u8], text: &[u8], at: usize, word: usize) -> Walk
-    requires { ⌜ (now table ≡ commandTable) × (word < wordCount) ⌝ }
-    ensures { λ r. ⌜ WordTaken word (now (text .entry)) at r ⌝ }
+// Two bytes as a number, low byte first.
+fn pair(bytes: &[u8], at: usize) -> u64
+    requires { ⌜ at + 2 ≤ length (now bytes) ⌝ }
+    ensures { λ r. ⌜ PairRead (now (bytes .entry)) at r ⌝ }
 {
-    if text.len() <= at {
-        return Walk::Missed;
-    }
-    if text::in_capitals(text[at]) != word_cell(table, word, 2) {
-        return Walk::Missed;
-    }
-    let n = agreed_letters(table, &text[at..], word);
-    if !has_length(table, word, n) {
-        return Walk::Missed;
-    }
-    let end = at + n;
-    if text.len() <= end {
-        return Walk::To(end);
-    }
-    if text[end] == 58 {
-        return Walk::To(end + 1);
-    }
-    Walk::Missed
+    bytes[at] as u64 + bytes[at + 1] as u64 * 256
 }
 
-// Takes a row's node at the name that starts at a place, or leaves it out if it is optional.
-fn take_node(table: &[u8], text: &[u8], at: usize, node: u8) -> Walk
-    requires { ⌜ (now table ≡ commandTable) × (at ≤ length (now text)) × (wordIn node < wordCount) ⌝ }
-    ensures { λ r. ⌜ Walked (nodeOf node) (now (text .entry)) at r ⌝ }
+// Four bytes, in the same way.
+fn quad(bytes: &[u8], at: usize) -> u64
+    requires { ⌜ at + 4 ≤ length (now bytes) ⌝ }
+    ensures { λ r. ⌜ QuadRead (now (bytes .entry)) at r ⌝ }
+{
+    pair(bytes, at) + pair(bytes, at + 2) * 65536
+}
+
+// The number of a node's word: i is 0 for its short form, 1 for its long one.
+fn key_cell(table: &[u8], word: usize, i: usize) -> u64
+    requires { ⌜ (now table ≡ commandTable) × (word < nodeCount) × (i < 2) ⌝ }
+    ensures { λ r. ⌜ r ≡ keyCell word i ⌝ }
+{
+    let at = FIRST_KEY + word * 16 + i * 8;
+    quad(table, at) + quad(table, at + 4) * 4294967296
+}
+
+// Whether a name's number is that of a word's short or long form.
+fn spells(table: &[u8], key: u64, word: usize) -> bool
+    requires { ⌜ (now table ≡ commandTable) × (word < nodeCount) ⌝ }
+    ensures { λ r. ⌜ r ≡ keyMatches (nodeAt word) key ⌝ }
+{
+    (key == key_cell(table, word, 0)) | (key == key_cell(table, word, 1))
+}
+
+// What is left of a node that no name spells: it is missed, unless it is optional.
+fn leave_out(node: u8, at: usize) -> Walk
+    ensures { λ r. ⌜ r ≡ leftOut node at ⌝ }
 {
     if node < 128 {
-        return take_word(table, text, at, node as usize);
+        return Walk::Missed;
     }
-    let walk = take_word(table, text, at, (node - 128) as usize);
-    match walk {
-        Walk::To(place) => Walk::To(place),
-        Walk::Missed => Walk::To(at),
+    Walk::To(at)
+}
+
+// Takes a row's node at a name, or leaves it out if it is optional.
+fn take_node(table: &[u8], names: &[u64], count: usize, at: usize, node: u8) -> Walk
+    requires { ⌜ (now table ≡ commandTable) × (count ≤ length (now names)) × (at ≤ count) × (wordIn node < nodeCount) ⌝ }
+    ensures { λ r. ⌜ Walked (nodeOf node) (take count (now (names .entry))) at r ⌝ }
+{
+    if count <= at {
+        return leave_out(node, at);
     }
+    if spells(table, names[at], (node % 128) as usize) {
+        return Walk::To(at + 1);
+    }
+    leave_out(node, at)
 }
 
 // A header's form as a bit.
@@ -132,42 +136,39 @@ fn form_bit(star: bool, asked: bool) -> u8
     }
 }
 
-// The first row that spells the names of a text in the form asked for, or ROWS. At the first node
-// that is missed the inner loop is left and the next row is tried. A row that shares this node with
-// the row before misses it too; one that shares just the nodes that were passed goes on behind them.
-pub(crate) fn find(table: &[u8], text: &[u8], star: bool, asked: bool) -> usize
-    requires { ⌜ now table ≡ commandTable ⌝ }
-    ensures { λ r. ⌜ r ≡ rowOf star (named (now (text .entry))) asked ⌝ }
+// The first row that spells the names from one on in the form asked for, or ROWS. At the first node that is missed the inner
+// loop is left and the next row is tried.
+pub(crate) fn find(
+    table: &[u8],
+    names: &[u64],
+    first: usize,
+    count: usize,
+    star: bool,
+    asked: bool,
+) -> usize
+    requires { ⌜ (now table ≡ commandTable) × (first ≤ count) × (count ≤ length (now names)) ⌝ }
+    ensures { λ r. ⌜ r ≡ rowOfKeys star (drop first (take count (now (names .entry)))) asked ⌝ }
 {
     let bit = form_bit(star, asked);
-    let mut at: usize = 0;
-    let mut passed: usize = UNTRIED;
     let mut next: usize = 0;
     'rows: while next < ROWS {
         let row = next;
         next += 1;
-        let shared = row_cell(table, row, 2) as usize;
-        if passed < shared {
-            continue 'rows;
-        }
         if row_cell(table, row, 0) & bit == 0 {
-            passed = UNTRIED;
             continue 'rows;
-        }
-        if shared < passed {
-            at = 0;
-            passed = 0;
         }
         let n = row_cell(table, row, 1) as usize;
+        let mut at = first;
+        let mut passed: usize = 0;
         while passed < n {
-            let walk = take_node(table, text, at, row_cell(table, row, passed + 3));
+            let walk = take_node(table, names, count, at, row_cell(table, row, passed + 2));
             match walk {
                 Walk::To(place) => at = place,
                 Walk::Missed => continue 'rows,
             }
             passed += 1;
         }
-        if at < text.len() {
+        if at < count {
             continue 'rows;
         }
         return row;

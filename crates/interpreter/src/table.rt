@@ -1,61 +1,31 @@
-// The table that the header search reads: made once where a chunk of bytes is served, and lent down. It
-// is tied to 01's rows and words by its statement.
-use crate::rows::TABLE;
+// The table that the header search and the parameter reader look into: made once where a chunk of bytes is served, and lent
+// down. It is tied to 01's rows and words by its statement.
 ghost use mathlib.Core.Path.{_≡_};
 ghost use Rattle.interpreter.specs.RowsParts.{commandTable};
 
-// 16 bytes to a word: the lengths of its short and its long form, then its letters. Behind the words 8
-// bytes to a row: its forms as bits, the number of its nodes, how many of them the row before begins
-// with too, and each node's word, with 128 more where the node may be left out.
-pub(crate) fn commands() -> [u8; TABLE]
+// How many words the parameters have, how many rows there are, and how many words the rows' nodes have.
+const WORDS: usize = 10;
+
+pub(crate) const ROWS: usize = 44;
+
+const NODES: usize = 45;
+
+// Where the rows begin, behind the parameters' words; then the numbers of the nodes' words, and the codes of all bytes.
+pub(crate) const FIRST_ROW: usize = WORDS * 16;
+
+pub(crate) const FIRST_KEY: usize = FIRST_ROW + ROWS * 8;
+
+pub(crate) const FIRST_CODE: usize = FIRST_KEY + NODES * 16;
+
+const SIZE: usize = FIRST_CODE + 256;
+
+// 16 bytes to a word of a parameter: the lengths of its short and its long form, then its letters. 8 bytes to a row: its forms
+// as bits, the number of its nodes, and each node's word, with 128 more where the node may be left out. 16 bytes to a word of a
+// node: its short and its long form as numbers, low byte first. Then the code that each byte has in a name.
+pub(crate) fn commands() -> [u8; SIZE]
     ensures { λ r. ⌜ r ≡ commandTable ⌝ }
 {
     *b"\
-        \x04\x06OUTPUT\0\0\0\0\0\0\0\0\
-        \x04\x05STATE\0\0\0\0\0\0\0\0\0\
-        \x03\x03PON\0\0\0\0\0\0\0\0\0\0\0\
-        \x03\x05RELAY\0\0\0\0\0\0\0\0\0\
-        \x03\x07MONITOR\0\0\0\0\0\0\0\
-        \x04\x04MODE\0\0\0\0\0\0\0\0\0\0\
-        \x04\x06SOURCE\0\0\0\0\0\0\0\0\
-        \x04\x07VOLTAGE\0\0\0\0\0\0\0\
-        \x03\x05LEVEL\0\0\0\0\0\0\0\0\0\
-        \x03\x09IMMEDIATE\0\0\0\0\0\
-        \x04\x09AMPLITUDE\0\0\0\0\0\
-        \x04\x05RANGE\0\0\0\0\0\0\0\0\0\
-        \x04\x09FREQUENCY\0\0\0\0\0\
-        \x04\x07CURRENT\0\0\0\0\0\0\0\
-        \x03\x05LIMIT\0\0\0\0\0\0\0\0\0\
-        \x03\x03RMS\0\0\0\0\0\0\0\0\0\0\0\
-        \x04\x04PEAK\0\0\0\0\0\0\0\0\0\0\
-        \x04\x04TIME\0\0\0\0\0\0\0\0\0\0\
-        \x04\x04HIGH\0\0\0\0\0\0\0\0\0\0\
-        \x03\x03LOW\0\0\0\0\0\0\0\0\0\0\0\
-        \x04\x07DISPLAY\0\0\0\0\0\0\0\
-        \x04\x0aBRIGHTNESS\0\0\0\0\
-        \x04\x06SYSTEM\0\0\0\0\0\0\0\0\
-        \x04\x05KLOCK\0\0\0\0\0\0\0\0\0\
-        \x03\x03IDN\0\0\0\0\0\0\0\0\0\0\0\
-        \x03\x03TST\0\0\0\0\0\0\0\0\0\0\0\
-        \x03\x03OPC\0\0\0\0\0\0\0\0\0\0\0\
-        \x03\x03WAI\0\0\0\0\0\0\0\0\0\0\0\
-        \x03\x03RST\0\0\0\0\0\0\0\0\0\0\0\
-        \x03\x03CLS\0\0\0\0\0\0\0\0\0\0\0\
-        \x03\x03ESE\0\0\0\0\0\0\0\0\0\0\0\
-        \x03\x03SRE\0\0\0\0\0\0\0\0\0\0\0\
-        \x03\x03ESR\0\0\0\0\0\0\0\0\0\0\0\
-        \x03\x03STB\0\0\0\0\0\0\0\0\0\0\0\
-        \x04\x06STATUS\0\0\0\0\0\0\0\0\
-        \x04\x09OPERATION\0\0\0\0\0\
-        \x04\x09CONDITION\0\0\0\0\0\
-        \x04\x05EVENT\0\0\0\0\0\0\0\0\0\
-        \x04\x06ENABLE\0\0\0\0\0\0\0\0\
-        \x03\x0bNTRANSITION\0\0\0\
-        \x03\x0bPTRANSITION\0\0\0\
-        \x03\x05ERROR\0\0\0\0\0\0\0\0\0\
-        \x04\x04EXAM\0\0\0\0\0\0\0\0\0\0\
-        \x04\x04LOCK\0\0\0\0\0\0\0\0\0\0\
-        \x04\x07WARNING\0\0\0\0\0\0\0\
         \x04\x07CURRENT\0\0\0\0\0\0\0\
         \x04\x08SCURRENT\0\0\0\0\0\0\
         \x04\x07VOLTAGE\0\0\0\0\0\0\0\
@@ -66,48 +36,109 @@ pub(crate) fn commands() -> [u8; TABLE]
         \x02\x02ON\0\0\0\0\0\0\0\0\0\0\0\0\
         \x03\x07MINIMUM\0\0\0\0\0\0\0\
         \x03\x07MAXIMUM\0\0\0\0\0\0\0\
-        \x03\x02\0\0\x81\0\0\0\
-        \x03\x02\x01\0\x02\0\0\0\
-        \x03\x02\x01\0\x03\0\0\0\
-        \x03\x03\x01\0\x04\x05\0\0\
-        \x03\x05\0\x86\x07\x88\x89\x8a\
-        \x03\x03\x02\x86\x07\x0b\0\0\
-        \x03\x02\x01\x86\x0c\0\0\0\
-        \x03\x05\x01\x86\x0d\x0e\x0f\x8a\
-        \x03\x05\x04\x86\x0d\x0e\x0f\x05\
-        \x03\x05\x03\x86\x0d\x0e\x10\x05\
-        \x03\x05\x03\x86\x0d\x0e\x0f\x11\
-        \x03\x05\x03\x86\x0d\x0e\x10\x11\
-        \x03\x05\x04\x86\x0d\x0e\x10\x12\
-        \x03\x05\x04\x86\x0d\x0e\x10\x13\
-        \x03\x02\0\x14\x15\0\0\0\
-        \x03\x02\0\x16\x17\0\0\0\
-        \x03\x02\x01\x16\x2a\0\0\0\
-        \x08\x01\0\x18\0\0\0\0\
-        \x08\x01\0\x19\0\0\0\0\
-        \x08\x01\0\x1a\0\0\0\0\
-        \x04\x01\0\x1b\0\0\0\0\
-        \x04\x01\0\x1a\0\0\0\0\
-        \x04\x01\0\x1c\0\0\0\0\
-        \x04\x01\0\x1d\0\0\0\0\
-        \x0c\x01\0\x1e\0\0\0\0\
-        \x0c\x01\0\x1f\0\0\0\0\
-        \x08\x01\0\x20\0\0\0\0\
-        \x08\x01\0\x21\0\0\0\0\
-        \x02\x02\0\x16\x29\0\0\0\
-        \x02\x03\0\x22\x23\x24\0\0\
-        \x02\x03\x02\x22\x23\xa5\0\0\
-        \x03\x03\x02\x22\x23\x26\0\0\
-        \x03\x03\x02\x22\x23\x27\0\0\
-        \x03\x03\x02\x22\x23\x28\0\0\
-        \x02\x03\x01\x22\x2b\x24\0\0\
-        \x02\x03\x02\x22\x2b\xa5\0\0\
-        \x03\x03\x02\x22\x2b\x26\0\0\
-        \x03\x03\x02\x22\x2b\x27\0\0\
-        \x03\x03\x02\x22\x2b\x28\0\0\
-        \x02\x03\x01\x22\x2c\x24\0\0\
-        \x02\x03\x02\x22\x2c\xa5\0\0\
-        \x03\x03\x02\x22\x2c\x26\0\0\
-        \x03\x03\x02\x22\x2c\x27\0\0\
-        \x03\x03\x02\x22\x2c\x28\0\0"
+        \x03\x02\0\x81\0\0\0\0\
+        \x03\x02\0\x02\0\0\0\0\
+        \x03\x02\0\x03\0\0\0\0\
+        \x03\x03\0\x04\x05\0\0\0\
+        \x03\x05\x86\x07\x88\x89\x8a\0\
+        \x03\x03\x86\x07\x0b\0\0\0\
+        \x03\x02\x86\x0c\0\0\0\0\
+        \x03\x05\x86\x0d\x0e\x0f\x8a\0\
+        \x03\x05\x86\x0d\x0e\x0f\x05\0\
+        \x03\x05\x86\x0d\x0e\x10\x05\0\
+        \x03\x05\x86\x0d\x0e\x0f\x11\0\
+        \x03\x05\x86\x0d\x0e\x10\x11\0\
+        \x03\x05\x86\x0d\x0e\x10\x12\0\
+        \x03\x05\x86\x0d\x0e\x10\x13\0\
+        \x03\x02\x14\x15\0\0\0\0\
+        \x03\x02\x16\x17\0\0\0\0\
+        \x03\x02\x16\x2a\0\0\0\0\
+        \x08\x01\x18\0\0\0\0\0\
+        \x08\x01\x19\0\0\0\0\0\
+        \x08\x01\x1a\0\0\0\0\0\
+        \x04\x01\x1b\0\0\0\0\0\
+        \x04\x01\x1a\0\0\0\0\0\
+        \x04\x01\x1c\0\0\0\0\0\
+        \x04\x01\x1d\0\0\0\0\0\
+        \x0c\x01\x1e\0\0\0\0\0\
+        \x0c\x01\x1f\0\0\0\0\0\
+        \x08\x01\x20\0\0\0\0\0\
+        \x08\x01\x21\0\0\0\0\0\
+        \x02\x02\x16\x29\0\0\0\0\
+        \x02\x03\x22\x23\x24\0\0\0\
+        \x02\x03\x22\x23\xa5\0\0\0\
+        \x03\x03\x22\x23\x26\0\0\0\
+        \x03\x03\x22\x23\x27\0\0\0\
+        \x03\x03\x22\x23\x28\0\0\0\
+        \x02\x03\x22\x2b\x24\0\0\0\
+        \x02\x03\x22\x2b\xa5\0\0\0\
+        \x03\x03\x22\x2b\x26\0\0\0\
+        \x03\x03\x22\x2b\x27\0\0\0\
+        \x03\x03\x22\x2b\x28\0\0\0\
+        \x02\x03\x22\x2c\x24\0\0\0\
+        \x02\x03\x22\x2c\xa5\0\0\0\
+        \x03\x03\x22\x2c\x26\0\0\0\
+        \x03\x03\x22\x2c\x27\0\0\0\
+        \x03\x03\x22\x2c\x28\0\0\0\
+        \x0f\xd2\x0a\0\0\0\0\0\x8f\x56\x48\x2b\0\0\0\0\
+        \x93\x06\x0a\0\0\0\0\0\xb3\xd0\x40\x01\0\0\0\0\
+        \xd0\x3d\0\0\0\0\0\0\xd0\x3d\0\0\0\0\0\0\
+        \x92\x15\0\0\0\0\0\0\x32\x07\x56\0\0\0\0\0\
+        \xcd\x3d\0\0\0\0\0\0\x4d\x3e\x9a\xdc\x03\0\0\0\
+        \xad\x90\x07\0\0\0\0\0\xad\x90\x07\0\0\0\0\0\
+        \x53\xd6\x07\0\0\0\0\0\xb3\x0c\x59\x1f\0\0\0\0\
+        \x96\xb2\x07\0\0\0\0\0\xb6\x9c\x40\xd9\x03\0\0\0\
+        \xcc\x16\0\0\0\0\0\0\x8c\x15\x5b\0\0\0\0\0\
+        \xa9\x35\0\0\0\0\0\0\xa9\xd0\x90\x48\x69\x0d\0\0\
+        \x81\xc1\x06\0\0\0\0\0\xa1\x90\x4a\x13\x83\x0d\0\0\
+        \xf2\xb8\0\0\0\0\0\0\xb2\x1c\x17\0\0\0\0\0\
+        \x26\x16\x09\0\0\0\0\0\x26\x0f\x57\x6a\x2c\x12\0\0\
+        \x43\xca\x0a\0\0\0\0\0\x83\xba\x22\x65\x05\0\0\0\
+        \xac\x25\0\0\0\0\0\0\x8c\xa6\x96\0\0\0\0\0\
+        \x72\x36\0\0\0\0\0\0\x72\x36\0\0\0\0\0\0\
+        \x70\x85\x02\0\0\0\0\0\x70\x85\x02\0\0\0\0\0\
+        \xb4\xb4\x04\0\0\0\0\0\xb4\xb4\x04\0\0\0\0\0\
+        \x08\x9d\x04\0\0\0\0\0\x08\x9d\x04\0\0\0\0\0\
+        \xec\x3e\0\0\0\0\0\0\xec\x3e\0\0\0\0\0\0\
+        \x04\xce\x04\0\0\0\0\0\x24\x07\x06\x67\x02\0\0\0\
+        \xe2\x24\x09\0\0\0\0\0\x62\xce\xe2\x28\x3a\x49\x02\0\
+        \x93\xce\x0c\0\0\0\0\0\xb3\x15\x3a\x33\0\0\0\0\
+        \x6b\x3c\x06\0\0\0\0\0\x6b\x8d\xc7\0\0\0\0\0\
+        \xc9\x11\0\0\0\0\0\0\xc9\x11\0\0\0\0\0\0\
+        \x94\x4e\0\0\0\0\0\0\x94\x4e\0\0\0\0\0\0\
+        \x6f\x40\0\0\0\0\0\0\x6f\x40\0\0\0\0\0\0\
+        \x37\x05\0\0\0\0\0\0\x37\x05\0\0\0\0\0\0\
+        \x92\x4e\0\0\0\0\0\0\x92\x4e\0\0\0\0\0\0\
+        \x63\x32\0\0\0\0\0\0\x63\x32\0\0\0\0\0\0\
+        \xa5\x4c\0\0\0\0\0\0\xa5\x4c\0\0\0\0\0\0\
+        \xb3\x48\0\0\0\0\0\0\xb3\x48\0\0\0\0\0\0\
+        \x45\x4e\0\0\0\0\0\0\x45\x4e\0\0\0\0\0\0\
+        \x53\x50\0\0\0\0\0\0\x53\x50\0\0\0\0\0\0\
+        \x93\x06\x0a\0\0\0\0\0\x73\x56\x1a\x28\0\0\0\0\
+        \x4f\x16\x08\0\0\0\0\0\xcf\xbd\x44\x83\x2c\x10\0\0\
+        \x83\xb8\x07\0\0\0\0\0\xc3\xbd\x44\x13\x71\x0f\0\0\
+        \xc5\x15\x0b\0\0\0\0\0\x85\xba\x62\x01\0\0\0\0\
+        \x45\x04\x07\0\0\0\0\0\xa5\x30\x11\x1c\0\0\0\0\
+        \x4e\x52\0\0\0\0\0\0\xce\xbd\x44\xd3\x74\x41\x52\0\
+        \x50\x52\0\0\0\0\0\0\xd0\xbd\x44\xd3\x74\x41\x52\0\
+        \x45\x4a\0\0\0\0\0\0\x45\x3e\x29\x01\0\0\0\0\
+        \xa5\x05\x0c\0\0\0\0\0\xa5\x05\x0c\0\0\0\0\0\
+        \x6c\x8d\x07\0\0\0\0\0\x6c\x8d\x07\0\0\0\0\0\
+        \xd7\xc9\0\0\0\0\0\0\xf7\xb8\xe4\x64\0\0\0\0\
+        \0\0\0\0\0\0\0\0\0\0\0\0\0\0\0\0\
+        \0\0\0\0\0\0\0\0\0\0\0\0\0\0\0\0\
+        \0\0\0\0\0\0\0\0\0\0\0\0\0\0\0\0\
+        \x1f\x1f\x1f\x1f\x1f\x1f\x1f\x1f\x1f\x1f\0\0\0\0\0\0\
+        \0\x01\x02\x03\x04\x05\x06\x07\x08\x09\x0a\x0b\x0c\x0d\x0e\x0f\
+        \x10\x11\x12\x13\x14\x15\x16\x17\x18\x19\x1a\0\0\0\0\x1f\
+        \0\x01\x02\x03\x04\x05\x06\x07\x08\x09\x0a\x0b\x0c\x0d\x0e\x0f\
+        \x10\x11\x12\x13\x14\x15\x16\x17\x18\x19\x1a\0\0\0\0\0\
+        \0\0\0\0\0\0\0\0\0\0\0\0\0\0\0\0\
+        \0\0\0\0\0\0\0\0\0\0\0\0\0\0\0\0\
+        \0\0\0\0\0\0\0\0\0\0\0\0\0\0\0\0\
+        \0\0\0\0\0\0\0\0\0\0\0\0\0\0\0\0\
+        \0\0\0\0\0\0\0\0\0\0\0\0\0\0\0\0\
+        \0\0\0\0\0\0\0\0\0\0\0\0\0\0\0\0\
+        \0\0\0\0\0\0\0\0\0\0\0\0\0\0\0\0\
+        \0\0\0\0\0\0\0\0\0\0\0\0\0\0\0\0"
 }

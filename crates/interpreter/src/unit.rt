@@ -3,26 +3,26 @@ use crate::deed;
 use crate::deed::Role;
 use crate::header;
 use crate::header::Looked;
+use crate::header::MOST;
 use crate::parameter;
 use crate::parameter::Decision;
-use crate::rows;
-use crate::state::LINE;
+use crate::table::ROWS;
 use registers::error::Error;
 use registers::settings::Settings;
 use registers::text;
 ghost use mathlib.Core.Path.{_≡_};
-ghost use mathlib.Core.Bool.{true, _||_};
-ghost use Prim.Native.Nat.{_+_, _≤_};
+ghost use mathlib.Core.Bool.{_||_};
+ghost use mathlib.Core.List.{List};
+ghost use Prim.Native.Nat.{_≤_};
 ghost use lib.ListN.{length, take, drop};
-ghost use Rattle.registers.specs.Text.{every, white, printable};
-ghost use Rattle.interpreter.specs.Box.{mostLine};
+ghost use Rattle.registers.specs.Text.{Text, every, white, printable};
 ghost use Rattle.interpreter.specs.Cuts.{trim, trimEnd};
 ghost use Rattle.interpreter.specs.RowsParts.{rowCount, commandTable};
-ghost use Rattle.interpreter.specs.HeaderParts.{closed};
+ghost use Rattle.interpreter.specs.HeaderParts.{Holds, Held};
 ghost use Rattle.interpreter.specs.ParameterParts.{meantDeed};
 ghost use Rattle.interpreter.specs.UnitParts.{decided, UnitRead};
 
-// What checks 1 to 7 say of a unit, and how much of the path's buffer the path takes that it leaves.
+// What checks 1 to 7 say of a unit, and how many names the path has that it leaves.
 pub(crate) struct Reading {
     pub(crate) decision: Decision,
     pub(crate) used: usize,
@@ -65,7 +65,7 @@ fn decide(table: &[u8], settings: Settings, row: usize, asked: bool, text: &[u8]
     if !counted.full {
         return Decision::Refused(Error::Syntax);
     }
-    if row == rows::ROWS {
+    if row == ROWS {
         return Decision::Refused(Error::UndefinedHeader);
     }
     let role = deed::role_of(row);
@@ -105,17 +105,16 @@ fn decide_behind(
     decide(table, settings, row, asked, &behind[0..end])
 }
 
-// Reads a unit after the path in the path's buffer.
+// Reads a unit after the path.
 pub(crate) fn read(
     table: &[u8],
     settings: Settings,
-    path: &mut [u8; LINE],
+    path: &mut [u64; MOST],
     used: usize,
     unit: &[u8],
 ) -> Reading
-    requires { ⌜ now table ≡ commandTable ⌝ }
-    requires { ⌜ (used + length (now unit) ≤ mostLine) × (closed (take used (now path)) ≡ true) ⌝ }
-    ensures { λ r. ⌜ UnitRead settings (take used (now (path .entry))) (now (unit .entry)) (r .decision) (r .used) (now (path .exit)) ⌝ }
+    requires { ⌜ (now table ≡ commandTable) × Held (now path) used ⌝ }
+    ensures { λ r. ⌜ ((names : List Text) → Holds names (now (path .entry)) used → UnitRead settings names (now (unit .entry)) (r .decision) (r .used) (now (path .exit))) ⌝ }
 {
     if !all_allowed(unit) {
         return Reading {
@@ -124,8 +123,7 @@ pub(crate) fn read(
         };
     }
     let start = text::white_end(unit, 0);
-    let end = text::dark_end(unit, start);
-    let looked = header::look_up(table, path, used, &unit[start..end]);
+    let looked = header::look_up(table, path, used, &unit[start..]);
     match looked {
         Looked::Bad => {
             return Reading {
@@ -137,9 +135,10 @@ pub(crate) fn read(
             row,
             used: left,
             asked,
+            end,
         } => {
             return Reading {
-                decision: decide_behind(table, settings, row, asked, unit, end),
+                decision: decide_behind(table, settings, row, asked, unit, start + end),
                 used: left,
             };
         }

@@ -1,4 +1,4 @@
--- For the callers of the header reader: check 3 by the number of the row that was found, and the empty path.
+-- For the callers of the header reader: check 3 by the number of the row that was found.
 use mathlib.Core.Path.{_≡_, refl, sym, subst}
 use mathlib.Core.Bool.{Bool, true, false, _&&_}
 use mathlib.Core.List.{List, [], _∷_, map}
@@ -10,20 +10,10 @@ use Rattle.registers.specs.Check.{Checked, refused, passed}
 use Rattle.registers.proofs.Tests.{and-both}
 use Rattle.interpreter.specs.Header.{spells}
 use Rattle.interpreter.specs.Rows.{Row, rows, fitsRow, findRow, hasForm, sameBool}
-use Rattle.interpreter.specs.RowsParts.{rowCount, roleAt, firstFit, rowOf, named}
-use Rattle.interpreter.specs.HeaderParts.{closed}
+use Rattle.interpreter.specs.RowsParts.{rowCount, roleAt, firstFit, rowOf}
 use Rattle.interpreter.specs.declared.deed.Role.{Role}
 use Rattle.interpreter.specs.declared.deed.Role.the-variants.{Setting as setting}
 use Rattle.interpreter.proofs.rows.Rows.{rows-many}
-
--- the empty path
-pub closed-nil : closed [] ≡ true
-unfolding closed
-closed-nil = refl
-
-pub named-nil : named [] ≡ []
-unfolding named
-named-nil = refl
 
 module _ (star : Bool) (names : List Text) (asked : Bool) where
   abbrev fits : Row → Bool

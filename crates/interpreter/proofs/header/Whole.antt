@@ -1,121 +1,156 @@
--- A whole header: what is read of its body, and what each of the three kinds finds and leaves.
-use mathlib.Core.Path.{_≡_, refl, sym, _∙_, ap, subst}
-use mathlib.Core.Bool.{Bool, true, false, not}
-use mathlib.Core.List.{List, []}
-use Prim.Native.Nat.{ℕ, _-_, _≤_}
+-- A whole header: its grammar by what leads it, the row that it has, and the path that it leaves.
+use mathlib.Core.Path.{_≡_, refl, sym, _∙_, ap}
+use mathlib.Core.Bool.{Bool, true, false, not, _||_, false≢true}
+use mathlib.Core.List.{List, [], _∷_}
+use Prim.Native.Nat.{ℕ, _+_, _-_, _≤_, _<_}
 use native.Mathlib.Omega.{arith}
-use lib.Dec.{ltb, eqb}
-use lib.ListN.{length, take, drop, length-take, length-drop}
-use borrow.Author.Tests.{eqb-true, eqb-false, lt-ltb, le-ltb}
-use Rattle.registers.specs.Text.{Text, if_then_else_}
-use Rattle.registers.specs.Check.{refused, passed}
+use lib.Dec.{eqb}
+use lib.ListN.{length, take, drop}
+use borrow.Author.Tests.{eqb-true}
+use mir.Val.{boolByte}
+use Rattle.registers.specs.Text.{Text, if_then_else_, white, dark, every, first, rest, start}
+use Rattle.registers.specs.Check.{Checked, refused, passed, check, _>>_}
+use Rattle.registers.proofs.Tests.{and-both}
 use Rattle.interpreter.specs.Cuts.{cutAt}
-use Rattle.interpreter.specs.Header.{Header, header, asks}
-use Rattle.interpreter.specs.RowsParts.{rowOf, named}
-use Rattle.interpreter.specs.HeaderParts.{closed, bodyOf, well, headerOf, headed, placeOf, HeadingRead, LookedUp}
-use Rattle.interpreter.specs.declared.header.Heading.{Heading}
+use Rattle.interpreter.specs.Header.{Place, common, root, here, Header, header, placed, name, asks, isCommon, fullNames, pathAfter}
+use Rattle.interpreter.specs.RowsParts.{rowCount, rowOf, rowOfKeys}
+use Rattle.interpreter.specs.HeaderParts.{mostNames, bodyOf, asksIn, namesIn, orZero, Holds, NamesGood, NamesRead, LookedUp}
+use Rattle.interpreter.specs.declared.header.Names.{Names}
 use Rattle.interpreter.specs.declared.header.Looked.the-variants.{At}
-use Rattle.interpreter.proofs.Lists.{rest-is}
-use Rattle.interpreter.proofs.header.Grammar.{BodyEnd, header-body, one-name, name-uncut, joined-names}
-use Rattle.interpreter.proofs.header.Paths.{own-names, EnteredAt}
-use Rattle.interpreter.proofs.header.Laws.{named-nil}
+use Rattle.interpreter.proofs.header.Scan.{asks-cons, body-cons, body-first}
+use Rattle.interpreter.proofs.header.Path.{path-row, path-left, counted, star-row, star-left}
 
--- a header's body, whether it asks, and what was read of the body
-pub record Read (t b : Text) (asked : Bool) (h : Heading) : Type 0 where
-  pub body : b ≡ bodyOf t
-  pub fits : length b ≤ length t
-  pub query : asked ≡ asks t
-  pub heading : HeadingRead b h
+-- ---- what leads a header
 
-pub read-body : (t : Text) (e : ℕ) (h : Heading) → BodyEnd t e → HeadingRead (take (e - 0) t) h
-    → Read t (take (e - 0) t) (ltb e (length t)) h
-read-body t e h p f =
-    let z : e - 0 ≡ e = omega arith in
-    let l = length-take (e - 0) t in
-    record { body = rw z (p .0); fits = omega arith; query = go (eqb e (length t)) refl ∙ sym (p .2); heading = f }
-  where
-    go : (x : Bool) → eqb e (length t) ≡ x → ltb e (length t) ≡ not x
-    go true q = let w = eqb-true e (length t) q in le-ltb e (length t) (omega arith)
-    go false q = let w = eqb-false e (length t) q in let m = p .1 in lt-ltb e (length t) (omega arith)
+abbrev placeOf : Bool → Bool → Place
+placeOf true r = common
+placeOf false true = root
+placeOf false false = here
 
-module _ {t b : Text} {asked : Bool} {h : Heading} (r : Read t b asked h) where
-  whole : header t ≡ headed h b asked
-  whole = header-body t ∙ ap (λ (u : Text). headerOf u (asks t)) (sym (r .body)) ∙ ap (headerOf b) (sym (r .query)) ∙ r .heading .is asked
+-- a header by the first byte of its body
+byFirst : Text → Bool → Checked Header
+byFirst body q =
+    if eqb (first body) 42 then placed common (rest body ∷ []) q
+    else (if eqb (first body) 58 then placed root (cutAt 58 (rest body)) q else placed here (cutAt 58 body) q)
 
-  pub look-bad : h .good ≡ false → header t ≡ refused 102
-  unfolding headed if_then_else_
-  look-bad e = whole ∙ rw e
+header-body : (t : Text) → header t ≡ byFirst (bodyOf t) (asks t)
+unfolding header byFirst bodyOf
+header-body t = refl
 
-  -- the names where they stand
-  abbrev names : Text
-  names = take (length b - h .start) (drop (h .start) b)
+-- the header that a text starts with, and its length, by what stands behind its lead
+pub record Led (t : Text) (s r : Bool) : Type 0 where
+  pub one : s ≡ true → r ≡ false
+  pub is : header (start dark t) ≡ placed (placeOf s r) (namesIn (not s) (drop (boolByte (s || r)) t)) (asksIn (drop (boolByte (s || r)) t))
+  pub long : length (start dark t) ≡ boolByte (s || r) + length (start dark (drop (boolByte (s || r)) t))
 
-  whole-names : names ≡ drop (h .start) b
-  whole-names = rest-is b (h .start) (r .heading .within)
+led-star : (u : Text) → Led (42 ∷ u) true false
+unfolding byFirst namesIn white if_then_else_
+led-star u =
+    let h = start dark u in
+    record { one = λ e. refl; is = header-body (42 ∷ h) ∙ rw (body-cons 42 h refl, asks-cons 42 h refl); long = omega arith }
 
-  pub names-fit : length names ≤ length t
-  names-fit = let a = length-take (length b - h .start) (drop (h .start) b) in let d = length-drop (h .start) b in let l = r .fits in omega arith
+led-root : (u : Text) → Led (58 ∷ u) false true
+unfolding byFirst namesIn white if_then_else_
+led-root u =
+    let h = start dark u in
+    record { one = λ e. absurd (false≢true e); is = header-body (58 ∷ h) ∙ rw (body-cons 58 h refl, asks-cons 58 h refl); long = omega arith }
 
-  module _ (good : h .good ≡ true) where
-    abbrev read : Header
-    read = record { place = placeOf (h .star) (h .root); names = cutAt 58 (drop (h .start) b); query = asked }
+led-here : (t : Text) → eqb (first t) 42 ≡ false → eqb (first t) 58 ≡ false → Led t false false
+unfolding byFirst namesIn if_then_else_
+led-here t e f =
+    let a = body-first (λ b. eqb b 42) refl t e in
+    let b = body-first (λ b. eqb b 58) refl t f in
+    record { one = λ e. refl; is = header-body (start dark t) ∙ rw (a, b); long = omega arith }
 
-    read-is : header t ≡ passed read
-    unfolding headed if_then_else_
-    read-is = whole ∙ rw good
+pub led : (t : Text) (b : ℕ) → b ≡ first t → (s r : Bool) → eqb b 42 ≡ s → eqb b 58 ≡ r → Led t s r
+led t b is true true e f = absurd (let x = eqb-true b 42 e in let y = eqb-true b 58 f in omega arith)
+led [] b is true false e f = absurd (let x = eqb-true b 42 e in omega arith)
+led (x ∷ u) b is true false e f = let q : x ≡ 42 = sym is ∙ eqb-true b 42 e in rw q (led-star u)
+led [] b is false true e f = absurd (let x = eqb-true b 58 f in omega arith)
+led (x ∷ u) b is false true e f = let q : x ≡ 58 = sym is ∙ eqb-true b 58 f in rw q (led-root u)
+led t b is false false e f = led-here t (ap (λ (y : ℕ). eqb y 42) (sym is) ∙ e) (ap (λ (y : ℕ). eqb y 58) (sym is) ∙ f)
 
-    names-well : well (not (h .star)) 2 (drop (h .start) b) ≡ true
-    names-well = sym (r .heading .names) ∙ good
+-- ---- what is found
 
-    pub joined-well : h .star ≡ false → well true 2 names ≡ true
-    joined-well e = rw whole-names (rw e at names-well)
+module _ (t : Text) (s r : Bool) (l : Led t s r) where
+  abbrev n : ℕ
+  n = boolByte (s || r)
 
-    star-names : h .star ≡ true → named (drop (h .start) b) ≡ cutAt 58 (drop (h .start) b)
-    star-names e =
-        let w : well false 2 (drop (h .start) b) ≡ true = rw e at names-well in
-        let n = sym (one-name (drop (h .start) b)) ∙ w in
-        own-names (drop (h .start) b) (joined-names (drop (h .start) b) ∙ rw (name-uncut (drop (h .start) b) n, n))
+  abbrev names : List Text
+  names = namesIn (not s) (drop n t)
 
-    module _ (p buffer : Text) where
-      pub look-star : h .star ≡ true → (row used : ℕ) → row ≡ rowOf true (named names) asked
-          → take used buffer ≡ p → closed p ≡ true → used ≤ length p → LookedUp p t (At row used asked) buffer
-      look-star e row used f left shut l =
-          let ns = ap named whole-names ∙ star-names e in
-          let found = f ∙ ap (λ (n : List Text). rowOf true n asked) ns in (
-            read,
-            read-is,
-            record { query = refl; at = rw e found; left = rw e (ap named left); shut = ap closed left ∙ shut; short = omega arith },
-          )
+  pub look-bad : every name names ≡ false → header (start dark t) ≡ refused 102
+  unfolding placed check _>>_
+  look-bad e = l .is ∙ rw e
 
-      -- entered behind what: nothing at the root, else the path
-      module _ (e : h .star ≡ false) (row used : ℕ) (behind : Text) where
-        same : (q : Text) → behind ≡ q → EnteredAt behind names asked row used buffer → EnteredAt q (drop (h .start) b) asked row used buffer
-        same q k m = subst (λ (x : Text). EnteredAt x (drop (h .start) b) asked row used buffer) k (rw whole-names at m)
+  abbrev read : Header
+  read = record { place = placeOf s r; names = names; query = asksIn (drop n t) }
 
-        pub look-root : h .root ≡ true → behind ≡ [] → EnteredAt behind names asked row used buffer → LookedUp p t (At row used asked) buffer
-        look-root f k m =
-            let y = same [] k m in (
-              read,
-              read-is,
-              record {
-                query = refl;
-                at = rw (e, f) (rw named-nil at (y .found));
-                left = rw (e, f) (rw named-nil at (y .left));
-                shut = y .shut;
-                short = let l = length-drop (h .start) b in let w = y .room in let n = r .fits in omega arith;
-              },
-            )
+  look-good : every name names ≡ true → header (start dark t) ≡ passed read
+  unfolding placed check _>>_
+  look-good e = l .is ∙ rw e
 
-        pub look-here : h .root ≡ false → behind ≡ p → EnteredAt behind names asked row used buffer → LookedUp p t (At row used asked) buffer
-        look-here f k m =
-            let y = same p k m in (
-              read,
-              read-is,
-              record {
-                query = refl;
-                at = rw (e, f) (y .found);
-                left = rw (e, f) (y .left);
-                shut = y .shut;
-                short = let l = length-drop (h .start) b in let w = y .room in let n = r .fits in omega arith;
-              },
-            )
+  module _ (path : List Text) (before : List ℕ) (used : ℕ) (p : Holds path before used) (was : length before ≡ mostNames)
+      (keys : List ℕ) (long : length keys ≡ mostNames) (x : Names) (row : ℕ) where
+    -- the row of the names that it stands for, and the path
+    abbrev Row : Type 0
+    Row = row ≡ rowOf (isCommon (placeOf s r)) (fullNames (placeOf s r) path names) (x .asked)
+
+    abbrev Left : Type 0
+    Left = row < rowCount → Holds (pathAfter (placeOf s r) path names) keys (x .count - 1)
+
+    looked : every name names ≡ true → {held : List ℕ} → NamesGood (not s) t n held x keys → Row → Left
+        → LookedUp path t (At row (x .count - 1) (x .asked) (x .end)) keys
+    looked good g at left = (
+      read,
+      look-good good,
+      record { query = g .asked; at = rw (g .asked) at at; ends = g .end ∙ sym (l .long); left = left },
+    )
+
+-- the search begins with a common command's name, or with the first
+module _ (t : Text) (before : List ℕ) (used : ℕ) (room : used < mostNames) (was : length before ≡ mostNames)
+    (keys : List ℕ) (long : length keys ≡ mostNames) (x : Names) where
+  first-at : (s r : Bool) → Led t s r → NamesGood (not s) t (boolByte (s || r)) (take (orZero (not r) used) before) x keys → orZero s used ≤ x .count
+  unfolding namesIn if_then_else_
+  first-at false r l g = omega arith
+  first-at true true l g = absurd (false≢true (sym (l .one refl)))
+  first-at true false l g =
+      let c = counted before used room was (bodyOf (start dark (drop 1 t))) keys long (x .count) (g .few) (g .held) in
+      omega arith
+
+  pub first-fits : (b : ℕ) → b ≡ first t → NamesRead (not (eqb b 42)) t (boolByte (eqb b 42 || eqb b 58)) (take (orZero (not (eqb b 58)) used) before) x keys
+      → x .good ≡ true → orZero (eqb b 42) used ≤ x .count
+  first-fits b is m good = first-at (eqb b 42) (eqb b 58) (led t b is (eqb b 42) (eqb b 58) refl refl) (m .found good)
+
+-- entered behind the path, or at the root
+module _ (t : Text) (path : List Text) (before : List ℕ) (used : ℕ) (p : Holds path before used) (was : length before ≡ mostNames)
+    (keys : List ℕ) (long : length keys ≡ mostNames) (x : Names) (row : ℕ) where
+  look-at : (s r : Bool) → Led t s r → every name (namesIn (not s) (drop (boolByte (s || r)) t)) ≡ true
+      → NamesGood (not s) t (boolByte (s || r)) (take (orZero (not r) used) before) x keys
+      → row ≡ rowOfKeys s (drop (orZero s used) (take (x .count) keys)) (x .asked)
+      → LookedUp path t (At row (x .count - 1) (x .asked) (x .end)) keys
+  unfolding namesIn if_then_else_
+  look-at true false l good g f =
+      let name-of = bodyOf (start dark (drop 1 t)) in
+      let e = and-both (name name-of) true good .0 in
+      looked t true false l path before used p was keys long x row good g
+      (f ∙ star-row before used (p .few) was name-of keys long (x .count) (g .few) (g .held) e (x .asked))
+      (λ h. star-left before used (p .few) was name-of keys long (x .count) (g .few) (g .held) path p)
+  look-at false true l good g f =
+      let names = cutAt 58 (bodyOf (start dark (drop 1 t))) in
+      let at = f ∙ path-row [] names refl good keys long (x .count) (g .few) (g .held) (x .asked) in
+      looked t false true l path before used p was keys long x row good g at
+      (λ h. path-left [] names refl good keys long (x .count) (g .few) (g .held) (x .asked) (rw at at h))
+  look-at false false l good g f =
+      let names = cutAt 58 (bodyOf (start dark (drop 0 t))) in
+      let held = rw (p .is) at (g .held) in
+      let at = f ∙ path-row path names (p .all) good keys long (x .count) (g .few) held (x .asked) in
+      looked t false false l path before used p was keys long x row good g at
+      (λ h. path-left path names (p .all) good keys long (x .count) (g .few) held (x .asked) (rw at at h))
+  look-at true true l good g f = absurd (false≢true (sym (l .one refl)))
+
+  pub look-found : (b : ℕ) → b ≡ first t → NamesRead (not (eqb b 42)) t (boolByte (eqb b 42 || eqb b 58)) (take (orZero (not (eqb b 58)) used) before) x keys
+      → x .good ≡ true → row ≡ rowOfKeys (eqb b 42) (drop (orZero (eqb b 42) used) (take (x .count) keys)) (x .asked)
+      → LookedUp path t (At row (x .count - 1) (x .asked) (x .end)) keys
+  look-found b is m good f =
+      look-at (eqb b 42) (eqb b 58) (led t b is (eqb b 42) (eqb b 58) refl refl) (sym (m .good) ∙ good) (m .found good) f

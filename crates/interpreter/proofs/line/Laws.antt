@@ -16,7 +16,6 @@ use Rattle.interpreter.specs.Box.{Box, raise, mostAnswer}
 use Rattle.interpreter.specs.Unit.{Read, readUnit}
 use Rattle.interpreter.specs.Deeds.{permitted, perform}
 use Rattle.interpreter.specs.Line.{attempt, refuse}
-use Rattle.interpreter.specs.RowsParts.{named}
 use Rattle.interpreter.specs.DeedsParts.{coreIn, boxIn, raisedWith, PerformedIn}
 use Rattle.interpreter.specs.UnitParts.{UnitRead, Allowed}
 use Rattle.interpreter.specs.LineParts.{boxAt, RefusedWith, UnitRan}
@@ -70,11 +69,11 @@ module _ (path : List Text) (b : Box) (u : Text) where
 
 -- ---- a unit that was read, and then refused or performed
 
-module _ (d : Done) (path unit paths : Text) (res : Decision) (used : ℕ) (read : UnitRead (d .present .settings) path unit res used paths) where
+module _ (d : Done) (path : List Text) (unit : Text) (keys : List ℕ) (res : Decision) (used : ℕ) (read : UnitRead (d .present .settings) path unit res used keys) where
   pub unit-allowed : (e : Deed) → res ≡ Obey e → Allowed (d .present .settings) e
   unit-allowed e q =
-      let f = subst (λ (r : Decision). UnitRead (d .present .settings) path unit r used paths) q read in
-      read-allowed (d .present .settings) (named path) unit (f .0)
+      let f = subst (λ (r : Decision). UnitRead (d .present .settings) path unit r used keys) q read in
+      read-allowed (d .present .settings) path unit (f .1)
 
   module _ (out : Text) where
     abbrev b : Box
@@ -86,39 +85,39 @@ module _ (d : Done) (path unit paths : Text) (res : Decision) (used : ℕ) (read
     seen e p = p
 
     pub unit-refused : (e : Error) → res ≡ Refused e → (r : Done) → RefusedWith e d r
-        → d .present .status .queued ≤ 16 → d .answered < mostAnswer → UnitRan d path unit out r paths out
+        → d .present .status .queued ≤ 16 → d .answered < mostAnswer → UnitRan d path unit out r keys out
     unit-refused e q r w short room =
-        let f = subst (λ (r : Decision). UnitRead (d .present .settings) path unit r used paths) q read in
+        let f = subst (λ (r : Decision). UnitRead (d .present .settings) path unit r used keys) q read in
         let less = w .room in
         record {
           queued = w .queued short;
           room = omega arith;
           goes = λ t. absurd (false≢true (sym (w .stops) ∙ t));
-          stops = λ _. (numberOf e, attempt-read (named path) b unit (numberOf e) f, w .box out);
+          stops = λ _. (numberOf e, attempt-read path b unit (numberOf e) f, w .box out);
         }
 
     pub unit-barred : (e : Deed) → res ≡ Obey e → permitted e (coreIn (d .present .settings) (d .present .status)) ≡ refused 221
         → (r : Done) → RefusedWith SettingsConflict d r
-        → d .present .status .queued ≤ 16 → d .answered < mostAnswer → UnitRan d path unit out r paths out
+        → d .present .status .queued ≤ 16 → d .answered < mostAnswer → UnitRan d path unit out r keys out
     unit-barred e q l r w short room =
-        let f = subst (λ (r : Decision). UnitRead (d .present .settings) path unit r used paths) q read in
+        let f = subst (λ (r : Decision). UnitRead (d .present .settings) path unit r used keys) q read in
         let less = w .room in
         record {
           queued = w .queued short;
           room = omega arith;
           goes = λ t. absurd (false≢true (sym (w .stops) ∙ t));
-          stops = λ _. (221, attempt-barred (named path) b unit _ 221 (f .0) (seen e l), w .box out);
+          stops = λ _. (221, attempt-barred path b unit _ 221 (f .1) (seen e l), w .box out);
         }
 
     pub unit-obeyed : (e : Deed) → res ≡ Obey e → permitted e (coreIn (d .present .settings) (d .present .status)) ≡ passed tt
         → (r : Done) (left : Text)
         → PerformedIn e (record { present = d .present; answered = d .answered; used = used; obeyed = d .obeyed }) out r left
-        → UnitRan d path unit out r paths left
+        → UnitRan d path unit out r keys left
     unit-obeyed e q l r left w =
-        let f = subst (λ (r : Decision). UnitRead (d .present .settings) path unit r used paths) q read in
+        let f = subst (λ (r : Decision). UnitRead (d .present .settings) path unit r used keys) q read in
         record {
           queued = w .queued;
           room = w .room;
-          goes = λ t. rw (w .used) (attempt-done (named path) b unit _ (f .0) (seen e l) _ (w .done t), f .1, f .2);
-          stops = λ t. (430, attempt-full (named path) b unit _ (f .0) (seen e l) 430 (w .dropped t .0), w .dropped t .1);
+          goes = λ t. (f .0, attempt-done path b unit _ (f .1) (seen e l) _ (w .done t), rw (w .used) (f .2));
+          stops = λ t. (430, attempt-full path b unit _ (f .1) (seen e l) 430 (w .dropped t .0), w .dropped t .1);
         }

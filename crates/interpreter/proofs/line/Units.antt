@@ -6,22 +6,22 @@ use Prim.Native.Nat.{ℕ, suc, _+_, _-_, _≤_, _<_, zero-le}
 use native.Mathlib.Omega.{arith}
 use native.Mathlib.Numerals.{add-one}
 use lib.Dec.{ltb, eqb, leb·suc-suc}
-use lib.ListN.{length, take, drop, length-drop, length-take}
+use lib.ListN.{length, take, drop, length-drop}
 use lib.Seq.{drop-drop, take-length}
 use borrow.Author.Tests.{ltb-true, ltb-false, lt-ltb, le-ltb}
 use Rattle.bytes.specs.Bytes.{indexOf, indexAfter, slice}
-use Rattle.registers.specs.Text.{Text, if_then_else_, start}
+use Rattle.registers.specs.Text.{Text, if_then_else_}
 use Rattle.registers.specs.Check.{refused, passed}
 use Rattle.registers.proofs.Tests.{and-both}
 use Rattle.interpreter.specs.Cuts.{cutAt}
 use Rattle.interpreter.specs.Box.{Box, box, mostAnswer}
 use Rattle.interpreter.specs.Line.{Obeyed, attempt, refuse, runUnits}
-use Rattle.interpreter.specs.HeaderParts.{closed}
-use Rattle.interpreter.specs.RowsParts.{named}
+use Rattle.interpreter.specs.HeaderParts.{Holds}
 use Rattle.interpreter.specs.DeedsParts.{boxIn}
 use Rattle.interpreter.specs.LineParts.{boxAt, UnitRan}
 use Rattle.interpreter.specs.declared.perform.Present.{Present}
 use Rattle.interpreter.specs.declared.perform.Done.{Done}
+use Rattle.interpreter.proofs.header.Path.{holds-none}
 
 -- ---- where a byte stands from a place on
 
@@ -70,24 +70,23 @@ run-none path b = refl
 
 -- ---- the units of a line so far: what is left does what all of them do
 
-pub record Going (b : Box) (line path out : Text) (d : Done) (at : ℕ) : Type 0 where
+pub record Going (b : Box) (line : Text) (keys : List ℕ) (out : Text) (d : Done) (at : ℕ) : Type 0 where
   pub queued : d .present .status .queued ≤ 16
   pub answers : d .answered < mostAnswer
   pub long : length out ≡ mostAnswer
-  pub behind : d .used ≤ at
   pub within : at ≤ length line
-  pub shut : closed (take (d .used) path) ≡ true
-  pub left : runUnits (cutAt 59 (drop at line)) (named (take (d .used) path)) (boxAt (d .present) (d .answered) out) ≡ runUnits (cutAt 59 line) [] b
+  pub path : List Text
+  pub holds : Holds path keys (d .used)
+  pub left : runUnits (cutAt 59 (drop at line)) path (boxAt (d .present) (d .answered) out) ≡ runUnits (cutAt 59 line) [] b
 
-pub going-start : (p : Present) (o : Bool) (line path out : Text) → p .status .queued ≤ 16 → length out ≡ mostAnswer
-    → Going (boxIn p []) line path out (record { present = p; answered = 0; used = 0; obeyed = o }) 0
-unfolding named closed
-going-start p o line path out q l =
-    record { queued = q; answers = omega arith; long = l; behind = zero-le; within = zero-le; shut = refl; left = refl }
+pub going-start : (p : Present) (o : Bool) (line : Text) (keys : List ℕ) (out : Text) → p .status .queued ≤ 16 → length out ≡ mostAnswer
+    → Going (boxIn p []) line keys out (record { present = p; answered = 0; used = 0; obeyed = o }) 0
+going-start p o line keys out q l =
+    record { queued = q; answers = omega arith; long = l; within = zero-le; path = []; holds = holds-none keys; left = refl }
 
-module _ (b : Box) (line path out : Text) (d : Done) (at : ℕ) (g : Going b line path out d at)
+module _ (b : Box) (line : Text) (keys : List ℕ) (out : Text) (d : Done) (at : ℕ) (g : Going b line keys out d at)
     (end : ℕ) (is : end ≡ at + indexOf 59 (slice at (length line) line)) (within : end ≤ length line)
-    (r : Done) (paths left : Text) (w : UnitRan d (take (d .used) path) (take (end - at) (drop at line)) out r paths left) where
+    (r : Done) (more : List ℕ) (left : Text) (w : UnitRan d (g .path) (take (end - at) (drop at line)) out r more left) where
   -- the line from this unit on, and the box before it
   abbrev here : Text
   here = drop at line
@@ -104,24 +103,20 @@ module _ (b : Box) (line path out : Text) (d : Done) (at : ℕ) (g : Going b lin
   stopped : r .obeyed ≡ false → boxAt (r .present) (r .answered) left ≡ runUnits (cutAt 59 line) [] b
   stopped f =
       let s = w .stops f in
-      s .2 ∙ sym (run-stop (take (end - at) here) (others here) (named (take (d .used) path)) before (s .0) (s .1)) ∙ (rw first at (g .left))
+      s .2 ∙ sym (run-stop (take (end - at) here) (others here) (g .path) before (s .0) (s .1)) ∙ (rw first at (g .left))
 
-  passes : r .obeyed ≡ true → runUnits (others here) (named (take (r .used) paths)) (boxAt (r .present) (r .answered) left) ≡ runUnits (cutAt 59 line) [] b
-  passes t = sym (run-on (take (end - at) here) (others here) (named (take (d .used) path)) before _ (w .goes t .0)) ∙ (rw first at (g .left))
+  passes : (t : r .obeyed ≡ true) → runUnits (others here) (w .goes t .0) (boxAt (r .present) (r .answered) left) ≡ runUnits (cutAt 59 line) [] b
+  passes t = sym (run-on (take (end - at) here) (others here) (g .path) before _ (w .goes t .1)) ∙ (rw first at (g .left))
 
   pub going-less : (r .obeyed && ltb end (length line)) ≡ true → length line - (end + 1) < length line - at
   going-less e = let h = ltb-true end (length line) (and-both (r .obeyed) (ltb end (length line)) e .1) in omega (arith, is)
 
-  pub going-on : (r .obeyed && ltb end (length line)) ≡ true → length left ≡ length out → Going b line paths left r (end + 1)
+  pub going-on : (r .obeyed && ltb end (length line)) ≡ true → length left ≡ length out → Going b line more left r (end + 1)
   going-on e l =
       let both = and-both (r .obeyed) (ltb end (length line)) e in
       let h = ltb-true end (length line) (both .1) in
       let o = w .goes (both .0) in
       let m = n in
-      let used = o .2 in
-      let start = g .behind in
-      let a = length-take (d .used) path in
-      let c = length-take (end - at) here in
       let f = length-drop at line in
       let next : at + (indexOf 59 here + 1) ≡ end + 1 = omega arith in
       let rest : others here ≡ cutAt 59 (drop (end + 1) line) = rw (others-more here (omega arith), drop-drop (indexOf 59 here + 1) at line, next) in
@@ -129,9 +124,9 @@ module _ (b : Box) (line path out : Text) (d : Done) (at : ℕ) (g : Going b lin
         queued = w .queued;
         answers = w .room;
         long = l ∙ g .long;
-        behind = omega arith;
         within = omega arith;
-        shut = o .1;
+        path = o .0;
+        holds = o .2;
         left = rw rest at (passes (both .0));
       }
 

@@ -23,7 +23,7 @@ use Rattle.registers.specs.declared.settings.Values.the-variants.{Bool as BoolV
 use Rattle.registers.proofs.Tests.{below-at}
 use Rattle.registers.proofs.settings.Laws.{behind-is, values-is}
 use Rattle.registers.proofs.settings.Values as values
-use Rattle.interpreter.specs.RowsParts.{headerWords, wordCount, wordList}
+use Rattle.interpreter.specs.RowsParts.{wordCount, wordList}
 use Rattle.interpreter.specs.Parameter.{Word, Figure, least, greatest, asksLimits, takesNumbers, wordsOf, limitAt, valueGiven, sideGiven}
 use Rattle.interpreter.specs.ParameterParts.{TakesOf, isNumber}
 use Rattle.interpreter.specs.declared.deed.Role.{Role}
@@ -146,15 +146,15 @@ wordCounts = 2 ∷ 2 ∷ 2 ∷ 3 ∷ 2 ∷ 2 ∷ 2 ∷ 2 ∷ 2 ∷ 2 ∷ 2 ∷ 2
 
 pub setting-takes : (i : ℕ) → i < count
     → TakesOf (wordsOf (kindOf i)) (takesNumbers (kindOf i)) (quantityOf i)
-    (record { first = headerWords + getD firstWords i 0; count = getD wordCounts i 0; numbers = leb 6 (getD firstWords i 0); quantity = quantityOf i })
+    (record { first = getD firstWords i 0; count = getD wordCounts i 0; numbers = leb 6 (getD firstWords i 0); quantity = quantityOf i })
 unfolding listed wordList settingAt table
 setting-takes i h =
     record {
-      words = agree count (λ k. take (getD wordCounts k 0) (drop (headerWords + getD firstWords k 0) wordList)) (λ k. wordsOf (kindOf k)) refl i h;
+      words = agree count (λ k. take (getD wordCounts k 0) (drop (getD firstWords k 0) wordList)) (λ k. wordsOf (kindOf k)) refl i h;
       numbers = agree count (λ k. leb 6 (getD firstWords k 0)) (λ k. takesNumbers (kindOf k)) refl i h;
       quantity = refl;
-      room = leb-true (headerWords + getD firstWords i 0 + getD wordCounts i 0) wordCount
-          (below-at count (λ k. leb (headerWords + getD firstWords k 0 + getD wordCounts k 0) wordCount) refl i h);
+      room = leb-true (getD firstWords i 0 + getD wordCounts i 0) wordCount
+          (below-at count (λ k. leb (getD firstWords k 0 + getD wordCounts k 0) wordCount) refl i h);
     }
 
 pub words-few : (i : ℕ) → i < count → length (wordsOf (kindOf i)) ≤ wordCount

@@ -17,12 +17,11 @@ use Rattle.registers.specs.Words.{shortForm, longForm}
 use Rattle.registers.specs.Settings.{wordText}
 use Rattle.registers.proofs.Tests.{and-both}
 use Rattle.interpreter.specs.ParameterParts.{takenWords}
-use Rattle.interpreter.specs.RowsParts.{wordCount, wordList, wordAt, wordRow, wordTableOf, wordTable, rowTable, commandTable}
+use Rattle.interpreter.specs.RowsParts.{wordCount, wordList, wordAt, wordRow, wordTableOf, wordTable, searchTable, commandTable}
 use Rattle.interpreter.specs.DeedsParts.{textOf, RepliesWith}
 use Rattle.interpreter.specs.declared.parameter.Takes.{Takes}
 use Rattle.interpreter.specs.declared.reply.Reply.the-variants.{Word}
-use Rattle.interpreter.proofs.Lists.{every-at, table-at}
-use Rattle.interpreter.proofs.rows.Greedy.{same-eq}
+use Rattle.interpreter.proofs.Lists.{same-eq, every-at, table-at}
 use Rattle.interpreter.proofs.rows.Table.{words-from}
 
 -- ---- a word has its short form's length in its first cell and the short form from its third on
@@ -60,13 +59,13 @@ module _ (i : ℕ) (k : i < wordCount) where
       (leb-true _ _ (q .0), same-eq _ _ (q .1))
 
   abbrev behind : Text
-  behind = wordTableOf (drop (suc i) wordList) ++ rowTable
+  behind = wordTableOf (drop (suc i) wordList) ++ searchTable
 
   from : drop (i * 16) commandTable ≡ wordRow (wordAt i) ++ behind
   unfolding wordTable wordTableOf wordAt
   from =
       let row = table-at wordRow 16 wordTableOf refl (λ x xs. refl) wordList all-wide i "" within in
-      words-from (i * 16) (omega arith) ∙ rw row (append-assoc (wordRow (wordAt i)) (wordTableOf (drop (suc i) wordList)) rowTable)
+      words-from (i * 16) (omega arith) ∙ rw row (append-assoc (wordRow (wordAt i)) (wordTableOf (drop (suc i) wordList)) searchTable)
 
   word-length : getD commandTable (i * 16) 0 ≡ length short
   unfolding wordRow

@@ -1,19 +1,21 @@
 -- The rows' optional nodes can be tried greedily: a node that matches is taken, an optional one that doesn't is left out. This
--- is the walk of the code; `spells` tries every way. They agree where no optional node shares a spelling with a later one.
-use mathlib.Core.Path.{_≡_, refl, sym, _∙_, ap, ap₂}
-use mathlib.Core.Bool.{Bool, true, false, not, _&&_, _||_, false≢true}
+-- is the walk of the code, over the names as numbers; `spells` tries every way. They agree where no optional node shares a spelling
+-- with a later one, and every word's forms are at most eleven capitals.
+use mathlib.Core.Path.{_≡_, refl, sym, _∙_, ap}
+use mathlib.Core.Bool.{Bool, true, false, not, _&&_, _||_}
 use mathlib.Core.List.{List, [], _∷_, map}
-use Prim.Native.Nat.{ℕ}
 use Prim.Native.String.{String}
-use lib.Dec.{eqb}
-use borrow.Author.Tests.{eqb-true, not-true}
-use Rattle.registers.specs.Text.{Text, if_then_else_, every, same, bytes, capital, small}
+use borrow.Author.Tests.{not-true}
+use Rattle.registers.specs.Text.{Text, if_then_else_, letter, wordByte, every, same, bytes, capital, small, first}
 use Rattle.registers.specs.Words.{shortForm, longForm, matches, Node, must, may}
 use Rattle.registers.specs.Settings.{table}
 use Rattle.registers.proofs.Tests.{and-both}
-use Rattle.interpreter.specs.Header.{spells}
+use Rattle.interpreter.specs.Header.{name, spells}
 use Rattle.interpreter.specs.Rows.{Row, rows, settingRows, otherRows}
+use Rattle.interpreter.specs.NameParts.{keyOf}
 use Rattle.interpreter.specs.RowsParts.{greedy}
+use Rattle.interpreter.proofs.Lists.{same-eq}
+use Rattle.interpreter.proofs.name.Keys.{capitals, key-matches}
 
 abbrev wordOf : Node → String
 wordOf (must w) = w
@@ -30,11 +32,14 @@ apart v w = not (form w (shortForm v)) && not (form w (longForm v))
 allApart : String → List Node → Bool
 allApart w nodes = every (λ x. apart w (wordOf x)) nodes
 
+abbrev inCapitals : String → Bool
+inCapitals w = capitals (shortForm w) && capitals (longForm w)
+
 -- each optional node is apart from every later one
 pub clear : List Node → Bool
 clear [] = true
-clear (must w ∷ nodes) = clear nodes
-clear (may w ∷ nodes) = allApart w nodes && clear nodes
+clear (must w ∷ nodes) = inCapitals w && clear nodes
+clear (may w ∷ nodes) = inCapitals w && (allApart w nodes && clear nodes)
 
 -- the one test over the table
 pub rows-clear : every (λ (r : Row). clear (r .nodes)) rows ≡ true
@@ -42,15 +47,6 @@ unfolding rows settingRows otherRows table clear allApart apart shortForm longFo
 rows-clear = refl
 
 -- ---- the law
-
-pub same-eq : (x y : Text) → same x y ≡ true → x ≡ y
-unfolding same
-same-eq [] [] e = refl
-same-eq [] (y ∷ ys) e = absurd (false≢true e)
-same-eq (x ∷ xs) [] e = absurd (false≢true e)
-same-eq (x ∷ xs) (y ∷ ys) e =
-    let p = and-both (eqb x y) (same xs ys) e in
-    ap₂ (λ (a : ℕ) (b : Text). a ∷ b) (eqb-true x y (p .0)) (same-eq xs ys (p .1))
 
 -- a text that spells v spells no word apart from v
 not-both : (v w : String) (n : Text) → apart v w ≡ true → matches v n ≡ true → matches w n ≡ false
@@ -81,23 +77,38 @@ or-false : (e : Bool) → (e || false) ≡ e
 or-false true = refl
 or-false false = refl
 
-pub greedy-spells : (nodes : List Node) → clear nodes ≡ true → (names : List Text) → greedy nodes names ≡ spells nodes names
+name-words : (n : Text) → name n ≡ true → every wordByte n ≡ true
+unfolding name
+name-words n e = and-both (letter (first n)) (every wordByte n) e .1
+
+pub greedy-spells : (nodes : List Node) → clear nodes ≡ true → (names : List Text) → every name names ≡ true
+    → greedy nodes (map keyOf names) ≡ spells nodes names
 unfolding greedy spells clear if_then_else_
-greedy-spells [] c names = refl
-greedy-spells (must w ∷ nodes) c [] = refl
-greedy-spells (must w ∷ nodes) c (n ∷ names) = go (matches w n) (greedy-spells nodes c names)
+greedy-spells [] c [] e = refl
+greedy-spells [] c (n ∷ names) e = refl
+greedy-spells (must w ∷ nodes) c [] e = refl
+greedy-spells (must w ∷ nodes) c (n ∷ names) e =
+    let p = and-both (inCapitals w) (clear nodes) c in
+    let q = and-both (name n) (every name names) e in
+    rw (key-matches w n (name-words n (q .0)) (p .0)) (go (matches w n) (greedy-spells nodes (p .1) names (q .1)))
   where
-    go : (e : Bool) → greedy nodes names ≡ spells nodes names → (if e then greedy nodes names else false) ≡ (e && spells nodes names)
+    go : (m : Bool) → greedy nodes (map keyOf names) ≡ spells nodes names
+        → (if m then greedy nodes (map keyOf names) else false) ≡ (m && spells nodes names)
     go true ih = ih
     go false ih = refl
-greedy-spells (may w ∷ nodes) c [] = greedy-spells nodes (and-both (allApart w nodes) (clear nodes) c .1) []
-greedy-spells (may w ∷ nodes) c (n ∷ names) =
-    let p = and-both (allApart w nodes) (clear nodes) c in
-    let ih = greedy-spells nodes (p .1) in
-    go (matches w n) refl (ih names) (ih (n ∷ names)) (p .0)
+greedy-spells (may w ∷ nodes) c [] e =
+    let p = and-both (inCapitals w) (allApart w nodes && clear nodes) c in
+    greedy-spells nodes (and-both (allApart w nodes) (clear nodes) (p .1) .1) [] e
+greedy-spells (may w ∷ nodes) c (n ∷ names) e =
+    let p = and-both (inCapitals w) (allApart w nodes && clear nodes) c in
+    let r = and-both (allApart w nodes) (clear nodes) (p .1) in
+    let q = and-both (name n) (every name names) e in
+    let ih = greedy-spells nodes (r .1) in
+    rw (key-matches w n (name-words n (q .0)) (p .0)) (go (matches w n) refl (ih names (q .1)) (ih (n ∷ names) e) (r .0))
   where
-    go : (e : Bool) → matches w n ≡ e → greedy nodes names ≡ spells nodes names → greedy nodes (n ∷ names) ≡ spells nodes (n ∷ names)
-        → allApart w nodes ≡ true
-        → (if e then greedy nodes names else greedy nodes (n ∷ names)) ≡ (spells nodes (n ∷ names) || (e && spells nodes names))
+    go : (m : Bool) → matches w n ≡ m → greedy nodes (map keyOf names) ≡ spells nodes names
+        → greedy nodes (keyOf n ∷ map keyOf names) ≡ spells nodes (n ∷ names) → allApart w nodes ≡ true
+        → (if m then greedy nodes (map keyOf names) else greedy nodes (keyOf n ∷ map keyOf names))
+        ≡ (spells nodes (n ∷ names) || (m && spells nodes names))
     go true q taken left a = rw (spells-none w n q names nodes a) taken
     go false q taken left a = left ∙ sym (or-false (spells nodes (n ∷ names)))

@@ -1,7 +1,6 @@
--- Laws of a text and a word's letters: how far the two agree tells whether the text, or its start whose bytes pass a test, spells
--- the word.
+-- Laws of a text and a word's letters: how far the two agree tells whether the text spells the word.
 use mathlib.Core.Path.{_≡_, refl, sym, _∙_, ap}
-use mathlib.Core.Bool.{Bool, true, false, _&&_, _||_, false≢true}
+use mathlib.Core.Bool.{Bool, true, false, _&&_, _||_}
 use mathlib.Core.List.{[], _∷_, map}
 use Prim.Native.Nat.{ℕ, zero, suc, _+_, _≤_, _<_}
 use native.Mathlib.Numerals.{add-one}
@@ -10,10 +9,8 @@ use lib.Dec.{eqb, eqb·zero-suc, eqb·suc-zero, eqb·suc-suc}
 use lib.ListN.{length, getD, take, drop}
 use lib.Seq.{drop-cons, take-length}
 use borrow.Author.Tests.{eq-eqb, ne-eqb}
-use Rattle.registers.specs.Text.{Text, if_then_else_, capital, empty, first, same, every, start}
+use Rattle.registers.specs.Text.{Text, if_then_else_, capital, empty, same}
 use Rattle.registers.specs.Words.{shortForm, longForm, matches}
-use Rattle.registers.proofs.Tests.{and-both}
-use Rattle.registers.proofs.text.Laws.{first-at}
 use Rattle.interpreter.specs.RowsParts.{wordCount, wordAt, agreed, wordCell, formLength}
 use Rattle.interpreter.proofs.rows.Words.{forms, short-cell, long-cell, short-is, short-small, long-at}
 
@@ -28,67 +25,45 @@ agreed-most (b ∷ bs) (x ∷ xs) = go (eqb (capital b) x) (agreed-most bs xs)
     go true m = (omega arith, omega arith)
     go false m = (omega arith, omega arith)
 
--- the longest start of a text that passes a test, which a byte that fails it fails in capitals too
-module _ (p : ℕ → Bool) (kept : (b : ℕ) → p b ≡ false → p (capital b) ≡ false) where
-  stops : (b : ℕ) (bs l : Text) → p b ≡ false → every p l ≡ true → agreed (b ∷ bs) l ≡ 0
-  unfolding agreed if_then_else_
-  stops b bs [] q e = refl
-  stops b bs (x ∷ l) q e = rw (ne-eqb (capital b) x (λ z. false≢true (sym (kept b q) ∙ ap p z ∙ and-both (p x) (every p l) e .0)))
+-- a text is the first k letters exactly if so many agree and it ends there
+pub form-is : (t l : Text) (k : ℕ) → k ≤ length l → same (map capital t) (take k l) ≡ (eqb (agreed t l) k && empty (drop (agreed t l) t))
+unfolding same agreed if_then_else_
+form-is [] l zero h = refl
+form-is [] [] (suc k) h = absurd (omega arith)
+form-is [] (x ∷ l) (suc k) h = rw (eqb·zero-suc k)
+form-is (b ∷ bs) [] zero h = refl
+form-is (b ∷ bs) (x ∷ l) zero h = go (eqb (capital b) x)
+  where
+    go : (c : Bool) → false ≡ (eqb (if c then suc (agreed bs l) else 0) 0 && empty (drop (if c then suc (agreed bs l) else 0) (b ∷ bs)))
+    go true = rw (eqb·suc-zero (agreed bs l))
+    go false = refl
+form-is (b ∷ bs) [] (suc k) h = absurd (omega arith)
+form-is (b ∷ bs) (x ∷ l) (suc k) h = go (eqb (capital b) x) (form-is bs l k (omega arith))
+  where
+    go : (c : Bool) → same (map capital bs) (take k l) ≡ (eqb (agreed bs l) k && empty (drop (agreed bs l) bs))
+        → (c && same (map capital bs) (take k l))
+        ≡ (eqb (if c then suc (agreed bs l) else 0) (suc k) && empty (drop (if c then suc (agreed bs l) else 0) (b ∷ bs)))
+    go true ih = rw (eqb·suc-suc (agreed bs l) k) ih
+    go false ih = rw (eqb·zero-suc k)
 
-  -- it is the first k letters exactly if so many agree and it ends there
-  abbrev Form : Text → Text → ℕ → Type 0
-  Form t l k = same (map capital (start p t)) (take k l) ≡ (eqb (agreed t l) k && empty (start p (drop (agreed t l) t)))
-
-  form-none : (t l : Text) (k : ℕ) → k ≤ length l → start p t ≡ [] → agreed t l ≡ 0 → Form t l k
-  unfolding same
-  form-none t l zero h e z = rw (z, e)
-  form-none t [] (suc k) h e z = absurd (omega arith)
-  form-none t (x ∷ l) (suc k) h e z = rw (z, e, eqb·zero-suc k)
-
-  form-more : (b : ℕ) (bs l : Text) (k : ℕ) → k ≤ length l → every p l ≡ true → p b ≡ true
-      → ((l : Text) (k : ℕ) → k ≤ length l → every p l ≡ true → Form bs l k) → Form (b ∷ bs) l k
-  unfolding same agreed if_then_else_
-  form-more b bs [] zero h e q ih = rw q
-  form-more b bs (x ∷ l) zero h e q ih = rw q (go (eqb (capital b) x))
-    where
-      go : (c : Bool) → false ≡ (eqb (if c then suc (agreed bs l) else 0) 0 && empty (start p (drop (if c then suc (agreed bs l) else 0) (b ∷ bs))))
-      go true = rw (eqb·suc-zero (agreed bs l))
-      go false = rw q
-  form-more b bs [] (suc k) h e q ih = absurd (omega arith)
-  form-more b bs (x ∷ l) (suc k) h e q ih = rw q (go (eqb (capital b) x))
-    where
-      go : (c : Bool) → (c && same (map capital (start p bs)) (take k l))
-          ≡ (eqb (if c then suc (agreed bs l) else 0) (suc k) && empty (start p (drop (if c then suc (agreed bs l) else 0) (b ∷ bs))))
-      go true = rw (eqb·suc-suc (agreed bs l) k) (ih l k (omega arith) (and-both (p x) (every p l) e .1))
-      go false = rw (eqb·zero-suc k)
-
-  pub form-is : (t l : Text) (k : ℕ) → k ≤ length l → every p l ≡ true → Form t l k
-  unfolding agreed if_then_else_
-  form-is [] l k h e = form-none [] l k h refl refl
-  form-is (b ∷ bs) l k h e = go (p b) refl (form-is bs)
-    where
-      go : (c : Bool) → p b ≡ c → ((l : Text) (k : ℕ) → k ≤ length l → every p l ≡ true → Form bs l k) → Form (b ∷ bs) l k
-      go true q ih = form-more b bs l k h e q ih
-      go false q ih = form-none (b ∷ bs) l k h (rw q) (stops b bs l q e)
-
-  pub word-is : (t : Text) (w : ℕ) → w < wordCount → every p (longForm (wordAt w)) ≡ true
-      → let n = agreed t (longForm (wordAt w)) in
-      matches (wordAt w) (start p t) ≡ (formLength w n && empty (start p (drop n t)))
-  unfolding matches formLength
-  word-is t w h e =
-      let short = shortForm (wordAt w) in
-      let long = longForm (wordAt w) in
-      let c = map capital (start p t) in
-      let a = ap (same c) (short-is w h) ∙ form-is t long (length short) (short-small w h) e in
-      let b = ap (same c) (sym (take-length long)) ∙ form-is t long (length long) (omega arith) e in
-      rw (short-cell w h, long-cell w h, a, b)
-      (go (eqb (agreed t long) (length short)) (eqb (agreed t long) (length long)) (empty (start p (drop (agreed t long) t))))
-    where
-      go : (a b c : Bool) → ((a && c) || (b && c)) ≡ ((a || b) && c)
-      go true b true = refl
-      go true true false = refl
-      go true false false = refl
-      go false b c = refl
+pub word-is : (t : Text) (w : ℕ) → w < wordCount
+    → let n = agreed t (longForm (wordAt w)) in
+    matches (wordAt w) t ≡ (formLength w n && empty (drop n t))
+unfolding matches formLength
+word-is t w h =
+    let short = shortForm (wordAt w) in
+    let long = longForm (wordAt w) in
+    let c = map capital t in
+    let a = ap (same c) (short-is w h) ∙ form-is t long (length short) (short-small w h) in
+    let b = ap (same c) (sym (take-length long)) ∙ form-is t long (length long) (omega arith) in
+    rw (short-cell w h, long-cell w h, a, b)
+    (go (eqb (agreed t long) (length short)) (eqb (agreed t long) (length long)) (empty (drop (agreed t long) t)))
+  where
+    go : (a b c : Bool) → ((a && c) || (b && c)) ≡ ((a || b) && c)
+    go true b true = refl
+    go true true false = refl
+    go true false false = refl
+    go false b c = refl
 
 -- ---- the walk over the letters
 
@@ -130,8 +105,3 @@ module _ {t : Text} {w n : ℕ} (s : Agreeing t w n) where
 
   pub agreeing-full : wordCell w 1 ≤ n → n ≡ agreed t letters
   agreeing-full l = let c = long-cell w (s .word) in let m = agreed-most t letters .1 in let r = s .all in omega arith
-
-pub first-miss : (t : Text) (w : ℕ) (h : w < wordCount) → 0 < length t → (capital (first t) ≡ wordCell w 2 → ⊥) → 0 ≡ agreed t (longForm (wordAt w))
-first-miss t w h l ne =
-    let f = forms w h in
-    agreeing-miss (agreeing-none t w h) l (omega arith) (λ e. ne (ap capital (first-at t 0) ∙ e))

@@ -1,37 +1,20 @@
 -- Laws of a whole text that is compared with a word.
-use mathlib.Core.Path.{_≡_, refl, sym, _∙_, ap}
-use mathlib.Core.Bool.{Bool, true, false, _&&_, false≢true}
-use mathlib.Core.List.{[], _∷_}
+use mathlib.Core.Path.{_≡_, refl, sym, _∙_}
+use mathlib.Core.Bool.{Bool, true, false, _&&_}
 use Prim.Native.Nat.{ℕ, _≤_, _<_}
 use native.Mathlib.Omega.{arith}
 use lib.Dec.{eqb, leb}
-use lib.ListN.{length, drop}
+use lib.ListN.{length}
 use borrow.Author.Tests.{eqb-true, eqb-false, le-leb, lt-leb}
-use Rattle.registers.specs.Text.{Text, if_then_else_, every, start}
+use Rattle.registers.specs.Text.{Text}
 use Rattle.registers.specs.Words.{longForm, matches}
 use Rattle.registers.proofs.text.Laws.{empty-at}
 use Rattle.interpreter.specs.RowsParts.{wordCount, wordAt, agreed, formLength}
-use Rattle.interpreter.proofs.rows.Words.{forms}
 use Rattle.interpreter.proofs.rows.Letters.{agreed-most, word-is}
-
-abbrev any : ℕ → Bool
-any b = true
-
-start-any : (t : Text) → start any t ≡ t
-unfolding if_then_else_
-start-any [] = refl
-start-any (b ∷ bs) = ap (λ (u : Text). b ∷ u) (start-any bs)
-
-every-any : (l : Text) → every any l ≡ true
-every-any [] = refl
-every-any (x ∷ l) = every-any l
 
 module _ (t : Text) (w n : ℕ) (h : w < wordCount) (is : n ≡ agreed t (longForm (wordAt w))) where
   whole-is : matches (wordAt w) t ≡ (formLength w n && leb (length t) n)
-  whole-is =
-      ap (matches (wordAt w)) (sym (start-any t))
-      ∙ word-is any (λ b e. absurd (false≢true (sym e))) t w h (every-any (longForm (wordAt w)))
-      ∙ rw (sym is, start-any (drop n t), empty-at t n)
+  whole-is = word-is t w h ∙ rw (sym is, empty-at t n)
 
   -- the code's test: all bytes are letters of the word, and so many letters has one of its forms
   pub whole-word : (eqb n (length t) && formLength w n) ≡ matches (wordAt w) t

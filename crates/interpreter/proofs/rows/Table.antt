@@ -1,30 +1,159 @@
--- The words and the rows in one table: where each cell stands.
-use mathlib.Core.Path.{_≡_, _∙_, sym, ap}
+-- The words, the rows, the numbers and the codes in one table: where each cell stands.
+use mathlib.Core.Path.{_≡_, refl, sym, _∙_, ap}
+use mathlib.Core.Bool.{Bool, true}
 use mathlib.Core.List.{_++_}
-use Prim.Native.Nat.{ℕ, suc, _+_, _*_, _<_, _≤_}
+use Prim.Native.Nat.{ℕ, zero, suc, _+_, _*_, _<_, _≤_}
+use Prim.Native.String.{String}
 use native.Mathlib.Omega.{arith}
+use lib.Dec.{eqb}
 use lib.ListN.{length, getD, drop, length-append, List·getD-append}
-use lib.Seq.{drop-append-le, getD-append-add}
-use Rattle.interpreter.specs.RowsParts.{tableBytes, wordBytes, wordCount, wordTable, rowTable, commandTable, wordCell, rowCell}
+use lib.Seq.{drop-append-le, drop-append-add, drop-drop, getD-append-add, getD-drop}
+use Rattle.registers.specs.Text.{Text, if_then_else_, every}
+use Rattle.registers.specs.Words.{shortForm, longForm}
+use Rattle.interpreter.specs.NameParts.{codeOf, keyOf}
+use Rattle.interpreter.specs.RowsParts.{tableBytes, wordBytes, rowBytes, keyBytes, firstKey, firstCode, wordCount, rowCount, nodeCount, nodeList, nodeAt, wordTable, rowTable, eight, keyRow, keyTableOf, keyTable, listFrom, codeTable, searchTable, commandTable, wordCell, rowCell, quadAt, keyCell}
+use Rattle.interpreter.proofs.Lists.{table-at, table-length}
 use Rattle.interpreter.proofs.rows.Words.{words-long}
 use Rattle.interpreter.proofs.rows.Rows.{table-long}
 
+-- ---- how long each part is
+
+abbrev wide : String → Bool
+wide w = eqb (length (keyRow w)) 16
+
+keys-wide : every wide nodeList ≡ true
+unfolding nodeList keyRow
+keys-wide = refl
+
+nodes-many : length nodeList ≡ nodeCount
+unfolding nodeList
+nodes-many = refl
+
+keys-long : length keyTable ≡ keyBytes
+unfolding keyTable keyTableOf
+keys-long =
+    let n = nodes-many in
+    let e = table-length keyRow 16 keyTableOf refl (λ x xs. refl) nodeList keys-wide in
+    omega arith
+
+list-length : (f : ℕ → ℕ) (i n : ℕ) → length (listFrom i n f) ≡ n
+unfolding listFrom
+list-length f i zero = refl
+list-length f i (suc n) = ap suc (list-length f (suc i) n)
+
+list-at : (f : ℕ → ℕ) (i n k : ℕ) → k < n → getD (listFrom i n f) k 0 ≡ f (i + k)
+unfolding listFrom
+list-at f i zero k h = absurd (omega arith)
+list-at f i (suc n) zero h = let e : i ≡ i + 0 = omega arith in ap f e
+list-at f i (suc n) (suc k) h = let e : suc i + k ≡ i + suc k = omega arith in list-at f (suc i) n k (omega arith) ∙ ap f e
+
+search-long : length searchTable ≡ rowBytes + (keyBytes + 256)
+unfolding searchTable codeTable
+search-long =
+    let r = table-long in
+    let k = keys-long in
+    let c = list-length codeOf 0 256 in
+    let codes = listFrom 0 256 codeOf in
+    omega (arith, length-append rowTable (keyTable ++ codes), length-append keyTable codes)
+
 pub commands-long : length commandTable ≡ tableBytes
 unfolding commandTable
-commands-long = let w = words-long in let r = table-long in omega (arith, length-append wordTable rowTable)
+commands-long = let w = words-long in let s = search-long in omega (arith, length-append wordTable searchTable)
+
+-- ---- where a cell stands
 
 pub word-byte : (w i : ℕ) → w < wordCount → i < 16 → getD commandTable (w * 16 + i) 0 ≡ wordCell w i
 unfolding commandTable wordCell
-word-byte w i h k = let l = words-long in List·getD-append wordTable rowTable 0 (w * 16 + i) (omega arith)
+word-byte w i h k = let l = words-long in List·getD-append wordTable searchTable 0 (w * 16 + i) (omega arith)
 
-pub row-byte : (r i : ℕ) → getD commandTable (wordBytes + r * 8 + i) 0 ≡ rowCell r i
-unfolding commandTable rowCell
-row-byte r i =
-    let l = words-long in
-    let e : wordBytes + r * 8 + i ≡ length wordTable + (r * 8 + i) = omega arith in
-    rw e (getD-append-add wordTable rowTable (r * 8 + i) 0)
-
--- from a word on, the rows stand behind the words
-pub words-from : (n : ℕ) → n ≤ wordBytes → drop n commandTable ≡ drop n wordTable ++ rowTable
+-- from a word on, the rest of the table stands behind the words
+pub words-from : (n : ℕ) → n ≤ wordBytes → drop n commandTable ≡ drop n wordTable ++ searchTable
 unfolding commandTable
-words-from n h = let l = words-long in drop-append-le n wordTable rowTable (omega arith)
+words-from n h = let l = words-long in drop-append-le n wordTable searchTable (omega arith)
+
+behind-words : (i : ℕ) → getD commandTable (wordBytes + i) 0 ≡ getD searchTable i 0
+unfolding commandTable
+behind-words i =
+    let l = words-long in
+    let e : wordBytes + i ≡ length wordTable + i = omega arith in
+    rw e (getD-append-add wordTable searchTable i 0)
+
+pub row-byte : (r i : ℕ) → r < rowCount → i < 8 → getD commandTable (wordBytes + r * 8 + i) 0 ≡ rowCell r i
+unfolding searchTable rowCell
+row-byte r i h k =
+    let l = table-long in
+    let e : wordBytes + r * 8 + i ≡ wordBytes + (r * 8 + i) = omega arith in
+    rw e (behind-words (r * 8 + i) ∙ List·getD-append rowTable (keyTable ++ codeTable) 0 (r * 8 + i) (omega arith))
+
+pub code-byte : (b : ℕ) → b < 256 → getD commandTable (firstCode + b) 0 ≡ codeOf b
+unfolding searchTable codeTable
+code-byte b h =
+    let r = table-long in
+    let k = keys-long in
+    let e : firstCode + b ≡ wordBytes + (length rowTable + (length keyTable + b)) = omega arith in
+    let z : 0 + b ≡ b = omega arith in
+    rw e
+    (behind-words (length rowTable + (length keyTable + b))
+    ∙ getD-append-add rowTable (keyTable ++ listFrom 0 256 codeOf) (length keyTable + b) 0
+    ∙ getD-append-add keyTable (listFrom 0 256 codeOf) b 0
+    ∙ list-at codeOf 0 256 b h
+    ∙ ap codeOf z)
+
+-- ---- the numbers of a node's word
+
+-- from a number on
+keys-from : (x : ℕ) → x ≤ keyBytes → drop (firstKey + x) commandTable ≡ drop x keyTable ++ codeTable
+unfolding commandTable searchTable
+keys-from x h =
+    let w = words-long in
+    let r = table-long in
+    let k = keys-long in
+    let e : firstKey + x ≡ length wordTable + (length rowTable + x) = omega arith in
+    rw e
+    (drop-append-add wordTable (rowTable ++ (keyTable ++ codeTable)) (length rowTable + x)
+    ∙ drop-append-add rowTable (keyTable ++ codeTable) x
+    ∙ drop-append-le x keyTable codeTable (omega arith))
+
+-- eight bytes as they are read
+abbrev eightAt : Text → ℕ → ℕ
+eightAt t at = quadAt t at + quadAt t (at + 4) * 4294967296
+
+eight-is : (n : ℕ) (more : Text) → eightAt (eight n ++ more) 0 ≡ n
+eight-is n more = omega arith
+
+from-drop : (t : Text) (at : ℕ) → eightAt t at ≡ eightAt (drop at t) 0
+from-drop t at =
+    let d : (k : ℕ) → getD (drop at t) k 0 ≡ getD t (at + k) 0 = λ k. getD-drop at t k 0 in
+    rw (d 0, d 1, d 2, d 3, d 4, d 5, d 6, d 7) (assoc at)
+  where
+    assoc : (at : ℕ) → eightAt t at
+        ≡ getD t (at + 0) 0 + getD t (at + 1) 0 * 256 + (getD t (at + 2) 0 + getD t (at + 3) 0 * 256) * 65536
+        + (getD t (at + 4) 0 + getD t (at + 5) 0 * 256 + (getD t (at + 6) 0 + getD t (at + 7) 0 * 256) * 65536) * 4294967296
+    assoc at =
+        let a : at + 0 ≡ at = omega arith in
+        let b : at + 2 + 1 ≡ at + 3 = omega arith in
+        let c : at + 4 + 1 ≡ at + 5 = omega arith in
+        let d : at + 4 + 2 ≡ at + 6 = omega arith in
+        let e : at + 6 + 1 ≡ at + 7 = omega arith in
+        rw (a, b, c, d, e)
+
+module _ (w : ℕ) (h : w < nodeCount) where
+  abbrev more : Text
+  more = keyTableOf (drop (suc w) nodeList) ++ codeTable
+
+  word-keys : drop (firstKey + w * 16) commandTable ≡ eight (keyOf (shortForm (nodeAt w))) ++ (eight (keyOf (longForm (nodeAt w))) ++ more)
+  unfolding keyTable keyTableOf keyRow nodeAt
+  word-keys =
+      let n = nodes-many in
+      keys-from (w * 16) (omega arith) ∙ rw (table-at keyRow 16 keyTableOf refl (λ x xs. refl) nodeList keys-wide w "" (omega arith))
+
+  pub key-read : (i : ℕ) → i < 2 → eightAt commandTable (firstKey + w * 16 + i * 8) ≡ keyCell w i
+  unfolding keyCell if_then_else_
+  key-read zero k =
+      let e : firstKey + w * 16 + 0 * 8 ≡ firstKey + w * 16 = omega arith in
+      rw e (from-drop commandTable (firstKey + w * 16) ∙ rw word-keys (eight-is (keyOf (shortForm (nodeAt w))) (eight (keyOf (longForm (nodeAt w))) ++ more)))
+  key-read (suc zero) k =
+      let d : drop (firstKey + w * 16 + 8) commandTable ≡ eight (keyOf (longForm (nodeAt w))) ++ more =
+      sym (drop-drop 8 (firstKey + w * 16) commandTable) ∙ ap (drop 8) word-keys in
+      from-drop commandTable (firstKey + w * 16 + 8) ∙ rw d (eight-is (keyOf (longForm (nodeAt w))) more)
+  key-read (suc (suc i)) k = absurd (omega arith)

@@ -1,59 +1,65 @@
 -- Laws of one step of a walk over a row's nodes.
-use mathlib.Core.Path.{_≡_, refl, subst}
-use mathlib.Core.Bool.{true, false}
-use mathlib.Core.List.{List, [], _∷_}
-use Prim.Native.Nat.{ℕ, _-_, _≤_, _<_}
-use Prim.Native.String.{String}
-use lib.ListN.{length, drop}
-use borrow.Author.Tests.{lt-ltb, le-ltb}
-use Rattle.registers.specs.Text.{Text, if_then_else_, start}
-use Rattle.registers.specs.Words.{Node, must, may, matches}
-use Rattle.interpreter.specs.RowsParts.{wordCount, wordAt, named, inName, greedy, WordTaken, nodeOf, wordIn, Walked}
-use Rattle.interpreter.specs.declared.rows.Walk.{Walk}
+use mathlib.Core.Path.{_≡_, sym, _∙_, ap}
+use mathlib.Core.Bool.{Bool, true, false}
+use mathlib.Core.List.{List, _∷_}
+use Prim.Native.Nat.{ℕ, _+_, _≤_, _<_}
+use native.Mathlib.Numerals.{add-one}
+use native.Mathlib.Omega.{arith}
+use lib.Dec.{ltb}
+use lib.ListN.{length, getD, take, drop, length-take, drop-of-length-le}
+use lib.Seq.{drop-cons, getD-take}
+use Rattle.registers.specs.Text.{if_then_else_}
+use Rattle.registers.specs.Words.{Node, must, may}
+use Rattle.interpreter.specs.RowsParts.{nodeAt, keyMatches, greedy, wordIn, nodeOf, leftOut, Walked}
 use Rattle.interpreter.specs.declared.rows.Walk.the-variants.{To, Missed}
-use Rattle.interpreter.proofs.rows.Names.{named-cons}
 
--- a word that is not the first name
-misses : (w : String) (u : Text) → matches w (start inName u) ≡ false → (nodes : List Node)
-    → (greedy (must w ∷ nodes) (named u) ≡ false) × (greedy (may w ∷ nodes) (named u) ≡ greedy nodes (named u))
-unfolding greedy named if_then_else_
-misses w [] m nodes = (refl, refl)
-misses w (b ∷ bs) m nodes = (rw (named-cons b bs, m), rw (named-cons b bs, m))
+module _ (node : ℕ) (keys : List ℕ) (at : ℕ) where
+  -- a node that is not spelled is missed, or left out if it is optional
+  left-out : at ≤ length keys
+      → ((nodes : List Node) → greedy (must (nodeAt (wordIn node)) ∷ nodes) (drop at keys) ≡ false)
+      → ((nodes : List Node) → greedy (may (nodeAt (wordIn node)) ∷ nodes) (drop at keys) ≡ greedy nodes (drop at keys))
+      → Walked (nodeOf node) keys at (leftOut node at)
+  unfolding nodeOf leftOut if_then_else_
+  left-out l m o = go (ltb node 128)
+    where
+      go : (b : Bool) → Walked (if b then must (nodeAt (wordIn node)) else may (nodeAt (wordIn node))) keys at (if b then Missed else To at)
+      go true = m
+      go false = (o, l)
 
--- a word that is the first name
-takes : (w : String) (t : Text) (at next : ℕ) → matches w (start inName (drop at t)) ≡ true → named (drop at t) ≡ start inName (drop at t) ∷ named (drop next t)
-    → (nodes : List Node)
-    → (greedy (must w ∷ nodes) (named (drop at t)) ≡ greedy nodes (named (drop next t))) × (greedy (may w ∷ nodes) (named (drop at t)) ≡ greedy nodes (named (drop next t)))
-unfolding greedy if_then_else_
-takes w t at next m e nodes = (rw (e, m), rw (e, m))
+  -- no name is left
+  pub walk-end : at ≤ length keys → length keys ≤ at → Walked (nodeOf node) keys at (leftOut node at)
+  unfolding greedy
+  walk-end l h = left-out l (λ nodes. rw (drop-of-length-le keys h)) (λ nodes. rw (drop-of-length-le keys h))
 
--- a node's word is one of the table, whether or not it may be left out
-module _ (node : ℕ) (k : wordIn node < wordCount) where
-  pub must-known : node < 128 → node < wordCount
-  unfolding wordIn if_then_else_
-  must-known h = rw (lt-ltb node 128 h) at k
+  module _ (h : at < length keys) where
+    pub walk-past : keyMatches (nodeAt (wordIn node)) (getD keys at 0) ≡ false → Walked (nodeOf node) keys at (leftOut node at)
+    unfolding greedy if_then_else_
+    walk-past e = left-out (omega arith) (λ nodes. rw (drop-cons keys at 0 h, e)) (λ nodes. rw (drop-cons keys at 0 h, e))
 
-  pub may-known : 128 ≤ node → node - 128 < wordCount
-  unfolding wordIn if_then_else_
-  may-known h = rw (le-ltb node 128 h) at k
+    pub walk-on : keyMatches (nodeAt (wordIn node)) (getD keys at 0) ≡ true → Walked (nodeOf node) keys at (To (at + 1))
+    unfolding nodeOf greedy if_then_else_
+    walk-on e = (λ nodes. go (ltb node 128) nodes, omega arith)
+      where
+        go : (b : Bool) (nodes : List Node)
+            → greedy ((if b then must (nodeAt (wordIn node)) else may (nodeAt (wordIn node))) ∷ nodes) (drop at keys)
+            ≡ greedy nodes (drop (at + 1) keys)
+        go true nodes = rw (drop-cons keys at 0 h, e, add-one at)
+        go false nodes = rw (drop-cons keys at 0 h, e, add-one at)
 
-module _ (node : ℕ) (t : Text) (at : ℕ) where
-  -- a node that must stand there
-  pub node-must : node < 128 → (r : Walk) → WordTaken node t at r → Walked (nodeOf node) t at r
-  unfolding nodeOf if_then_else_
-  node-must h (To next) m = rw (lt-ltb node 128 h) ((λ nodes. takes (wordAt node) t at next (m .0) (m .1) nodes .0), m .2)
-  node-must h Missed m = rw (lt-ltb node 128 h) (λ nodes. misses (wordAt node) (drop at t) m nodes .0)
+-- the numbers are the first of an array
+module _ (node : ℕ) (names : List ℕ) (count at : ℕ) (few : count ≤ length names) where
+  held : length (take count names) ≡ count
+  held = let l = length-take count names in omega arith
 
-  -- a node that may be left out
-  module _ (h : 128 ≤ node) where
-    pub node-taken : (next : ℕ) → WordTaken (node - 128) t at (To next) → Walked (nodeOf node) t at (To next)
-    unfolding nodeOf if_then_else_
-    node-taken next m = rw (le-ltb node 128 h) ((λ nodes. takes (wordAt (node - 128)) t at next (m .0) (m .1) nodes .1), m .2)
+  pub node-end : at ≤ count → count ≤ at → Walked (nodeOf node) (take count names) at (leftOut node at)
+  node-end a h = let l = held in walk-end node (take count names) at (omega arith) (omega arith)
 
-    pub node-left : at ≤ length t → WordTaken (node - 128) t at Missed → Walked (nodeOf node) t at (To at)
-    unfolding nodeOf if_then_else_
-    node-left l m = rw (le-ltb node 128 h) ((λ nodes. misses (wordAt (node - 128)) (drop at t) m nodes .1), l)
+  module _ (h : at < count) {b : Bool} (e : b ≡ keyMatches (nodeAt (wordIn node)) (getD names at 0)) where
+    spelled : keyMatches (nodeAt (wordIn node)) (getD (take count names) at 0) ≡ b
+    spelled = ap (keyMatches (nodeAt (wordIn node))) (getD-take count names at 0 h) ∙ sym e
 
--- what is found, as the code knows it
-pub found : (word : ℕ) (t : Text) (at : ℕ) {r s : Walk} → r ≡ s → WordTaken word t at r → WordTaken word t at s
-found word t at q m = subst (λ (x : Walk). WordTaken word t at x) q m
+    pub node-past : b ≡ false → Walked (nodeOf node) (take count names) at (leftOut node at)
+    node-past q = let l = held in walk-past node (take count names) at (omega arith) (spelled ∙ q)
+
+    pub node-on : b ≡ true → Walked (nodeOf node) (take count names) at (To (at + 1))
+    node-on q = let l = held in walk-on node (take count names) at (omega arith) (spelled ∙ q)

@@ -10,12 +10,11 @@ use lib.ListN.{length, getD, take, drop, length-append, length-take, length-repl
 use borrow.Author.Tests.{eqb-true, ltb-true}
 use Rattle.registers.specs.Text.{Text, if_then_else_, bytes, small, capital, same, every}
 use Rattle.registers.specs.Words.{shortForm, longForm}
-use Rattle.interpreter.specs.RowsParts.{wordBytes, wordCount, wordList, wordAt, wordRow, wordTableOf, wordTable, inName, wordCell}
-use Rattle.interpreter.proofs.Lists.{every-at, cell-at, table-length}
-use Rattle.interpreter.proofs.rows.Greedy.{same-eq}
+use Rattle.interpreter.specs.RowsParts.{wordBytes, wordCount, wordList, wordAt, wordRow, wordTableOf, wordTable, wordCell}
+use Rattle.interpreter.proofs.Lists.{same-eq, every-at, cell-at, table-length}
 
--- the tests over all words: each has a row of sixteen bytes, its long form starts with its short one, that is not
--- empty, and no letter is a colon
+-- the tests over all words: each has a row of sixteen bytes, and its long form starts with its short one, that is not
+-- empty
 abbrev wide : String → Bool
 wide w = eqb (length (wordRow w)) 16
 
@@ -24,9 +23,6 @@ starts w = same (shortForm w) (take (length (shortForm w)) (longForm w))
 
 abbrev some : String → Bool
 some w = ltb 0 (length (shortForm w))
-
-abbrev plain : String → Bool
-plain w = every inName (longForm w)
 
 rows-wide : every wide wordList ≡ true
 unfolding wordList wordRow shortForm longForm bytes small capital if_then_else_
@@ -39,10 +35,6 @@ short-starts = refl
 short-not-empty : every some wordList ≡ true
 unfolding wordList shortForm bytes small if_then_else_
 short-not-empty = refl
-
-letters-plain : every plain wordList ≡ true
-unfolding wordList longForm bytes small capital if_then_else_
-letters-plain = refl
 
 words-many : length wordList ≡ wordCount
 unfolding wordList
@@ -101,10 +93,6 @@ module _ (w : ℕ) (h : w < wordCount) where
   short-some : 0 < length short
   unfolding wordAt
   short-some = ltb-true 0 (length short) (every-at some wordList w "" short-not-empty within)
-
-  pub long-plain : every inName long ≡ true
-  unfolding wordAt
-  long-plain = every-at plain wordList w "" letters-plain within
 
   pub short-small : length short ≤ length long
   short-small = let e = ap length short-is ∙ length-take (length short) long in omega arith

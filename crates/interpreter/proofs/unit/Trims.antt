@@ -6,7 +6,7 @@ use Prim.Native.Nat.{ℕ, suc, _-_, _≤_, _<_}
 use native.Mathlib.Omega.{arith}
 use lib.ListN.{length, getD, take}
 use lib.Seq.{take-suc}
-use Rattle.registers.specs.Text.{Text, if_then_else_, white, empty, start, after}
+use Rattle.registers.specs.Text.{Text, if_then_else_, white, empty, after}
 use Rattle.registers.proofs.Tests.{and-fails}
 use Rattle.interpreter.specs.Cuts.{trimEnd, trim}
 
@@ -63,15 +63,3 @@ start-dark (b ∷ bs) = go (white b) refl (start-dark bs)
 pub trim-twice : (t : Text) → trim (trim t) ≡ trim t
 unfolding trim
 trim-twice t = ap trimEnd (start-dark t) ∙ trimEnd-twice (after white t)
-
--- ---- a text's longest start, as a part of it
-
-pub take-start : (p : ℕ → Bool) (t : Text) → take (length (start p t)) t ≡ start p t
-unfolding if_then_else_
-take-start p [] = refl
-take-start p (b ∷ bs) = go (p b) (take-start p bs)
-  where
-    go : (w : Bool) → take (length (start p bs)) bs ≡ start p bs
-        → take (length (if w then b ∷ start p bs else [])) (b ∷ bs) ≡ (if w then b ∷ start p bs else [])
-    go true ih = ap (λ (l : Text). b ∷ l) ih
-    go false ih = refl

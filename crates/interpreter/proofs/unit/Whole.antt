@@ -2,18 +2,19 @@
 use mathlib.Core.Path.{_≡_, refl, ap, sym, _∙_}
 use mathlib.Core.Bool.{Bool, true, false, not}
 use mathlib.Core.List.{List}
-use Prim.Native.Nat.{ℕ, _+_, _-_, _≤_}
+use Prim.Native.Nat.{ℕ, _+_, _-_, _≤_, _<_}
 use native.Mathlib.Omega.{arith}
-use lib.Dec.{leb}
-use lib.ListN.{length, take, drop, length-take, length-drop}
-use Rattle.registers.specs.Text.{Text, white, dark, every, empty, start, after}
+use lib.Dec.{leb, ltb}
+use lib.ListN.{length, take, drop}
+use borrow.Author.Tests.{ltb-true}
+use Rattle.registers.specs.Text.{Text, if_then_else_, white, dark, every, empty, start, after}
 use Rattle.registers.specs.Check.{Checked, refused, passed, check, _>>=_, _>>_}
 use Rattle.registers.specs.declared.settings.Settings.{Settings}
 use Rattle.registers.proofs.text.Laws.{end-drop, end-within}
 use Rattle.interpreter.specs.Cuts.{trim}
-use Rattle.interpreter.specs.Header.{Header, header, isCommon, fullNames}
-use Rattle.interpreter.specs.HeaderParts.{closed, FoundRow, LookedUp}
-use Rattle.interpreter.specs.RowsParts.{rowCount, named}
+use Rattle.interpreter.specs.Header.{Header, header, isCommon, fullNames, pathAfter}
+use Rattle.interpreter.specs.HeaderParts.{Holds, FoundRow, LookedUp}
+use Rattle.interpreter.specs.RowsParts.{rowCount}
 use Rattle.interpreter.specs.Parameter.{parameters, least, greatest, deedOf}
 use Rattle.interpreter.specs.Unit.{Read, headerText, parameterText, readUnit}
 use Rattle.interpreter.specs.ParameterParts.{meantDeed}
@@ -24,29 +25,38 @@ use Rattle.interpreter.specs.declared.header.Looked.{Looked}
 use Rattle.interpreter.specs.declared.header.Looked.the-variants.{Bad, At}
 use Rattle.interpreter.specs.declared.parameter.Decision.{Decision}
 use Rattle.interpreter.specs.declared.parameter.Decision.the-variants.{Refused as noDeed, Obey as someDeed}
+use Rattle.interpreter.proofs.Lists.{rest-is}
 use Rattle.interpreter.proofs.header.Laws.{found-most}
 use Rattle.interpreter.proofs.unit.Bytes.{allowed}
 use Rattle.interpreter.proofs.unit.Found.{role-found}
-use Rattle.interpreter.proofs.unit.Trims.{take-start}
 
--- ---- the header runs from s to e, and the parameters' text stands behind it
+-- ---- the header starts at s, and the parameters' text stands behind it
 
-pub record Runs (u : Text) (s e : ℕ) : Type 0 where
-  pub within : e ≤ length u
-  pub short : length (take (e - s) (drop s u)) ≤ length u
-  pub is : take (e - s) (drop s u) ≡ headerText u
-  pub behind : trim (drop e u) ≡ parameterText u
+abbrev behind : Text → ℕ → Text
+behind u s = take (length u - s) (drop s u)
 
-pub runs : (u : Text) (s e : ℕ) → s ≡ 0 + length (start white (drop 0 u)) → e ≡ s + length (start dark (drop s u)) → Runs u s e
-runs u s e at to =
-    let n : e - s ≡ length (start dark (drop s u)) = omega arith in
-    let left = end-drop white u 0 s at in
-    record {
-      within = end-within dark u s e to (end-within white u 0 s at (omega arith));
-      short = omega (arith, length-take (e - s) (drop s u), length-drop s u);
-      is = rw n (take-start dark (drop s u) ∙ ap (start dark) left);
-      behind = ap trim (end-drop dark u s e to ∙ ap (after dark) left);
-    }
+pub record Runs (u : Text) (s : ℕ) : Type 0 where
+  pub within : s ≤ length u
+  pub is : behind u s ≡ after white u
+
+pub runs : (u : Text) (s : ℕ) → s ≡ 0 + length (start white (drop 0 u)) → Runs u s
+runs u s at =
+    let w = end-within white u 0 s at (omega arith) in
+    record { within = w; is = rest-is u s w ∙ end-drop white u 0 s at }
+
+-- it ends so far behind s
+module _ {u : Text} {s : ℕ} (r : Runs u s) (e : ℕ) (is : e ≡ length (start dark (behind u s))) where
+  from : drop s u ≡ after white u
+  from = sym (rest-is u s (r .within)) ∙ r .is
+
+  to : s + e ≡ s + length (start dark (drop s u))
+  to = let k = is ∙ ap (λ (t : Text). length (start dark t)) (rest-is u s (r .within)) in omega arith
+
+  ends-within : s + e ≤ length u
+  ends-within = end-within dark u s (s + e) to (r .within)
+
+  ends-behind : trim (drop (s + e) u) ≡ parameterText u
+  ends-behind = ap trim (end-drop dark u s (s + e) to ∙ ap (after dark) from)
 
 -- ---- the checks in order
 
@@ -84,6 +94,15 @@ decided-then s row asked t k =
     let ps = parameters t in
     joined (full s asked ps) (roleFound row) (few s asked ps) (enough s asked ps) (λ r. deedOf s r asked ps) k
 
+-- what the checks behind the header leave of a unit
+pub record Headed (s : Settings) (path : List Text) (u : Text) (st row used : ℕ) (asked : Bool) (end : ℕ) (keys : List ℕ) : Type 0 where
+  pub within : row ≤ rowCount
+  pub left : List Text
+  pub is : readUnit s path u ≡ (decided s row asked (parameterText u) >>= λ d. passed (record { deed = d; path = left }))
+  pub holds : row < rowCount → Holds left keys used
+  pub ends : st + end ≤ length u
+  pub behind : trim (drop (st + end) u) ≡ parameterText u
+
 module _ (s : Settings) (path : List Text) (u : Text) where
   pub bad-byte : every allowed u ≡ false → readUnit s path u ≡ refused 101
   unfolding readUnit check _>>_
@@ -91,47 +110,53 @@ module _ (s : Settings) (path : List Text) (u : Text) where
 
   -- what is left once the header's row is found
   good-header : every allowed u ≡ true → (h : Header) → header (headerText u) ≡ passed h
-      → {room row used : ℕ} {asked : Bool} {buffer : Text} → FoundRow path room h row used asked buffer
+      → {t : Text} {row used end : ℕ} {asked : Bool} {keys : List ℕ} → FoundRow path t h row used asked end keys
       → readUnit s path u
-      ≡ (decided s row asked (parameterText u) >>= λ d. passed (record { deed = d; path = named (take used buffer) }))
+      ≡ (decided s row asked (parameterText u) >>= λ d. passed (record { deed = d; path = pathAfter (h .place) path (h .names) }))
   unfolding readUnit check _>>_ _>>=_
-  good-header ok h is {room} {row} {used} {asked} {buffer} f =
+  good-header ok h is {row = row} {asked = asked} f =
       let t = parameterText u in
-      let k : Deed → Checked Read = λ d. passed (record { deed = d; path = named (take used buffer) }) in
+      let k : Deed → Checked Read = λ d. passed (record { deed = d; path = pathAfter (h .place) path (h .names) }) in
       let role = role-found (isCommon (h .place)) (fullNames (h .place) path (h .names)) (h .query) in
-      let e : readUnit s path u ≡ behindWith s asked (parameters t) (roleFound row) k = rw (ok, is, f .query, f .at, f .left, role) in
+      let e : readUnit s path u ≡ behindWith s asked (parameters t) (roleFound row) k = rw (ok, is, f .query, f .at, role) in
       e ∙ sym (decided-then s row asked t k)
 
-pub bad-header : (s : Settings) (path u buffer : Text) → every allowed u ≡ true → (t : Text) → t ≡ headerText u
-    → {r : Looked} → LookedUp path t r buffer → r ≡ Bad → readUnit s (named path) u ≡ refused 102
-unfolding readUnit check _>>_ _>>=_
-bad-header s path u buffer ok t e k q = rw (ok, ap header (sym e) ∙ rw q at k)
+  module _ (ok : every allowed u ≡ true) {st : ℕ} (at : Runs u st) (r : Looked) (keys : List ℕ) (k : LookedUp path (behind u st) r keys) where
+    pub bad-header : r ≡ Bad → readUnit s path u ≡ refused 102
+    unfolding readUnit check _>>_ _>>=_
+    bad-header q = rw (ok, ap (λ (t : Text). header (start dark t)) (sym (at .is)) ∙ rw q at k)
 
--- what the checks behind the header leave of a unit
-pub record Headed (s : Settings) (path u : Text) (row used : ℕ) (asked : Bool) (buffer : Text) : Type 0 where
-  pub within : row ≤ rowCount
-  pub is : readUnit s (named path) u
-      ≡ (decided s row asked (parameterText u) >>= λ d. passed (record { deed = d; path = named (take used buffer) }))
-  pub shut : closed (take used buffer) ≡ true
-  pub short : used ≤ length path + length u
+    pub headed : {row used end : ℕ} {asked : Bool} → r ≡ At row used asked end → Headed s path u st row used asked end keys
+    headed q =
+        let g = rw q at k in
+        let h = g .0 in
+        let f = g .2 in
+        record {
+          within = rw (f .at) (found-most (isCommon (h .place)) (fullNames (h .place) path (h .names)) (h .query));
+          left = pathAfter (h .place) path (h .names);
+          is = good-header ok h (ap (λ (t : Text). header (start dark t)) (sym (at .is)) ∙ g .1) f;
+          holds = f .left;
+          ends = ends-within at _ (f .ends);
+          behind = ends-behind at _ (f .ends);
+        }
 
-module _ (s : Settings) (path u : Text) {row used : ℕ} {asked : Bool} {buffer : Text} where
-  pub headed : every allowed u ≡ true → (t : Text) → t ≡ headerText u → length t ≤ length u
-      → {r : Looked} → LookedUp path t r buffer → r ≡ At row used asked → Headed s path u row used asked buffer
-  headed ok t e l k q =
-      let g = rw q at k in
-      let h = g .0 in
-      let f = g .2 in
-      let w = f .short in
-      record {
-        within = rw (f .at) (found-most (isCommon (h .place)) (fullNames (h .place) (named path) (h .names)) (h .query));
-        is = good-header s (named path) u ok h (ap header (sym e) ∙ g .1) f;
-        shut = f .shut;
-        short = omega arith;
-      }
+-- only a header that has a row has a deed
+none-passes : {A B : Type 0} (x : Checked (Unit {0})) (n : ℕ) (k : A → Checked B) (d : B) → (x >> refused n >>= k) ≡ passed d → ⊥
+unfolding _>>_ _>>=_
+none-passes (refused m) n k d e = let z : _≡_ {A = ℕ} 0 1 = cc in omega arith
+none-passes (passed _) n k d e = let z : _≡_ {A = ℕ} 0 1 = cc in omega arith
 
-  pub read-to : Headed s path u row used asked buffer → (d : Decision) → meantDeed d ≡ decided s row asked (parameterText u)
-      → UnitRead s path u d used buffer
+found-deed : (s : Settings) (row : ℕ) (asked : Bool) (t : Text) (d : Deed) → decided s row asked t ≡ passed d → row < rowCount
+unfolding decided roleFound if_then_else_
+found-deed s row asked t d e = go (ltb row rowCount) refl
+  where
+    go : (b : Bool) → ltb row rowCount ≡ b → row < rowCount
+    go true q = ltb-true row rowCount q
+    go false q = absurd (none-passes (full s asked (parameters t)) 113 _ d (rw q at e))
+
+module _ (s : Settings) (path : List Text) (u : Text) {st row used end : ℕ} {asked : Bool} {keys : List ℕ} where
+  pub read-to : Headed s path u st row used asked end keys → (d : Decision) → meantDeed d ≡ decided s row asked (parameterText u)
+      → UnitRead s path u d used keys
   unfolding _>>=_
   read-to h (noDeed e) is = h .is ∙ rw (sym is)
-  read-to h (someDeed d) is = (h .is ∙ rw (sym is), h .shut, h .short)
+  read-to h (someDeed d) is = (h .left, h .is ∙ rw (sym is), h .holds (found-deed s row asked (parameterText u) d (sym is)))

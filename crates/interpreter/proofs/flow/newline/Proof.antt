@@ -2,7 +2,7 @@ use mathlib.Core.Path.{_≡_, refl}
 use Prim.Native.Nat.{_<_, zero-le}
 use native.Mathlib.Nat.{sub-zero}
 use native.Mathlib.Omega.{arith}
-use lib.ListN.{length, take, length-take}
+use lib.ListN.{length, take}
 use borrow.Author.Needs.{needs}
 use Rattle.registers.specs.Text.{if_then_else_}
 use Rattle.interpreter.specs.Line.{byte, piece, newlines}
@@ -25,9 +25,8 @@ part-run-line-end c = omega arith
 run-line-requires : tie.Need-run-line-requires
 run-line-requires c κs =
     let p = c .before .before .before .before .before .pre in
-    let held = p .1 .filled in
     let g = c .run-line-arg2 .given in
-    (p .0, (rw (sub-zero, length-take) (omega arith), search needs, c .before .before .discard .ensures .queued (p .1 .queued)))
+    (p .0, (search needs, c .before .before .discard .ensures .queued (p .1 .queued)))
 
 add-t12 : tie.Need-add-t12
 add-t12 c = omega arith

@@ -1,189 +1,97 @@
-use mathlib.Core.Path.{_≡_, refl, sym, ap, subst}
-use mathlib.Core.Bool.{true}
-use mathlib.Core.List.{_++_}
-use mathlib.Core.Logic.{⊎-elim}
-use Prim.Native.Nat.{ℕ, _+_, _-_, _≤_, zero-le}
-use native.Mathlib.Nat.{le-refl}
-use native.Mathlib.Omega.{arith}
-use lib.Dec.{ltb}
-use lib.ListN.{length, take, drop, length-take}
-use borrow.Rule.Slice.PartMut.{putMid}
+use mathlib.Core.Path.{_≡_, refl, sym, _∙_}
+use mathlib.Core.Bool.{not, _||_}
+use lib.Dec.{eqb}
+use lib.ListN.{length, take}
 use borrow.Author.Tests.{not-true, not-false}
-use Rattle.registers.specs.Text.{Text}
-use Rattle.interpreter.specs.HeaderParts.{closed}
-use Rattle.interpreter.proofs.header.Laws.{closed-nil}
-use Rattle.interpreter.proofs.header.Paths.{room-behind, copied, entered}
-use Rattle.interpreter.proofs.header.Whole.{Read, read-body, look-bad, names-fit, joined-well, look-star, look-root, look-here}
+use mir.Val.{boolByte}
+use Rattle.interpreter.specs.HeaderParts.{mostNames, orZero, NamesRead}
+use Rattle.interpreter.proofs.header.Path.{or-zero-small}
+use Rattle.interpreter.proofs.header.Whole.{led, look-bad, first-fits, look-found}
+use native.Mathlib.Omega.{arith}
+use borrow.Author.Needs.{needs}
 use Rattle.interpreter.proofs.header.look_up.Statement.{statement}
 use Rattle.interpreter.proofs.header.look_up.Tie as tie
 
--- what is known of the header once its body is read
-read : (c : tie.After-read-body)
-    → let t = c .before .before .before .before .before .before .args .header .now in
-    let e = c .before .before .body-end .result in
-    Read t (take (e - 0) t) (ltb e (length t)) (c .read-body .result)
-read c =
-    let t = c .before .before .before .before .before .before .args .header .now in
-    let e = c .before .before .body-end in
-    read-body t (e .result) (c .read-body .result) (e .ensures) (c .read-body .ensures)
+-- the names that were read, entered behind the path or at the root
+entered : (c : tie.After-read-names)
+    → let s = c .before .before .before .before .before .before .before .args in
+    let y = c .before .before .before .byte-at .result in
+    NamesRead (not (eqb y 42)) (s .text .now) (boolByte (eqb y 42 || eqb y 58)) (take (orZero (not (eqb y 58)) (s .used)) (s .path .now)) (c .read-names .result)
+    (c .read-names .last .1 .1 .1 .1 .0)
+entered c = rw (c .before .before .or-zero .ensures) at (c .read-names .ensures)
 
-body-end-requires : tie.Need-body-end-requires
-body-end-requires c κs = tt
+kept : (c : tie.After-read-names) → length (c .read-names .last .1 .1 .1 .1 .0) ≡ mostNames
+kept c = c .read-names .kept .1 .1 .1 .1 .0 ∙ c .before .before .before .before .before .before .before .pre .2
 
-sub-body : tie.Need-sub-body
-sub-body c = zero-le
+byte-at-requires : tie.Need-byte-at-requires
+byte-at-requires c κs = search needs
 
-part-body-start : tie.Need-part-body-start
-part-body-start c = zero-le
+or-zero-requires : tie.Need-or-zero-requires
+or-zero-requires c κs = search needs
 
-part-body-end : tie.Need-part-body-end
-part-body-end c = omega arith
+cast-read-names : tie.Need-cast-read-names
+cast-read-names c = search needs
 
-read-body-requires : tie.Need-read-body-requires
-read-body-requires c κs = tt
+read-names-requires : tie.Need-read-names-requires
+read-names-requires c κs =
+    let s = c .before .before .before .before .before .before in
+    let small = or-zero-small (not (eqb (c .before .before .byte-at .result) 58)) (s .args .used) in
+    let e = c .before .or-zero .ensures in
+    let p = s .pre in
+    (p .0, omega arith, p .2)
+
+same-length : tie.Need-same-length
+same-length c = search needs
 
 returns : tie.Need-returns
-returns c = look-bad (read (c .before .before)) (not-true _ (c .if1 .taken))
+returns c =
+    let s = c .before .before .before .before .before .before .before .before .before .before .before in
+    let y = c .before .before .before .before .before .before .before .byte-at in
+    let m = c .before .before .before .before .read-names .ensures in
+    λ names h. look-bad (s .args .text .now) (eqb (y .result) 42) (eqb (y .result) 58) (led (s .args .text .now) (y .result) (y .ensures) (eqb (y .result) 42) (eqb (y .result) 58) refl refl)
+    (sym (m .good) ∙ not-true _ (c .if1 .taken))
 
-sub-names : tie.Need-sub-names
-sub-names c = read (c .before .before) .heading .within
-
-part-names-start : tie.Need-part-names-start
-part-names-start c = sub-names c
-
-part-names-end : tie.Need-part-names-end
-part-names-end c = le-refl _
+or-zero-requires-2 : tie.Need-or-zero-requires-2
+or-zero-requires-2 c κs = search needs
 
 find-requires : tie.Need-find-requires
-find-requires c κs = c .before .before .before .before .before .before .before .before .before .before .pre .0
+find-requires c κs =
+    let s = c .before .before .before .before .before .before .before .before .before .before .before .before .before in
+    let y = c .before .before .before .before .before .before .before .before .before .byte-at in
+    let r = c .before .before .before .before .before .before .read-names in
+    let m = entered (c .before .before .before .before .before .before) in
+    let good = not-false _ (c .before .before .if1 .left) in
+    let g = m .found good in
+    let few = g .few in
+    let k = kept (c .before .before .before .before .before .before) in
+    (s .pre .0, rw (c .before .or-zero2 .ensures) (first-fits (s .args .text .now) (s .args .path .now) (s .args .used) (s .pre .1) (s .pre .2) (r .last .1 .1 .1 .1 .0) k (r .result) (y .result) (y .ensures) m good), omega arith)
+
+sub-t18 : tie.Need-sub-t18
+sub-t18 c = let g = c .before .before .before .before .before .before .before .before .read-names .ensures .found (not-false _ (c .before .before .before .before .if1 .left)) in let some = g .some in omega arith
+
+same-length-2 : tie.Need-same-length-2
+same-length-2 c = search needs
 
 returns-2 : tie.Need-returns-2
 returns-2 c =
-    let r = c .before .before .before .before .before in
-    let o = r .before .before .before .before .before .before in
-    let xs = o .args .path .now in
-    let used = o .args .used in
-    let l = length-take used xs in
-    look-star (read r) (not-false _ (c .before .before .before .if1 .left)) (take used xs) xs (c .before .if2 .taken) (c .find .result) used
-    (c .find .ensures) refl (o .pre .1 .1) (omega arith)
-
--- the path that the header is entered behind: none at the root
-abbrev read-at : tie.Joined3 → tie.After-read-body
-read-at c = c .before .before .before .before .before
-
-abbrev entry : tie.Joined3 → tie.Start
-entry c = read-at c .before .before .before .before .before .before
-
-abbrev behind : tie.Joined3 → Text
-behind c = take (c .if3 .from) (entry c .args .path .now)
-
-abbrev names-at : tie.Joined3 → Text
-names-at c =
-    let t = entry c .args .header .now in
-    let b = take (read-at c .before .before .body-end .result - 0) t in
-    let s = read-at c .read-body .result .start in
-    take (length b - s) (drop s b)
-
-fits : (c : tie.Joined3) → c .if3 .from + length (names-at c) ≤ length (entry c .args .path .now)
-fits c =
-    let l = names-fit (read (read-at c)) in
-    let p = entry c .pre .1 .0 in
-    ⊎-elim (λ k. let e = k .1 in omega arith) (λ k. let e = k .1 in omega arith) (c .if3 .came)
-
-shut : (c : tie.Joined3) → closed (behind c) ≡ true
-shut c =
-    let at : (n : ℕ) → Type 0 = λ n. closed (take n (entry c .args .path .now)) ≡ true in
-    ⊎-elim (λ k. subst at (sym (k .1)) closed-nil) (λ k. subst at (sym (k .1)) (entry c .pre .1 .1)) (c .if3 .came)
-
-sub-copy : tie.Need-sub-copy
-sub-copy c = let f = fits (c .before) in omega arith
-
-part-copy-start : tie.Need-part-copy-start
-part-copy-start c = sub-copy c
-
-part-copy-end : tie.Need-part-copy-end
-part-copy-end c = le-refl _
-
-copy-requires : tie.Need-copy-requires
-copy-requires c κs = let j = c .before .before in room-behind (entry j .args .path .now) (names-at j) (j .if3 .from) (fits j)
-
-add-all : tie.Need-add-all
-add-all c =
-    let j = c .before .before .before .before .before in
-    let f = fits j in
-    let n = c .before .before .copy .ensures .0 in
-    let small = entry j .good .1 .0 in
-    omega arith
-
-sub-entered : tie.Need-sub-entered
-sub-entered c = zero-le
-
-part-entered-start : tie.Need-part-entered-start
-part-entered-start c = zero-le
-
-part-entered-end : tie.Need-part-entered-end
-part-entered-end c = let f = fits (c .before .before .before .before .before .before) in omega (arith, c .before .before .before .copy .ensures .0)
-
-find-requires-2 : tie.Need-find-requires-2
-find-requires-2 c κs = c .before .before .before .before .before .before .before .before .before .before .before .before .before .before .before .before .before .before .pre .0
-
-path-end-requires : tie.Need-path-end-requires
-path-end-requires c κs = tt
-
-same-length : tie.Need-same-length
-same-length c = omega arith
-
-returns-3 : tie.Need-returns-3
-returns-3 c =
-    let j = c .before .before .before .before .before .before .before .before .before in
-    let r = read (read-at j) in
-    let a = entry j .args in
-    let xs = a .path .now in
-    let from = j .if3 .from in
-    let names = names-at j in
-    let k = length xs - from in
-    let copy = c .before .before .before .before .before .before .copy in
-    let ys = copy .last .1 .0 in
-    let n = from + copy .result in
-    let find = c .before .find2 in
-    let end = c .path-end in
-    let good = not-false (read-at j .read-body .result .good) (c .before .before .before .before .before .before .before .before .before .before .before .before .if1 .left) in
-    let joined = c .before .before .before .before .before .before .before .before .before .before .if2 .left in
-    let f = fits j in
-    let z : n - 0 ≡ from + length names = (let q = copy .ensures .0 in omega arith) in
-    let is : take (n - 0) (putMid from k xs ys) ≡ behind j ++ names =
-    rw z (copied xs names ys _ from k (omega arith) (copy .ensures .1)) in
-    let m = entered (putMid from k xs ys) (behind j) names (n - 0) (find .result) (end .result) _
-    is (shut j) (joined-well r good joined) (find .ensures) (end .ensures .0) (end .ensures .1) in
-    ⊎-elim
-    (λ w. look-root r good (take (a .used) xs) _ joined _ _ _ (w .0 .taken) (ap (λ (n : ℕ). take n xs) (w .1)) m)
-    (λ w. look-here r good (take (a .used) xs) _ joined _ _ _ (w .0 .left) (ap (λ (n : ℕ). take n xs) (w .1)) m)
-    (c .before .before .before .before .before .before .before .before .before .if3 .came)
+    let s = c .before .before .before .before .before .before .before .before .before .before .before .before .before .before .before in
+    let y = c .before .before .before .before .before .before .before .before .before .before .before .byte-at in
+    let r = c .before .before .before .before .before .before .before .before .read-names in
+    λ names h. look-found (s .args .text .now) names (s .args .path .now) (s .args .used) h (s .pre .2) (r .last .1 .1 .1 .1 .0) (kept (c .before .before .before .before .before .before .before .before)) (r .result) (c .before .find .result)
+    (y .result) (y .ensures) (entered (c .before .before .before .before .before .before .before .before)) (not-false _ (c .before .before .before .before .if1 .left)) (rw (c .before .before .before .or-zero2 .ensures) at (c .before .find .ensures))
 
 pub look-up-spec : {M : Type 1} → statement M
 look-up-spec =
     tie.close
     (tie.spec
-    body-end-requires
-    sub-body
-    part-body-start
-    part-body-end
-    read-body-requires
-    returns
-    sub-names
-    part-names-start
-    part-names-end
-    find-requires
-    returns-2
-    sub-copy
-    part-copy-start
-    part-copy-end
-    copy-requires
-    add-all
-    sub-entered
-    part-entered-start
-    part-entered-end
-    find-requires-2
-    path-end-requires
+    byte-at-requires
+    or-zero-requires
+    cast-read-names
+    read-names-requires
     same-length
-    returns-3)
+    returns
+    or-zero-requires-2
+    find-requires
+    sub-t18
+    same-length-2
+    returns-2)

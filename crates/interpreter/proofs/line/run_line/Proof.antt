@@ -17,7 +17,7 @@ returns c =
     let long : length (a .present .status .errors) ≡ 16 = search needs in
     let raised = c .raise .ensures in
     record {
-      queued = rw raised (raised-short _ (a .present) long (c .before .before .before .before .before .pre .1 .2));
+      queued = rw raised (raised-short _ (a .present) long (c .before .before .before .before .before .pre .1 .1));
       room = omega arith;
       box = rw raised (line-overlong (a .present) (a .line .now) (a .overlong) long (c .before .if1 .taken));
     }
@@ -29,7 +29,7 @@ returns-2 : tie.Need-returns-2
 returns-2 c =
     let a = c .before .before .before .before .before .before .args in
     record {
-      queued = c .before .before .before .before .before .before .pre .1 .2;
+      queued = c .before .before .before .before .before .before .pre .1 .1;
       room = omega arith;
       box = line-blank (a .present) (a .line .now) (a .overlong) (c .before .before .if1 .left) (blank (a .line .now) (c .before .white-end .result) (c .before .white-end .ensures) (c .if2 .taken));
     }
@@ -69,7 +69,7 @@ returns-4 c =
     let w = r .ensures in
     let room = w .room in
     let k = r .kept in
-    let was = c .before .before .before .before .before .before .before .before .before .before .before .pre .1 .1 in
+    let was = c .before .before .before .before .before .before .before .before .before .before .before .pre .1 .0 in
     let dark = not-blank (a .line .now) (c .before .before .before .before .before .before .white-end .result) (c .before .before .before .before .before .before .white-end .ensures) (c .before .before .before .before .before .if2 .left) in
     record {
       queued = w .queued;

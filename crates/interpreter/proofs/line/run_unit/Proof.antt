@@ -1,4 +1,3 @@
-use lib.ListN.{take}
 use Rattle.interpreter.proofs.perform.Permitted.{lets, barred, let-through}
 use Rattle.interpreter.proofs.line.Laws.{unit-allowed, unit-refused, unit-barred, unit-obeyed}
 use borrow.Author.Needs.{needs}
@@ -26,8 +25,8 @@ returns c =
     let a = s .args in
     let p = s .pre in
     let read = c .before .before .before .before .read in
-    unit-refused (a .done) (take (a .done .used) (a .path .now)) (a .unit .now) (read .last .1 .1 .0) (read .result .decision) (read .result .used) (read .ensures)
-    (a .out .now) _ (c .before .before .decision .given .1) (c .refuse .result) (c .refuse .ensures) (p .1 .1 .2) (p .1 .1 .0)
+    λ names h. unit-refused (a .done) names (a .unit .now) (read .last .1 .1 .0) (read .result .decision) (read .result .used) (read .ensures names h)
+    (a .out .now) _ (c .before .before .decision .given .1) (c .refuse .result) (c .refuse .ensures) (p .1 .2) (p .1 .0)
 
 enum-known-decision-2 : tie.Need-enum-known-decision-2
 enum-known-decision-2 c = search needs
@@ -46,8 +45,8 @@ returns-2 c =
     let l = c .before .before in
     let read = l .before .before .before .before .read in
     let bar = barred _ _ (l .is-permitted .result) (l .is-permitted .ensures) (c .before .if1 .taken) in
-    unit-barred (a .done) (take (a .done .used) (a .path .now)) (a .unit .now) (read .last .1 .1 .0) (read .result .decision) (read .result .used) (read .ensures)
-    (a .out .now) _ (l .before .before .decision2 .given .1) bar (c .refuse2 .result) (c .refuse2 .ensures) (p .1 .1 .2) (p .1 .1 .0)
+    λ names h. unit-barred (a .done) names (a .unit .now) (read .last .1 .1 .0) (read .result .decision) (read .result .used) (read .ensures names h)
+    (a .out .now) _ (l .before .before .decision2 .given .1) bar (c .refuse2 .result) (c .refuse2 .ensures) (p .1 .2) (p .1 .0)
 
 perform-requires : tie.Need-perform-requires
 perform-requires c κs =
@@ -55,10 +54,11 @@ perform-requires c κs =
     let a = s .args in
     let p = s .pre in
     let read = c .before .before .before .before .before .before .read in
-    let allowed = unit-allowed (a .done) (take (a .done .used) (a .path .now)) (a .unit .now) (read .last .1 .1 .0) (read .result .decision) (read .result .used) (read .ensures) _ (c .before .before .before .before .decision2 .given .1) in
+    let held = p .0 .1 in
+    let allowed = unit-allowed (a .done) (held .0) (a .unit .now) (read .last .1 .1 .0) (read .result .decision) (read .result .used) (read .ensures (held .0) (held .1)) _ (c .before .before .before .before .decision2 .given .1) in
     let l = c .before in
     let free = let-through _ _ (l .before .is-permitted .result) (l .before .is-permitted .ensures) (l .if1 .left) in
-    ((p .0, allowed, lets _ _ free .clear), p .1 .1)
+    ((p .0 .0, allowed, lets _ _ free .clear), p .1)
 
 same-length : tie.Need-same-length
 same-length c = search needs
@@ -71,7 +71,7 @@ returns-3 c =
     let performed = c .before .before .perform in
     let l = c .before .before .before .before in
     let free = let-through _ _ (l .before .is-permitted .result) (l .before .is-permitted .ensures) (l .if1 .left) in
-    unit-obeyed (a .done) (take (a .done .used) (a .path .now)) (a .unit .now) (read .last .1 .1 .0) (read .result .decision) (read .result .used) (read .ensures)
+    λ names h. unit-obeyed (a .done) names (a .unit .now) (read .last .1 .1 .0) (read .result .decision) (read .result .used) (read .ensures names h)
     (a .out .now) _ (c .before .before .before .before .before .before .before .decision2 .given .1) free (performed .result) (performed .last .1 .1 .1 .0) (performed .ensures)
 
 pub run-unit-spec : {M : Type 1} → statement M

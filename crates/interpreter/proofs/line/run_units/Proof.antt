@@ -1,7 +1,7 @@
 use mathlib.Core.List.{[]}
 use Prim.Native.Nat.{_-_}
 use native.Mathlib.Omega.{arith}
-use lib.ListN.{length, drop, length-take, length-drop}
+use lib.ListN.{length}
 use borrow.Author.Tests.{not-true, not-false}
 use Rattle.interpreter.specs.DeedsParts.{boxIn}
 use Rattle.interpreter.proofs.line.Units.{Going, going-start, going-less, going-on, going-end}
@@ -18,7 +18,7 @@ loop-holds : tie.Need-loop-holds Inv-loop μ-loop
 loop-holds c =
     let a = c .before .before .before .args in
     let p = c .before .before .before .pre in
-    going-start (a .present) _ (a .line .now) _ (a .out .now) (p .1 .2) (p .1 .1)
+    going-start (a .present) _ (a .line .now) _ (a .out .now) (p .1 .1) (p .1 .0)
 
 find-requires : tie.Need-find-requires Inv-loop μ-loop
 find-requires c κs =
@@ -38,29 +38,25 @@ run-unit-requires : tie.Need-run-unit-requires Inv-loop μ-loop
 run-unit-requires c κs =
     let p = c .before .before .before .before .before .before .before .before .pre in
     let g = c .before .before .before .before .loop .inv in
-    let fits = p .1 .0 in
-    let behind = g .behind in
-    let ends = c .before .before .before .find .ensures .1 in
-    let l = length-take (c .before .before .before .find .result - c .before .before .before .before .loop .at) (drop (c .before .before .before .before .loop .at) (c .before .before .before .before .before .before .before .before .args .line .now)) in
-    let d = length-drop (c .before .before .before .before .loop .at) (c .before .before .before .before .before .before .before .before .args .line .now) in
-    (p .0, ((omega arith, g .shut), (g .answers, g .long, g .queued)))
+    ((p .0, (g .path, g .holds)), (g .answers, g .long, g .queued))
 
 same-length : tie.Need-same-length Inv-loop μ-loop
 same-length c =
     let k = c .before .before .before .before .before .run-unit .kept in
     let long = c .before .before .before .before .before .before .before .before .before .before .loop .inv .long in
-    let was = c .before .before .before .before .before .before .before .before .before .before .before .before .before .before .pre .1 .1 in
+    let was = c .before .before .before .before .before .before .before .before .before .before .before .before .before .before .pre .1 .0 in
     omega arith
 
 returns : tie.Need-returns Inv-loop μ-loop
 returns c =
     let r = c .before .before .before .before .before .run-unit in
-    let w = r .ensures in
+    let g = c .before .before .before .before .before .before .before .before .before .before .loop .inv in
+    let w = r .ensures (g .path) (g .holds) in
     let f = c .before .before .before .before .before .before .before .before .before .find in
     record {
       queued = w .queued;
       room = w .room;
-      box = going-end _ _ _ _ _ _ (c .before .before .before .before .before .before .before .before .before .before .loop .inv) (f .result) (f .ensures .0) (f .ensures .1) (r .result) _ _ w (not-true _ (c .before .if1 .taken));
+      box = going-end _ _ _ _ _ _ g (f .result) (f .ensures .0) (f .ensures .1) (r .result) _ _ w (not-true _ (c .before .if1 .taken));
     }
 
 add-at : tie.Need-add-at Inv-loop μ-loop
@@ -72,13 +68,15 @@ loop-less : tie.Need-loop-less Inv-loop μ-loop
 loop-less c =
     let r = c .before .before .before .before .run-unit in
     let f = c .before .before .before .before .before .before .before .before .find in
-    going-less _ _ _ _ _ _ (c .before .before .before .before .before .before .before .before .before .loop .inv) (f .result) (f .ensures .0) (f .ensures .1) (r .result) _ _ (r .ensures) (not-false _ (c .if1 .left))
+    let g = c .before .before .before .before .before .before .before .before .before .loop .inv in
+    going-less _ _ _ _ _ _ g (f .result) (f .ensures .0) (f .ensures .1) (r .result) _ _ (r .ensures (g .path) (g .holds)) (not-false _ (c .if1 .left))
 
 loop-again : tie.Need-loop-again Inv-loop μ-loop
 loop-again c =
     let r = c .before .before .before .before .run-unit in
     let f = c .before .before .before .before .before .before .before .before .find in
-    going-on _ _ _ _ _ _ (c .before .before .before .before .before .before .before .before .before .loop .inv) (f .result) (f .ensures .0) (f .ensures .1) (r .result) _ _ (r .ensures) (not-false _ (c .if1 .left))
+    let g = c .before .before .before .before .before .before .before .before .before .loop .inv in
+    going-on _ _ _ _ _ _ g (f .result) (f .ensures .0) (f .ensures .1) (r .result) _ _ (r .ensures (g .path) (g .holds)) (not-false _ (c .if1 .left))
     (let k = r .kept in omega arith)
 
 pub run-units-spec : {M : Type 1} → statement M

@@ -18,7 +18,7 @@ shared-slice-read-result : tie.Need-shared-slice-read-result
 shared-slice-read-result c = let e = ap length (c .before .pre .0) in let l = commands-long in omega arith
 
 returns : tie.Need-returns
-returns c = rw (c .before .pre .0) (row-byte _ _)
+returns c = rw (c .before .pre .0) (row-byte _ _ (c .before .pre .1) (c .before .pre .2))
 
 pub row-cell-spec : {M : Type 1} → statement M
 row-cell-spec = tie.close (tie.spec mul-result add-result add-result-2 shared-slice-read-result returns)

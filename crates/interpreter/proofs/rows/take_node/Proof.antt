@@ -1,45 +1,62 @@
-use native.Mathlib.Omega.{arith}
-use Rattle.interpreter.proofs.rows.Walks.{must-known, may-known, node-must, node-taken, node-left, found}
+use Rattle.interpreter.specs.RowsParts.{wordIn}
+use Rattle.interpreter.proofs.rows.Walks.{node-end, node-on, node-past}
+use borrow.Author.Needs.{needs}
 use Rattle.interpreter.proofs.rows.take_node.Statement.{statement}
 use Rattle.interpreter.proofs.rows.take_node.Tie as tie
 
-take-word-requires : tie.Need-take-word-requires
-take-word-requires c κs = (c .before .before .before .pre .0, must-known (c .before .before .before .args .node) (c .before .before .before .pre .2) (c .if1 .taken))
+leave-out-requires : tie.Need-leave-out-requires
+leave-out-requires c κs = search needs
 
 returns : tie.Need-returns
-returns c = node-must (c .before .before .before .before .args .node) (c .before .before .before .before .args .text .now) (c .before .before .before .before .args .at) (c .before .if1 .taken) (c .take-word .result) (c .take-word .ensures)
+returns c =
+    let s = c .before .before .before .before in
+    let a = s .args in
+    rw (c .leave-out .ensures) (node-end (a .node) (a .names .now) (a .count) (a .at) (s .pre .1) (s .pre .2) (c .before .if1 .taken))
 
-cast-take-word : tie.Need-cast-take-word
-cast-take-word c = omega arith
+mul-spells : tie.Need-mul-spells
+mul-spells c = search needs
 
-take-word-requires-2 : tie.Need-take-word-requires-2
-take-word-requires-2 c κs = (c .before .before .before .pre .0, may-known (c .before .before .before .args .node) (c .before .before .before .pre .2) (c .if1 .left))
+shared-slice-read-spells : tie.Need-shared-slice-read-spells
+shared-slice-read-spells c = search needs
 
-enum-known-walk : tie.Need-enum-known-walk
-enum-known-walk c = c .match .keys1
+cast-spells : tie.Need-cast-spells
+cast-spells c = search needs
 
-enum-told : tie.Need-enum-told
-enum-told c = c .match .keys2
+spells-requires : tie.Need-spells-requires
+unfolding wordIn
+spells-requires c κs = let p = c .before .before .before .before .pre in (p .0, p .3)
+
+add-t13 : tie.Need-add-t13
+add-t13 c = search needs
 
 returns-2 : tie.Need-returns-2
+unfolding wordIn
 returns-2 c =
-    let a = c .before .before .before .before .before .before .before .args in
-    node-taken (a .node) (a .text .now) (a .at) (c .before .before .before .before .if1 .left) _ (found _ (a .text .now) (a .at) (c .before .walk .given .1) (c .before .before .before .take-word2 .ensures))
+    let s = c .before .before .before .before .before .before in
+    let a = s .args in
+    node-on (a .node) (a .names .now) (a .count) (a .at) (s .pre .1) (c .before .before .before .if1 .left) (c .before .spells .ensures) (c .if2 .taken)
+
+leave-out-requires-2 : tie.Need-leave-out-requires-2
+leave-out-requires-2 c κs = search needs
 
 returns-3 : tie.Need-returns-3
+unfolding wordIn
 returns-3 c =
-    let a = c .before .before .before .before .before .before .args in
-    node-left (a .node) (a .text .now) (a .at) (c .before .before .before .if1 .left) (c .before .before .before .before .before .before .pre .1) (found _ (a .text .now) (a .at) (c .enum-told .given .1) (c .before .before .take-word2 .ensures))
+    let s = c .before .before .before .before .before .before .before in
+    let a = s .args in
+    rw (c .leave-out2 .ensures) (node-past (a .node) (a .names .now) (a .count) (a .at) (s .pre .1) (c .before .before .before .before .if1 .left) (c .before .before .spells .ensures) (c .before .if2 .left))
 
 pub take-node-spec : {M : Type 1} → statement M
 take-node-spec =
     tie.close
     (tie.spec
-    take-word-requires
+    leave-out-requires
     returns
-    cast-take-word
-    take-word-requires-2
-    enum-known-walk
-    enum-told
+    mul-spells
+    shared-slice-read-spells
+    cast-spells
+    spells-requires
+    add-t13
     returns-2
+    leave-out-requires-2
     returns-3)

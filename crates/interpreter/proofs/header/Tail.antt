@@ -1,0 +1,69 @@
+-- Laws of what stands behind a header's last name, and of the tests that look for it.
+use mathlib.Core.Path.{_≡_, refl, sym, _∙_, ap}
+use mathlib.Core.Bool.{Bool, true, false, not, _||_, false≢true}
+use Prim.Native.Nat.{ℕ, _+_, _≤_, _<_}
+use native.Mathlib.Omega.{arith}
+use lib.Dec.{eqb}
+use lib.ListN.{length, getD, drop}
+use borrow.Author.Tests.{eq-eqb, eqb-true}
+use mir.Val.{boolByte}
+use Rattle.registers.specs.Text.{Text, if_then_else_, white, dark, empty, first, rest, start}
+use Rattle.registers.proofs.text.Laws.{rest-at, first-within, start-more, start-stop, start-end}
+use Rattle.interpreter.specs.HeaderParts.{unasked, TailRead}
+
+-- a colon joins another name, or none does
+module _ (joined : Bool) (b : ℕ) where
+  pub is-last : (not joined || not (eqb b 58)) ≡ true → {x : ℕ} → b ≡ x → joined ≡ true → x ≡ 58 → ⊥
+  is-last e q j c = let z : false ≡ true = rw (j, eq-eqb b 58 (q ∙ c)) at e in false≢true z
+
+  pub is-joined : (not joined || not (eqb b 58)) ≡ false → (joined ≡ true) × (b ≡ 58)
+  is-joined e = go joined refl (eqb b 58) refl e
+    where
+      go : (j : Bool) → joined ≡ j → (q : Bool) → eqb b 58 ≡ q → (not j || not q) ≡ false → (joined ≡ true) × (b ≡ 58)
+      go true i true r k = (i, eqb-true b 58 r)
+      go true i false r k = absurd (false≢true (sym k))
+      go false i q r k = absurd (false≢true (sym k))
+
+-- the byte that was read at a place
+module _ (t : Text) (at b : ℕ) (is : b ≡ first (drop at t)) where
+  pub colon-within : b ≡ 58 → at < length t
+  colon-within e = first-within (λ x. eqb x 58) t at refl (eq-eqb (first (drop at t)) 58 (sym is ∙ e))
+
+  -- a `?` stands in the text
+  pub tail-fits : (n : ℕ) → at ≤ n → length t ≤ n → at + boolByte (eqb b 63) ≤ n
+  tail-fits n h l = go (eqb b 63) refl
+    where
+      go : (q : Bool) → eqb b 63 ≡ q → at + boolByte q ≤ n
+      go true q =
+          let w = first-within (λ x. eqb x 63) t at refl (eq-eqb (first (drop at t)) 63 (sym is ∙ eqb-true b 63 q)) in
+          omega arith
+      go false q = omega arith
+
+  behind : drop (at + boolByte (eqb b 63)) t ≡ unasked (drop at t)
+  unfolding unasked if_then_else_
+  behind = rw (sym is) (go (eqb b 63))
+    where
+      go : (q : Bool) → drop (at + boolByte q) t ≡ (if q then rest (drop at t) else drop at t)
+      go true = sym (rest-at t at)
+      go false = let z : at + 0 ≡ at = omega arith in rw z
+
+  module _ (held e : ℕ) (to : e ≡ at + boolByte (eqb b 63)) where
+    read : (g : Bool) → g ≡ empty (start dark (drop e t)) → TailRead t at held (record { good = g; asked = eqb b 63; end = e; count = held })
+    read g k =
+        record {
+          good = k ∙ ap (λ (u : Text). empty (start dark u)) (ap (λ (n : ℕ). drop n t) to ∙ behind);
+          asked = ap (λ (x : ℕ). eqb x 63) is;
+          end = to ∙ ap (λ (x : ℕ). at + boolByte (eqb x 63)) is;
+          count = refl;
+        }
+
+    pub tail-end : length t ≤ e → TailRead t at held (record { good = true; asked = eqb b 63; end = e; count = held })
+    tail-end h = read true (rw (start-end dark t e h))
+
+    pub tail-more : e < length t → (w : Bool) → w ≡ white (getD t e 0)
+        → TailRead t at held (record { good = w; asked = eqb b 63; end = e; count = held })
+    tail-more h w k = read w (go w refl)
+      where
+        go : (x : Bool) → w ≡ x → w ≡ empty (start dark (drop e t))
+        go true q = rw (start-stop dark t e h (ap not (sym k ∙ q))) q
+        go false q = rw (start-more dark t e h (ap not (sym k ∙ q))) q

@@ -1,0 +1,66 @@
+// A name of a header as a number, so that names are compared by one comparison: five bits to a byte, the first byte lowest.
+//
+// No word of the table has more than eleven letters. A longer name has a number all the same, of which the table's words have
+// none: its twelve lowest places are all taken.
+use crate::table::FIRST_CODE;
+use registers::text;
+ghost use mathlib.Core.Path.{_≡_};
+ghost use Prim.Native.Nat.{_<_};
+ghost use Rattle.interpreter.specs.NameParts.{codeOf, withCode, NameRead, RestRead};
+ghost use Rattle.interpreter.specs.RowsParts.{commandTable};
+
+// A name's number, 0 where none starts, and where it ends.
+pub(crate) struct Name {
+    pub(crate) key: u64,
+    pub(crate) end: usize,
+}
+
+// A byte of a name as a number below 32, the same for a letter in either case; 0 for a byte that no name has.
+fn code(table: &[u8], b: u8) -> u64
+    requires { ⌜ now table ≡ commandTable ⌝ }
+    ensures { λ r. ⌜ r ≡ codeOf b ⌝ }
+{
+    table[FIRST_CODE + b as usize] as u64
+}
+
+// A number with one byte more. What doesn't fit into 64 bits is shifted out.
+fn with_code(key: u64, code: u64) -> u64
+    requires { ⌜ code < 32 ⌝ }
+    ensures { λ r. ⌜ r ≡ withCode key code ⌝ }
+{
+    key % 576460752303423488 * 32 + code
+}
+
+// The bytes of a name from a place on.
+fn read_rest(table: &[u8], text: &[u8], at: usize) -> Name
+    requires { ⌜ now table ≡ commandTable ⌝ }
+    ensures { λ r. ⌜ RestRead (now (text .entry)) at r ⌝ }
+{
+    let mut key: u64 = 0;
+    let mut i = at;
+    while i < text.len() {
+        let c = code(table, text[i]);
+        if c == 0 {
+            return Name { key, end: i };
+        }
+        key = with_code(key, c);
+        i += 1;
+    }
+    Name { key, end: i }
+}
+
+// Reads the name that starts at a place. Its first letter comes last into the number, and so stands lowest.
+pub(crate) fn read(table: &[u8], text: &[u8], at: usize) -> Name
+    requires { ⌜ now table ≡ commandTable ⌝ }
+    ensures { λ r. ⌜ NameRead (now (text .entry)) at r ⌝ }
+{
+    let lead = text::byte_at(text, at);
+    if !text::is_letter(lead) {
+        return Name { key: 0, end: at };
+    }
+    let rest = read_rest(table, text, at + 1);
+    Name {
+        key: with_code(rest.key, code(table, lead)),
+        end: rest.end,
+    }
+}
