@@ -5,5 +5,6 @@ pub mod Spelling
 pub mod Rows
 pub mod Numbers
 pub mod Walks
+pub mod Start
 pub mod Search
 pub mod Table

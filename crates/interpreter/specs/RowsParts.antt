@@ -8,7 +8,8 @@ use Prim.Native.String.{String}
 use lib.Dec.{ltb, eqb}
 use lib.Bits.{bitAnd}
 use lib.ListN.{length, getD, drop, replicate}
-use Rattle.registers.specs.Text.{Text, if_then_else_, bytes, same, capital, empty}
+use mir.Val.{boolByte}
+use Rattle.registers.specs.Text.{Text, if_then_else_, bytes, same, capital, empty, first}
 use Rattle.registers.specs.Words.{Node, must, may, shortForm, longForm}
 use Rattle.interpreter.specs.NameParts.{codeOf, keyOf}
 use Rattle.interpreter.specs.Rows.{Row, rows, sameBool, hasForm, fitsRow}
@@ -68,15 +69,18 @@ rowBytes = rowCount * 8
 abbrev pub keyBytes : ℕ
 keyBytes = nodeCount * 16
 
--- where the numbers begin, where the codes begin, and where the table ends
+-- where the numbers begin, the codes, and the rows where a search starts; and where the table ends
 abbrev pub firstKey : ℕ
 firstKey = wordBytes + rowBytes
 
 abbrev pub firstCode : ℕ
 firstCode = firstKey + keyBytes
 
+abbrev pub firstStart : ℕ
+firstStart = firstCode + 256
+
 abbrev pub tableBytes : ℕ
-tableBytes = firstCode + 256
+tableBytes = firstStart + 256
 
 unfoldable pub wordAt : ℕ → String
 wordAt i = getD wordList i ""
@@ -159,13 +163,6 @@ listFrom i (suc n) f = f i ∷ listFrom (suc i) n f
 unfoldable pub codeTable : Text
 codeTable = listFrom 0 256 codeOf
 
--- the table that is searched: the parameters' words, and behind them what finds a header's row
-unfoldable pub searchTable : Text
-searchTable = rowTable ++ (keyTable ++ codeTable)
-
-unfoldable pub commandTable : Text
-commandTable = wordTable ++ searchTable
-
 -- ---- the row that a search finds
 
 unfoldable pub firstFit : (Row → Bool) → List Row → ℕ
@@ -175,6 +172,40 @@ firstFit p (r ∷ rs) = if p r then 0 else suc (firstFit p rs)
 -- the first row that spells the names in the form asked for, counted from 0; their number where none does
 unfoldable pub rowOf : Bool → List Text → Bool → ℕ
 rowOf star names asked = firstFit (fitsRow star names asked) rows
+
+-- ---- the second lookup, by the names' first letters
+
+-- one letter more in a mark
+abbrev pub withLetter : ℕ → ℕ → ℕ
+withLetter m c = (m * 24 + c) % 256
+
+unfoldable pub markFrom : ℕ → List ℕ → ℕ
+markFrom m [] = m
+markFrom m (k ∷ keys) = markFrom (withLetter m (k % 32)) keys
+
+-- the first letters of names, by their numbers
+abbrev pub markOf : Bool → List ℕ → ℕ
+markOf star keys = markFrom (boolByte star) keys
+
+-- whether names that a row's nodes spell can have a mark: "kept or left out in any way"
+unfoldable pub canMark : ℕ → ℕ → List Node → Bool
+canMark x m [] = eqb m x
+canMark x m (must w ∷ nodes) = canMark x (withLetter m (codeOf (first (bytes w)))) nodes
+canMark x m (may w ∷ nodes) = canMark x m nodes || canMark x (withLetter m (codeOf (first (bytes w)))) nodes
+
+-- the first row whose names can have it; the number of rows where none's can
+unfoldable pub startOf : ℕ → ℕ
+startOf x = firstFit (λ r. canMark x (boolByte (r .star)) (r .nodes)) rows
+
+unfoldable pub startTable : Text
+startTable = listFrom 0 256 startOf
+
+-- the table that is searched: the parameters' words, and behind them what finds a header's row
+unfoldable pub searchTable : Text
+searchTable = rowTable ++ (keyTable ++ (codeTable ++ startTable))
+
+unfoldable pub commandTable : Text
+commandTable = wordTable ++ searchTable
 
 -- ---- names as numbers: whether one is that of a word's short or long form
 
@@ -247,6 +278,10 @@ nodeOf x = if ltb x 128 then must (nodeAt (wordIn x)) else may (nodeAt (wordIn x
 abbrev pub Walked : Node → List ℕ → ℕ → Walk → Type 0
 Walked x keys at (To n) = ((nodes : List Node) → greedy (x ∷ nodes) (drop at keys) ≡ greedy nodes (drop n keys)) × (n ≤ length keys)
 Walked x keys at Missed = (nodes : List Node) → greedy (x ∷ nodes) (drop at keys) ≡ false
+
+pub record Marked (star : Bool) (keys : List ℕ) (r : ℕ) : Type 0 where
+  pub is : r ≡ markOf star keys
+  pub small : r < 256
 
 -- a node that no name spells
 unfoldable pub leftOut : ℕ → ℕ → Walk

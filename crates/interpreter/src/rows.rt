@@ -1,13 +1,14 @@
 // Check 3: the row that spells the names of a header; and how a parameter spells a word.
 use crate::table::FIRST_KEY;
 use crate::table::FIRST_ROW;
+use crate::table::FIRST_START;
 use crate::table::ROWS;
 use registers::text;
 ghost use mathlib.Core.Path.{_≡_};
 ghost use Prim.Native.Nat.{_+_, _≤_, _<_};
 ghost use lib.ListN.{length, take, drop};
 ghost use Rattle.registers.specs.Words.{longForm, matches};
-ghost use Rattle.interpreter.specs.RowsParts.{wordCount, nodeCount, rowCount, commandTable, wordAt, nodeAt, agreed, formLength, wordCell, rowCell, PairRead, QuadRead, keyCell, keyMatches, wordIn, nodeOf, leftOut, Walked, formBit, rowOfKeys};
+ghost use Rattle.interpreter.specs.RowsParts.{wordCount, nodeCount, rowCount, commandTable, wordAt, nodeAt, agreed, formLength, wordCell, rowCell, PairRead, QuadRead, keyCell, keyMatches, wordIn, nodeOf, leftOut, Walked, formBit, rowOfKeys, Marked, markOf, startOf};
 
 // Where a walk over a row's nodes goes on.
 enum Walk {
@@ -136,8 +137,30 @@ fn form_bit(star: bool, asked: bool) -> u8
     }
 }
 
-// The first row that spells the names from one on in the form asked for, or ROWS. At the first node that is missed the inner
-// loop is left and the next row is tried.
+// The first letters of names as a mark below 256, which hardly any rows share.
+fn mark(names: &[u64], first: usize, count: usize, star: bool) -> usize
+    requires { ⌜ count ≤ length (now names) ⌝ }
+    ensures { λ r. ⌜ Marked star (drop first (take count (now (names .entry)))) r ⌝ }
+{
+    let mut letters = star as usize;
+    let mut i = first;
+    while i < count {
+        letters = (letters * 24 + (names[i] % 32) as usize) % 256;
+        i += 1;
+    }
+    letters
+}
+
+// The second lookup: the first row that has names with these first letters, or ROWS.
+fn start_row(table: &[u8], names: &[u64], first: usize, count: usize, star: bool) -> usize
+    requires { ⌜ (now table ≡ commandTable) × (count ≤ length (now names)) ⌝ }
+    ensures { λ r. ⌜ r ≡ startOf (markOf star (drop first (take count (now (names .entry))))) ⌝ }
+{
+    table[FIRST_START + mark(names, first, count, star)] as usize
+}
+
+// The first row that spells the names from one on in the form asked for, or ROWS. No row before the one where it starts does. At
+// the first node that is missed the inner loop is left and the next row is tried.
 pub(crate) fn find(
     table: &[u8],
     names: &[u64],
@@ -150,7 +173,7 @@ pub(crate) fn find(
     ensures { λ r. ⌜ r ≡ rowOfKeys star (drop first (take count (now (names .entry)))) asked ⌝ }
 {
     let bit = form_bit(star, asked);
-    let mut next: usize = 0;
+    let mut next = start_row(table, names, first, count, star);
     'rows: while next < ROWS {
         let row = next;
         next += 1;

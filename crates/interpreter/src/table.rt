@@ -10,18 +10,22 @@ pub(crate) const ROWS: usize = 44;
 
 const NODES: usize = 45;
 
-// Where the rows begin, behind the parameters' words; then the numbers of the nodes' words, and the codes of all bytes.
+// Where the rows begin, behind the parameters' words; then the numbers of the nodes' words, the codes of all bytes, and the
+// rows where a search starts.
 pub(crate) const FIRST_ROW: usize = WORDS * 16;
 
 pub(crate) const FIRST_KEY: usize = FIRST_ROW + ROWS * 8;
 
 pub(crate) const FIRST_CODE: usize = FIRST_KEY + NODES * 16;
 
-const SIZE: usize = FIRST_CODE + 256;
+pub(crate) const FIRST_START: usize = FIRST_CODE + 256;
+
+const SIZE: usize = FIRST_START + 256;
 
 // 16 bytes to a word of a parameter: the lengths of its short and its long form, then its letters. 8 bytes to a row: its forms
 // as bits, the number of its nodes, and each node's word, with 128 more where the node may be left out. 16 bytes to a word of a
-// node: its short and its long form as numbers, low byte first. Then the code that each byte has in a name.
+// node: its short and its long form as numbers, low byte first. Then the code that each byte has in a name, and for each mark of
+// first letters the first row that can have it.
 pub(crate) fn commands() -> [u8; SIZE]
     ensures { λ r. ⌜ r ≡ commandTable ⌝ }
 {
@@ -140,5 +144,21 @@ pub(crate) fn commands() -> [u8; SIZE]
         \0\0\0\0\0\0\0\0\0\0\0\0\0\0\0\0\
         \0\0\0\0\0\0\0\0\0\0\0\0\0\0\0\0\
         \0\0\0\0\0\0\0\0\0\0\0\0\0\0\0\0\
-        \0\0\0\0\0\0\0\0\0\0\0\0\0\0\0\0"
+        \0\0\0\0\0\0\0\0\0\0\0\0\0\0\0\0\
+        \x2c\x2c\x2c\x2c\x2c\x03\x06\x2c\x2c\x2c\x2c\x2c\x2c\x2c\x2c\0\
+        \x2c\x04\x2c\x2c\x2c\x2c\x04\x2c\x2c\x04\x2c\x17\x04\x18\x2c\x2c\
+        \x2c\x11\x05\x2c\x2c\x2c\x2c\x13\x2c\x2c\x16\x19\x12\x1e\x2c\x14\
+        \x2c\x2c\x2c\x2c\x2c\x2c\x20\x2c\x21\x2c\x2c\x2c\x2c\x2c\x2c\x2c\
+        \x2c\x2c\x2c\x2c\x2c\x2c\x2c\x2c\x2c\x2c\x2c\x2c\x2c\x2c\x2c\x2c\
+        \x2c\x2c\x2c\x2c\x2c\x2c\x2c\x2c\x2c\x04\x2c\x2c\x2c\x2c\x2c\x2c\
+        \x2c\x2c\x0e\x2c\x2c\x2c\x2c\x2c\x2c\x2c\x2c\x2c\x2c\x2c\x2c\x2c\
+        \x2c\x2c\x2c\x2c\x2c\x2c\x2c\x2c\x01\x2c\x02\0\x2c\x2c\x2c\x2c\
+        \x2c\x2c\x2c\x2c\x2c\x2c\x2c\x2c\x0c\x2c\x2c\x2c\x0d\x09\x2c\x2c\
+        \x2c\x2c\x2c\x2c\x0b\x2c\x2c\x2c\x2c\x2c\x2c\x2c\x2c\x2c\x2c\x2c\
+        \x2c\x04\x2c\x2c\x2c\x2c\x2c\x2c\x2c\x04\x2c\x2c\x2c\x2c\x2c\x2c\
+        \x2c\x07\x2c\x2c\x2c\x2c\x2c\x2c\x2c\x2c\x2c\x2c\x2c\x08\x2c\x2c\
+        \x2c\x2c\x2c\x2c\x0a\x2c\x2c\x2c\x2c\x2c\x2c\x2c\x2c\x10\x06\x2c\
+        \x2c\x04\x2c\x0f\x23\x2c\x2c\x1e\x2c\x04\x2c\x2c\x04\x2c\x04\x28\
+        \x2c\x2c\x05\x22\x2c\x23\x2c\x2c\x2c\x2c\x2c\x27\x2c\x28\x25\x2c\
+        \x26\x2c\x07\x2c\x2c\x2c\x2a\x2c\x2b\x2c\x2c\x2c\x2c\x2c\x2c\x2c"
 }

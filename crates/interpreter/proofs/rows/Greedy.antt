@@ -17,7 +17,7 @@ use Rattle.interpreter.specs.RowsParts.{greedy}
 use Rattle.interpreter.proofs.Lists.{same-eq}
 use Rattle.interpreter.proofs.name.Keys.{capitals, key-matches}
 
-abbrev wordOf : Node → String
+abbrev pub wordOf : Node → String
 wordOf (must w) = w
 wordOf (may w) = w
 

@@ -4,7 +4,6 @@ use mathlib.Core.Bool.{Bool, true, false}
 use mathlib.Core.List.{List, [], _∷_}
 use Prim.Native.Nat.{ℕ, suc, _+_, _≤_, _<_}
 use native.Mathlib.Numerals.{add-one}
-use native.Mathlib.Nat.{add-zero}
 use native.Mathlib.Omega.{arith}
 use lib.ListN.{length, drop, drop-of-length-le}
 use lib.Seq.{drop-cons}
@@ -12,9 +11,10 @@ use Rattle.registers.specs.Text.{if_then_else_}
 use Rattle.registers.specs.Words.{Node}
 use Rattle.registers.proofs.Tests.{and-fails}
 use Rattle.interpreter.specs.Rows.{rows}
-use Rattle.interpreter.specs.RowsParts.{rowCount, firstFit, greedy, fitsKeys, rowOfKeys, nodeOf, rowCell, formBit, formed, Walked}
+use Rattle.interpreter.specs.RowsParts.{rowCount, firstFit, greedy, fitsKeys, rowOfKeys, markOf, startOf, nodeOf, rowCell, formBit, formed, Walked}
 use Rattle.interpreter.specs.declared.rows.Walk.{Walk}
 use Rattle.interpreter.specs.declared.rows.Walk.the-variants.{To, Missed}
+use Rattle.interpreter.proofs.rows.Start.{same-row, start-most}
 use Rattle.interpreter.proofs.rows.Rows.{rows-many, none, rowAt, count-cell, nodes-from, fits-is}
 
 -- ---- over the rows
@@ -25,9 +25,8 @@ pub record Seeking (star : Bool) (keys : List ℕ) (asked : Bool) (r : ℕ) : Ty
   pub left : firstFit (fitsKeys star keys asked) (drop r rows) + r ≡ rowOfKeys star keys asked
 
 module _ {star : Bool} {keys : List ℕ} {asked : Bool} where
-  pub seek-start : Seeking star keys asked 0
-  unfolding rowOfKeys
-  seek-start = record { most = omega arith; left = add-zero _ }
+  pub seek-start : {r : ℕ} → r ≡ startOf (markOf star keys) → Seeking star keys asked r
+  seek-start e = rw e (record { most = start-most star keys asked; left = same-row star keys asked })
 
   pub seek-end : {r : ℕ} → Seeking star keys asked r → rowCount ≤ r → rowCount ≡ rowOfKeys star keys asked
   unfolding firstFit

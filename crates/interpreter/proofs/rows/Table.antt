@@ -1,4 +1,4 @@
--- The words, the rows, the numbers and the codes in one table: where each cell stands.
+-- The words, the rows, the numbers, the codes and the starts in one table: where each cell stands.
 use mathlib.Core.Path.{_≡_, refl, sym, _∙_, ap}
 use mathlib.Core.Bool.{Bool, true}
 use mathlib.Core.List.{_++_}
@@ -11,7 +11,7 @@ use lib.Seq.{drop-append-le, drop-append-add, drop-drop, getD-append-add, getD-d
 use Rattle.registers.specs.Text.{Text, if_then_else_, every}
 use Rattle.registers.specs.Words.{shortForm, longForm}
 use Rattle.interpreter.specs.NameParts.{codeOf, keyOf}
-use Rattle.interpreter.specs.RowsParts.{tableBytes, wordBytes, rowBytes, keyBytes, firstKey, firstCode, wordCount, rowCount, nodeCount, nodeList, nodeAt, wordTable, rowTable, eight, keyRow, keyTableOf, keyTable, listFrom, codeTable, searchTable, commandTable, wordCell, rowCell, quadAt, keyCell}
+use Rattle.interpreter.specs.RowsParts.{tableBytes, wordBytes, rowBytes, keyBytes, firstKey, firstCode, firstStart, wordCount, rowCount, nodeCount, nodeList, nodeAt, wordTable, rowTable, eight, keyRow, keyTableOf, keyTable, listFrom, codeTable, startOf, startTable, searchTable, commandTable, wordCell, rowCell, quadAt, keyCell}
 use Rattle.interpreter.proofs.Lists.{table-at, table-length}
 use Rattle.interpreter.proofs.rows.Words.{words-long}
 use Rattle.interpreter.proofs.rows.Rows.{table-long}
@@ -47,14 +47,25 @@ list-at f i zero k h = absurd (omega arith)
 list-at f i (suc n) zero h = let e : i ≡ i + 0 = omega arith in ap f e
 list-at f i (suc n) (suc k) h = let e : suc i + k ≡ i + suc k = omega arith in list-at f (suc i) n k (omega arith) ∙ ap f e
 
-search-long : length searchTable ≡ rowBytes + (keyBytes + 256)
-unfolding searchTable codeTable
+-- behind the numbers
+abbrev lists : Text
+lists = codeTable ++ startTable
+
+codes-long : length codeTable ≡ 256
+unfolding codeTable
+codes-long = list-length codeOf 0 256
+
+lists-long : length lists ≡ 512
+unfolding startTable
+lists-long = let c = codes-long in let s = list-length startOf 0 256 in length-append codeTable startTable ∙ omega arith
+
+search-long : length searchTable ≡ rowBytes + (keyBytes + 512)
+unfolding searchTable
 search-long =
     let r = table-long in
     let k = keys-long in
-    let c = list-length codeOf 0 256 in
-    let codes = listFrom 0 256 codeOf in
-    omega (arith, length-append rowTable (keyTable ++ codes), length-append keyTable codes)
+    let c = lists-long in
+    omega (arith, length-append rowTable (keyTable ++ lists), length-append keyTable lists)
 
 pub commands-long : length commandTable ≡ tableBytes
 unfolding commandTable
@@ -83,26 +94,39 @@ unfolding searchTable rowCell
 row-byte r i h k =
     let l = table-long in
     let e : wordBytes + r * 8 + i ≡ wordBytes + (r * 8 + i) = omega arith in
-    rw e (behind-words (r * 8 + i) ∙ List·getD-append rowTable (keyTable ++ codeTable) 0 (r * 8 + i) (omega arith))
+    rw e (behind-words (r * 8 + i) ∙ List·getD-append rowTable (keyTable ++ lists) 0 (r * 8 + i) (omega arith))
 
-pub code-byte : (b : ℕ) → b < 256 → getD commandTable (firstCode + b) 0 ≡ codeOf b
-unfolding searchTable codeTable
-code-byte b h =
+-- behind the rows and the numbers
+behind-keys : (i : ℕ) → getD commandTable (firstCode + i) 0 ≡ getD lists i 0
+unfolding searchTable
+behind-keys i =
     let r = table-long in
     let k = keys-long in
-    let e : firstCode + b ≡ wordBytes + (length rowTable + (length keyTable + b)) = omega arith in
-    let z : 0 + b ≡ b = omega arith in
+    let e : firstCode + i ≡ wordBytes + (length rowTable + (length keyTable + i)) = omega arith in
     rw e
-    (behind-words (length rowTable + (length keyTable + b))
-    ∙ getD-append-add rowTable (keyTable ++ listFrom 0 256 codeOf) (length keyTable + b) 0
-    ∙ getD-append-add keyTable (listFrom 0 256 codeOf) b 0
-    ∙ list-at codeOf 0 256 b h
-    ∙ ap codeOf z)
+    (behind-words (length rowTable + (length keyTable + i))
+    ∙ getD-append-add rowTable (keyTable ++ lists) (length keyTable + i) 0
+    ∙ getD-append-add keyTable lists i 0)
+
+pub code-byte : (b : ℕ) → b < 256 → getD commandTable (firstCode + b) 0 ≡ codeOf b
+unfolding codeTable
+code-byte b h =
+    let c = codes-long in
+    let z : 0 + b ≡ b = omega arith in
+    behind-keys b ∙ List·getD-append codeTable startTable 0 b (omega arith) ∙ list-at codeOf 0 256 b h ∙ ap codeOf z
+
+pub start-byte : (x : ℕ) → x < 256 → getD commandTable (firstStart + x) 0 ≡ startOf x
+unfolding startTable
+start-byte x h =
+    let c = codes-long in
+    let e : firstStart + x ≡ firstCode + (length codeTable + x) = omega arith in
+    let z : 0 + x ≡ x = omega arith in
+    rw e (behind-keys (length codeTable + x) ∙ getD-append-add codeTable startTable x 0) ∙ list-at startOf 0 256 x h ∙ ap startOf z
 
 -- ---- the numbers of a node's word
 
 -- from a number on
-keys-from : (x : ℕ) → x ≤ keyBytes → drop (firstKey + x) commandTable ≡ drop x keyTable ++ codeTable
+keys-from : (x : ℕ) → x ≤ keyBytes → drop (firstKey + x) commandTable ≡ drop x keyTable ++ lists
 unfolding commandTable searchTable
 keys-from x h =
     let w = words-long in
@@ -110,9 +134,9 @@ keys-from x h =
     let k = keys-long in
     let e : firstKey + x ≡ length wordTable + (length rowTable + x) = omega arith in
     rw e
-    (drop-append-add wordTable (rowTable ++ (keyTable ++ codeTable)) (length rowTable + x)
-    ∙ drop-append-add rowTable (keyTable ++ codeTable) x
-    ∙ drop-append-le x keyTable codeTable (omega arith))
+    (drop-append-add wordTable (rowTable ++ (keyTable ++ lists)) (length rowTable + x)
+    ∙ drop-append-add rowTable (keyTable ++ lists) x
+    ∙ drop-append-le x keyTable lists (omega arith))
 
 -- eight bytes as they are read
 abbrev eightAt : Text → ℕ → ℕ
@@ -139,7 +163,7 @@ from-drop t at =
 
 module _ (w : ℕ) (h : w < nodeCount) where
   abbrev more : Text
-  more = keyTableOf (drop (suc w) nodeList) ++ codeTable
+  more = keyTableOf (drop (suc w) nodeList) ++ lists
 
   word-keys : drop (firstKey + w * 16) commandTable ≡ eight (keyOf (shortForm (nodeAt w))) ++ (eight (keyOf (longForm (nodeAt w))) ++ more)
   unfolding keyTable keyTableOf keyRow nodeAt

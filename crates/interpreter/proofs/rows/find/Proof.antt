@@ -23,33 +23,36 @@ abbrev μ-rows : tie.MeasureT-rows
 form-bit-requires : tie.Need-form-bit-requires Inv-loop μ-loop Inv-rows μ-rows
 form-bit-requires c κs = tt
 
+start-row-requires : tie.Need-start-row-requires Inv-loop μ-loop Inv-rows μ-rows
+start-row-requires c κs = let p = c .before .before .before .pre in (p .0, p .2)
+
 rows-holds : tie.Need-rows-holds Inv-loop μ-loop Inv-rows μ-rows
-rows-holds c = seek-start
+rows-holds c = seek-start (c .start-row .ensures)
 
 add-next : tie.Need-add-next Inv-loop μ-loop Inv-rows μ-rows
 add-next c = omega arith
 
 row-cell-requires : tie.Need-row-cell-requires Inv-loop μ-loop Inv-rows μ-rows
-row-cell-requires c κs = (c .before .before .before .before .before .pre .0, c .rows-test .taken, omega arith)
+row-cell-requires c κs = (c .before .before .before .before .before .before .pre .0, c .rows-test .taken, omega arith)
 
 rows-less : tie.Need-rows-less Inv-loop μ-loop Inv-rows μ-rows
 rows-less c = fewer (c .before .before .rows-test .taken)
 
 rows-again : tie.Need-rows-again Inv-loop μ-loop Inv-rows μ-rows
 rows-again c =
-    let f = rw (c .before .before .before .before .form-bit .ensures) at (unformed _ _ _ (c .before .row-cell .ensures) (c .if1 .taken)) in
+    let f = rw (c .before .before .before .before .before .form-bit .ensures) at (unformed _ _ _ (c .before .row-cell .ensures) (c .if1 .taken)) in
     skip-form (c .before .before .before .rows .inv) (c .before .before .rows-test .taken) f
 
 row-cell-requires-2 : tie.Need-row-cell-requires-2 Inv-loop μ-loop Inv-rows μ-rows
-row-cell-requires-2 c κs = (c .before .before .before .before .before .before .before .pre .0, c .before .before .rows-test .taken, omega arith)
+row-cell-requires-2 c κs = (c .before .before .before .before .before .before .before .before .pre .0, c .before .before .rows-test .taken, omega arith)
 
 cast-n : tie.Need-cast-n Inv-loop μ-loop Inv-rows μ-rows
 cast-n c = omega arith
 
 loop-holds : tie.Need-loop-holds Inv-loop μ-loop Inv-rows μ-rows
 loop-holds c =
-    let s = c .before .before .before .before .before .before .before .before in
-    let f = rw (c .before .before .before .before .before .form-bit .ensures) at (is-formed _ _ _ (c .before .before .row-cell .ensures) (c .before .if1 .left)) in
+    let s = c .before .before .before .before .before .before .before .before .before in
+    let f = rw (c .before .before .before .before .before .before .form-bit .ensures) at (is-formed _ _ _ (c .before .before .row-cell .ensures) (c .before .if1 .left)) in
     let t = length-take (s .args .count) (s .args .names .now) in
     let p = s .pre in
     try-start (c .before .before .before .rows-test .taken) (c .before .before .before .before .rows .inv) f (c .row-cell2 .ensures) (omega arith)
@@ -58,12 +61,12 @@ add-row-cell : tie.Need-add-row-cell Inv-loop μ-loop Inv-rows μ-rows
 add-row-cell c = let w = c .before .loop .inv in let f = nodes-few _ (w .known) in let k = w .count in omega arith
 
 row-cell-requires-3 : tie.Need-row-cell-requires-3 Inv-loop μ-loop Inv-rows μ-rows
-row-cell-requires-3 c κs = let w = c .before .loop .inv in let f = nodes-few _ (w .known) in let k = w .count in (c .before .before .before .before .before .before .before .before .before .before .pre .0, w .known, omega arith)
+row-cell-requires-3 c κs = let w = c .before .loop .inv in let f = nodes-few _ (w .known) in let k = w .count in (c .before .before .before .before .before .before .before .before .before .before .before .pre .0, w .known, omega arith)
 
 take-node-requires : tie.Need-take-node-requires Inv-loop μ-loop Inv-rows μ-rows
 take-node-requires c κs =
     let l = c .before .before .loop in
-    let s = c .before .before .before .before .before .before .before .before .before .before .before in
+    let s = c .before .before .before .before .before .before .before .before .before .before .before .before in
     let w = l .inv in
     let n = w .count in
     let t = length-take (s .args .count) (s .args .names .now) in
@@ -106,7 +109,7 @@ rows-less-3 c = fewer (c .before .before .before .before .before .before .rows-t
 
 rows-again-3 : tie.Need-rows-again-3 Inv-loop μ-loop Inv-rows μ-rows
 rows-again-3 c =
-    let s = c .before .before .before .before .before .before .before .before .before .before .before in
+    let s = c .before .before .before .before .before .before .before .before .before .before .before .before in
     let p = s .pre in
     let t = length-take (s .args .count) (s .args .names .now) in
     let k = c .if2 .taken in
@@ -114,7 +117,7 @@ rows-again-3 c =
 
 returns : tie.Need-returns Inv-loop μ-loop Inv-rows μ-rows
 returns c =
-    let s = c .before .before .before .before .before .before .before .before .before .before .before in
+    let s = c .before .before .before .before .before .before .before .before .before .before .before .before in
     let p = s .pre in
     let t = length-take (s .args .count) (s .args .names .now) in
     let k = c .if2 .left in
@@ -132,6 +135,7 @@ find-spec =
     Inv-rows
     μ-rows
     form-bit-requires
+    start-row-requires
     rows-holds
     add-next
     row-cell-requires

@@ -1,0 +1,175 @@
+-- The second lookup: for every header, the search that starts at the first row whose names can have its names' first letters finds
+-- the row, or -113, that the plain search finds.
+use mathlib.Core.Path.{_≡_, refl, sym, _∙_, ap}
+use mathlib.Core.Bool.{Bool, true, false, _&&_, _||_, false≢true}
+use mathlib.Core.List.{List, [], _∷_}
+use Prim.Native.Nat.{ℕ, suc, _+_, _%_, _≤_, _<_}
+use Prim.Native.String.{String}
+use native.Mathlib.Numerals.{add-one}
+use native.Mathlib.Omega.{arith}
+use lib.Dec.{eqb}
+use lib.ListN.{length, getD, take, drop, length-take, drop-of-length-le}
+use lib.Seq.{drop-cons, getD-take}
+use borrow.Author.Tests.{eq-eqb, eqb-true}
+use mir.Val.{boolByte}
+use Rattle.registers.specs.Text.{if_then_else_, letter, small, digit, wordByte, every, first, bytes, capital}
+use Rattle.registers.specs.Words.{Node, must, may, shortForm, longForm}
+use Rattle.registers.specs.Settings.{table}
+use Rattle.registers.proofs.Tests.{and-both}
+use Rattle.interpreter.specs.Rows.{Row, rows, settingRows, otherRows, hasForm, sameBool}
+use Rattle.interpreter.specs.NameParts.{codeOf, withCode, keyFrom, keyOf}
+use Rattle.interpreter.specs.RowsParts.{rowCount, firstFit, keyMatches, greedy, fitsKeys, rowOfKeys, withLetter, markFrom, markOf, canMark, startOf, Marked}
+use Rattle.interpreter.proofs.rows.Greedy.{wordOf}
+use Rattle.interpreter.proofs.rows.Rows.{rows-many}
+
+-- ---- a word's first letter stands lowest in the numbers of both its forms
+
+abbrev led : String → Bool
+led w = eqb (keyOf (shortForm w) % 32) (codeOf (first (bytes w))) && eqb (keyOf (longForm w) % 32) (codeOf (first (bytes w)))
+
+abbrev allLed : List Node → Bool
+allLed nodes = every (λ x. led (wordOf x)) nodes
+
+abbrev ledRow : Row → Bool
+ledRow r = allLed (r .nodes)
+
+-- the one test over the table
+rows-led : every ledRow rows ≡ true
+unfolding rows settingRows otherRows table shortForm longForm bytes small capital keyOf keyFrom withCode codeOf letter digit wordByte if_then_else_
+rows-led = refl
+
+first-letter : (w : String) (k : ℕ) → led w ≡ true → keyMatches w k ≡ true → k % 32 ≡ codeOf (first (bytes w))
+unfolding keyMatches
+first-letter w k l e =
+    let p = and-both (eqb (keyOf (shortForm w) % 32) (codeOf (first (bytes w)))) (eqb (keyOf (longForm w) % 32) (codeOf (first (bytes w)))) l in
+    go (eqb k (keyOf (shortForm w))) refl e (eqb-true _ _ (p .0)) (eqb-true _ _ (p .1))
+  where
+    go : (b : Bool) → eqb k (keyOf (shortForm w)) ≡ b → (b || eqb k (keyOf (longForm w))) ≡ true
+        → keyOf (shortForm w) % 32 ≡ codeOf (first (bytes w)) → keyOf (longForm w) % 32 ≡ codeOf (first (bytes w))
+        → k % 32 ≡ codeOf (first (bytes w))
+    go true q r s t = ap (λ (n : ℕ). n % 32) (eqb-true k (keyOf (shortForm w)) q) ∙ s
+    go false q r s t = ap (λ (n : ℕ). n % 32) (eqb-true k (keyOf (longForm w)) r) ∙ t
+
+-- ---- names that a row's nodes spell have one of the row's marks
+
+or-right : (a : Bool) {b : Bool} → b ≡ true → (a || b) ≡ true
+or-right true e = refl
+or-right false e = e
+
+can-mark : (nodes : List Node) → allLed nodes ≡ true → (keys : List ℕ) (m : ℕ) → greedy nodes keys ≡ true → canMark (markFrom m keys) m nodes ≡ true
+unfolding greedy canMark markFrom if_then_else_
+can-mark [] l [] m e = eq-eqb m m refl
+can-mark [] l (k ∷ keys) m e = absurd (false≢true e)
+can-mark (must w ∷ nodes) l [] m e = absurd (false≢true e)
+can-mark (must w ∷ nodes) l (k ∷ keys) m e =
+    let p = and-both (led w) (allLed nodes) l in
+    go (keyMatches w k) refl e (p .0) (can-mark nodes (p .1) keys (withLetter m (k % 32)))
+  where
+    go : (b : Bool) → keyMatches w k ≡ b → (if b then greedy nodes keys else false) ≡ true → led w ≡ true
+        → (greedy nodes keys ≡ true → canMark (markFrom (withLetter m (k % 32)) keys) (withLetter m (k % 32)) nodes ≡ true)
+        → canMark (markFrom (withLetter m (k % 32)) keys) (withLetter m (codeOf (first (bytes w)))) nodes ≡ true
+    go true q f h ih = ap (λ (c : ℕ). canMark (markFrom (withLetter m (k % 32)) keys) (withLetter m c) nodes) (sym (first-letter w k h q)) ∙ ih f
+    go false q f h ih = absurd (false≢true f)
+can-mark (may w ∷ nodes) l [] m e =
+    let p = and-both (led w) (allLed nodes) l in
+    rw (can-mark nodes (p .1) [] m e)
+can-mark (may w ∷ nodes) l (k ∷ keys) m e =
+    let p = and-both (led w) (allLed nodes) l in
+    go (keyMatches w k) refl e (p .0) (can-mark nodes (p .1) keys (withLetter m (k % 32))) (can-mark nodes (p .1) (k ∷ keys) m)
+  where
+    x : ℕ
+    x = markFrom (withLetter m (k % 32)) keys
+
+    go : (b : Bool) → keyMatches w k ≡ b → (if b then greedy nodes keys else greedy nodes (k ∷ keys)) ≡ true → led w ≡ true
+        → (greedy nodes keys ≡ true → canMark x (withLetter m (k % 32)) nodes ≡ true)
+        → (greedy nodes (k ∷ keys) ≡ true → canMark x m nodes ≡ true)
+        → (canMark x m nodes || canMark x (withLetter m (codeOf (first (bytes w)))) nodes) ≡ true
+    go true q f h ih jh = or-right (canMark x m nodes) (ap (λ (c : ℕ). canMark x (withLetter m c) nodes) (sym (first-letter w k h q)) ∙ ih f)
+    go false q f h ih jh = rw (jh f)
+
+-- ---- a search that starts at the first row which passes a weaker test
+
+module _ (p q ok : Row → Bool) (weaker : (r : Row) → ok r ≡ true → p r ≡ true → q r ≡ true) where
+  first-from : (l : List Row) → every ok l ≡ true → firstFit p (drop (firstFit q l) l) + firstFit q l ≡ firstFit p l
+  unfolding firstFit if_then_else_
+  first-from [] e = refl
+  first-from (r ∷ l) e =
+      let t = and-both (ok r) (every ok l) e in
+      go (q r) refl (p r) refl (t .0) (first-from l (t .1))
+    where
+      go : (a : Bool) → q r ≡ a → (b : Bool) → p r ≡ b → ok r ≡ true → firstFit p (drop (firstFit q l) l) + firstFit q l ≡ firstFit p l
+          → firstFit p (drop (if a then 0 else suc (firstFit q l)) (r ∷ l)) + (if a then 0 else suc (firstFit q l)) ≡ (if b then 0 else suc (firstFit p l))
+      go true i b j o ih = rw j (omega arith)
+      go false i true j o ih = absurd (false≢true (sym i ∙ weaker r o j))
+      go false i false j o ih = omega arith
+
+  first-most : (l : List Row) → firstFit q l ≤ length l
+  unfolding firstFit if_then_else_
+  first-most [] = omega arith
+  first-most (r ∷ l) = go (q r) (first-most l)
+    where
+      go : (a : Bool) → firstFit q l ≤ length l → (if a then 0 else suc (firstFit q l)) ≤ suc (length l)
+      go true h = omega arith
+      go false h = omega arith
+
+module _ (star : Bool) (keys : List ℕ) (asked : Bool) where
+  abbrev markedRow : Row → Bool
+  markedRow r = canMark (markOf star keys) (boolByte (r .star)) (r .nodes)
+
+  fits-marked : (r : Row) → ledRow r ≡ true → fitsKeys star keys asked r ≡ true → markedRow r ≡ true
+  unfolding fitsKeys
+  fits-marked r l e =
+      let a = and-both (sameBool star (r .star)) (hasForm asked (r .role) && greedy (r .nodes) keys) e in
+      let g = and-both (hasForm asked (r .role)) (greedy (r .nodes) keys) (a .1) .1 in
+      let s = same-bool star (r .star) (a .0) in
+      ap (λ (b : Bool). canMark (markOf star keys) (boolByte b) (r .nodes)) (sym s) ∙ can-mark (r .nodes) l keys (boolByte star) g
+    where
+      same-bool : (a b : Bool) → sameBool a b ≡ true → a ≡ b
+      same-bool true true k = refl
+      same-bool true false k = absurd (false≢true k)
+      same-bool false true k = absurd (false≢true k)
+      same-bool false false k = refl
+
+  -- the same row, or none
+  pub same-row : firstFit (fitsKeys star keys asked) (drop (startOf (markOf star keys)) rows) + startOf (markOf star keys) ≡ rowOfKeys star keys asked
+  unfolding startOf rowOfKeys
+  same-row = first-from (fitsKeys star keys asked) markedRow ledRow fits-marked rows rows-led
+
+  pub start-most : startOf (markOf star keys) ≤ rowCount
+  unfolding startOf
+  start-most =
+      let n = rows-many in
+      let m = first-most (fitsKeys star keys asked) markedRow ledRow fits-marked rows in
+      omega arith
+
+-- ---- the loop over the names' first letters
+
+pub record Marking (star : Bool) (keys : List ℕ) (first letters i : ℕ) : Type 0 where
+  pub on : markFrom letters (drop i keys) ≡ markOf star (drop first keys)
+  pub few : letters < 256
+
+pub marking-start : (star : Bool) (keys : List ℕ) (first : ℕ) → Marking star keys first (boolByte star) first
+marking-start star keys first = record { on = refl; few = go star }
+  where
+    go : (s : Bool) → boolByte s < 256
+    go true = omega arith
+    go false = omega arith
+
+module _ {star : Bool} (names : List ℕ) {count first letters i : ℕ} (room : count ≤ length names) (m : Marking star (take count names) first letters i) where
+  held : length (take count names) ≡ count
+  held = let l = length-take count names in omega arith
+
+  pub marking-on : i < count → Marking star (take count names) first (withLetter letters (getD names i 0 % 32)) (i + 1)
+  unfolding markFrom
+  marking-on h =
+      let l = held in
+      let d : drop i (take count names) ≡ getD names i 0 ∷ drop (i + 1) (take count names) =
+      rw (add-one i, ← getD-take count names i 0 h) (drop-cons (take count names) i 0 (omega arith)) in
+      record { on = rw d at (m .on); few = omega arith }
+
+  pub marking-end : count ≤ i → Marked star (drop first (take count names)) letters
+  unfolding markFrom
+  marking-end h =
+      let l = held in
+      let e : length (take count names) ≤ i = omega arith in
+      record { is = rw (drop-of-length-le (take count names) e) at (m .on); small = m .few }
