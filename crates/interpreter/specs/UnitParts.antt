@@ -1,11 +1,11 @@
 -- What the unit reader's own functions say. Nothing of 01 is defined here: see Unit.antt.
 use mathlib.Core.Path.{_≡_}
-use mathlib.Core.Bool.{Bool, true, false, not}
+use mathlib.Core.Bool.{Bool, true, false, not, _||_}
 use mathlib.Core.List.{List}
 use Prim.Native.Nat.{ℕ, _≤_, _<_}
 use lib.Dec.{leb, ltb}
 use lib.ListN.{length}
-use Rattle.registers.specs.Text.{Text, if_then_else_, every, empty}
+use Rattle.registers.specs.Text.{Text, if_then_else_, white, printable, every, empty}
 use Rattle.registers.specs.Check.{Checked, refused, passed, _>>=_, _>>_, check}
 use Rattle.registers.specs.Errors.{numberOf}
 use Rattle.registers.specs.Settings.{count, within, accepted}
@@ -37,6 +37,14 @@ decided s row asked t =
     check 108 (leb (length (parameters t)) (greatest r asked)) >>
     check 109 (leb (least r asked) (length (parameters t))) >>
     deedOf s r asked (parameters t)
+
+-- check 1 on the text behind a header, and then those
+unfoldable pub decidedText : Settings → ℕ → Bool → Text → Checked Deed
+decidedText s row asked t = check 101 (every (λ b. white b || printable b) t) >> decided s row asked t
+
+-- checks 1 and 2 on a unit that starts with no header
+unfoldable pub headerRefusal : Text → ℕ
+headerRefusal u = if every (λ b. white b || printable b) u then 102 else 101
 
 -- a unit is refused by an error's number, or leaves its deed and a path
 abbrev pub UnitRead : Settings → List Text → Text → Decision → ℕ → List ℕ → Type 0

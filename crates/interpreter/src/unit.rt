@@ -16,11 +16,12 @@ ghost use mathlib.Core.List.{List};
 ghost use Prim.Native.Nat.{_≤_};
 ghost use lib.ListN.{length, take, drop};
 ghost use Rattle.registers.specs.Text.{Text, every, white, printable};
+ghost use Rattle.registers.specs.Errors.{numberOf};
 ghost use Rattle.interpreter.specs.Cuts.{trim, trimEnd};
 ghost use Rattle.interpreter.specs.RowsParts.{rowCount, commandTable};
 ghost use Rattle.interpreter.specs.HeaderParts.{Holds, Held};
 ghost use Rattle.interpreter.specs.ParameterParts.{meantDeed};
-ghost use Rattle.interpreter.specs.UnitParts.{decided, UnitRead};
+ghost use Rattle.interpreter.specs.UnitParts.{decided, decidedText, headerRefusal, UnitRead};
 
 // What checks 1 to 7 say of a unit, and how many names the path has that it leaves.
 pub(crate) struct Reading {
@@ -87,6 +88,17 @@ fn decide(table: &[u8], settings: Settings, row: usize, asked: bool, text: &[u8]
     }
 }
 
+// Check 1 too: white space is allowed, and so is every byte of a header, so that only the parameters' text is looked at.
+fn decide_text(table: &[u8], settings: Settings, row: usize, asked: bool, text: &[u8]) -> Decision
+    requires { ⌜ (now table ≡ commandTable) × (row ≤ rowCount) × (trim (now text) ≡ now text) ⌝ }
+    ensures { λ r. ⌜ meantDeed r ≡ decidedText settings row asked (now (text .entry)) ⌝ }
+{
+    if !all_allowed(text) {
+        return Decision::Refused(Error::InvalidCharacter);
+    }
+    decide(table, settings, row, asked, text)
+}
+
 // The same on all that stands behind the header, which ends at a place of the unit.
 fn decide_behind(
     table: &[u8],
@@ -97,12 +109,22 @@ fn decide_behind(
     at: usize,
 ) -> Decision
     requires { ⌜ (now table ≡ commandTable) × (row ≤ rowCount) × (at ≤ length (now unit)) ⌝ }
-    ensures { λ r. ⌜ meantDeed r ≡ decided settings row asked (trim (drop at (now (unit .entry)))) ⌝ }
+    ensures { λ r. ⌜ meantDeed r ≡ decidedText settings row asked (trim (drop at (now (unit .entry)))) ⌝ }
 {
     let start = text::white_end(unit, at);
     let behind = &unit[start..];
     let end = trimmed_end(behind);
-    decide(table, settings, row, asked, &behind[0..end])
+    decide_text(table, settings, row, asked, &behind[0..end])
+}
+
+// Checks 1 and 2 on a unit that starts with no header.
+fn header_error(unit: &[u8]) -> Error
+    ensures { λ r. ⌜ numberOf r ≡ headerRefusal (now (unit .entry)) ⌝ }
+{
+    if all_allowed(unit) {
+        return Error::Syntax;
+    }
+    Error::InvalidCharacter
 }
 
 // Reads a unit after the path.
@@ -116,18 +138,12 @@ pub(crate) fn read(
     requires { ⌜ (now table ≡ commandTable) × Held (now path) used ⌝ }
     ensures { λ r. ⌜ ((names : List Text) → Holds names (now (path .entry)) used → UnitRead settings names (now (unit .entry)) (r .decision) (r .used) (now (path .exit))) ⌝ }
 {
-    if !all_allowed(unit) {
-        return Reading {
-            decision: Decision::Refused(Error::InvalidCharacter),
-            used,
-        };
-    }
     let start = text::white_end(unit, 0);
     let looked = header::look_up(table, path, used, &unit[start..]);
     match looked {
         Looked::Bad => {
             return Reading {
-                decision: Decision::Refused(Error::Syntax),
+                decision: Decision::Refused(header_error(unit)),
                 used,
             };
         }

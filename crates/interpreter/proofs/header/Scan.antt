@@ -26,7 +26,7 @@ mark-word : wordByte 63 ≡ false
 unfolding wordByte letter small digit
 mark-word = refl
 
-colon-word : wordByte 58 ≡ false
+pub colon-word : wordByte 58 ≡ false
 unfolding wordByte letter small digit
 colon-word = refl
 
@@ -89,11 +89,11 @@ body-first p z (b ∷ t) e = go (dark b) (start dark t)
 
 -- ---- cut at colons: parts of which the first goes on a name
 
-firstWord : List Text → Bool
+unfoldable pub firstWord : List Text → Bool
 firstWord [] = true
 firstWord (u ∷ us) = every wordByte u && every name us
 
-join-word : (b : ℕ) (c : List Text) → firstWord (joinFirst b c) ≡ (wordByte b && firstWord c)
+pub join-word : (b : ℕ) (c : List Text) → firstWord (joinFirst b c) ≡ (wordByte b && firstWord c)
 unfolding firstWord
 join-word b [] = and-assoc (wordByte b) true true
 join-word b (u ∷ us) = and-assoc (wordByte b) (every wordByte u) (every name us)

@@ -28,12 +28,12 @@ placeOf false true = root
 placeOf false false = here
 
 -- a header by the first byte of its body
-byFirst : Text → Bool → Checked Header
+unfoldable pub byFirst : Text → Bool → Checked Header
 byFirst body q =
     if eqb (first body) 42 then placed common (rest body ∷ []) q
     else (if eqb (first body) 58 then placed root (cutAt 58 (rest body)) q else placed here (cutAt 58 body) q)
 
-header-body : (t : Text) → header t ≡ byFirst (bodyOf t) (asks t)
+pub header-body : (t : Text) → header t ≡ byFirst (bodyOf t) (asks t)
 unfolding header byFirst bodyOf
 header-body t = refl
 

@@ -13,7 +13,7 @@ use Rattle.registers.specs.Text.{Text, white, printable, every}
 abbrev pub allowed : ℕ → Bool
 allowed b = white b || printable b
 
-allowed-is : (b : ℕ) → allowed b ≡ (ltb b 127 && not (eqb b 10))
+pub allowed-is : (b : ℕ) → allowed b ≡ (ltb b 127 && not (eqb b 10))
 unfolding white printable
 allowed-is b = go (eqb b 10) refl
   where

@@ -14,11 +14,12 @@ use Rattle.registers.proofs.text.Laws.{end-drop, end-within}
 use Rattle.interpreter.specs.Cuts.{trim}
 use Rattle.interpreter.specs.Header.{Header, header, isCommon, fullNames, pathAfter}
 use Rattle.interpreter.specs.HeaderParts.{Holds, FoundRow, LookedUp}
+use Rattle.interpreter.specs.Rows.{rows, findRow}
 use Rattle.interpreter.specs.RowsParts.{rowCount}
 use Rattle.interpreter.specs.Parameter.{parameters, least, greatest, deedOf}
 use Rattle.interpreter.specs.Unit.{Read, headerText, parameterText, readUnit}
 use Rattle.interpreter.specs.ParameterParts.{meantDeed}
-use Rattle.interpreter.specs.UnitParts.{roleFound, decided, UnitRead}
+use Rattle.interpreter.specs.UnitParts.{roleFound, decided, decidedText, headerRefusal, UnitRead}
 use Rattle.interpreter.specs.declared.deed.Deed.{Deed}
 use Rattle.interpreter.specs.declared.deed.Role.{Role}
 use Rattle.interpreter.specs.declared.header.Looked.{Looked}
@@ -28,6 +29,7 @@ use Rattle.interpreter.specs.declared.parameter.Decision.the-variants.{R
 use Rattle.interpreter.proofs.Lists.{rest-is}
 use Rattle.interpreter.proofs.header.Laws.{found-most}
 use Rattle.interpreter.proofs.unit.Bytes.{allowed}
+use Rattle.interpreter.proofs.unit.Behind.{allowed-behind}
 use Rattle.interpreter.proofs.unit.Found.{role-found}
 
 -- ---- the header starts at s, and the parameters' text stands behind it
@@ -87,6 +89,11 @@ module _ (s : Settings) (asked : Bool) (ps : List Text) where
   abbrev behindWith : Checked Role → (Deed → Checked Read) → Checked Read
   behindWith m k = full >> m >>= λ r. few r >> enough r >> deedOf s r asked ps >>= k
 
+first-check : {A B : Type 0} (x : Checked (Unit {0})) (m : Checked A) (f : A → Checked B) → ((x >> m) >>= f) ≡ (x >> (m >>= f))
+unfolding _>>_ _>>=_
+first-check (refused n) m f = refl
+first-check (passed _) m f = refl
+
 decided-then : (s : Settings) (row : ℕ) (asked : Bool) (t : Text) (k : Deed → Checked Read)
     → (decided s row asked t >>= k) ≡ behindWith s asked (parameters t) (roleFound row) k
 unfolding decided
@@ -98,33 +105,37 @@ decided-then s row asked t k =
 pub record Headed (s : Settings) (path : List Text) (u : Text) (st row used : ℕ) (asked : Bool) (end : ℕ) (keys : List ℕ) : Type 0 where
   pub within : row ≤ rowCount
   pub left : List Text
-  pub is : readUnit s path u ≡ (decided s row asked (parameterText u) >>= λ d. passed (record { deed = d; path = left }))
+  pub is : readUnit s path u ≡ (decidedText s row asked (parameterText u) >>= λ d. passed (record { deed = d; path = left }))
   pub holds : row < rowCount → Holds left keys used
   pub ends : st + end ≤ length u
   pub behind : trim (drop (st + end) u) ≡ parameterText u
 
 module _ (s : Settings) (path : List Text) (u : Text) where
-  pub bad-byte : every allowed u ≡ false → readUnit s path u ≡ refused 101
-  unfolding readUnit check _>>_
-  bad-byte e = rw e
-
   -- what is left once the header's row is found
-  good-header : every allowed u ≡ true → (h : Header) → header (headerText u) ≡ passed h
+  good-header : (h : Header) → header (headerText u) ≡ passed h
       → {t : Text} {row used end : ℕ} {asked : Bool} {keys : List ℕ} → FoundRow path t h row used asked end keys
       → readUnit s path u
-      ≡ (decided s row asked (parameterText u) >>= λ d. passed (record { deed = d; path = pathAfter (h .place) path (h .names) }))
-  unfolding readUnit check _>>_ _>>=_
-  good-header ok h is {row = row} {asked = asked} f =
+      ≡ (decidedText s row asked (parameterText u) >>= λ d. passed (record { deed = d; path = pathAfter (h .place) path (h .names) }))
+  unfolding readUnit decidedText _>>=_
+  good-header h is {row = row} {asked = asked} f =
       let t = parameterText u in
       let k : Deed → Checked Read = λ d. passed (record { deed = d; path = pathAfter (h .place) path (h .names) }) in
       let role = role-found (isCommon (h .place)) (fullNames (h .place) path (h .names)) (h .query) in
-      let e : readUnit s path u ≡ behindWith s asked (parameters t) (roleFound row) k = rw (ok, is, f .query, f .at, role) in
-      e ∙ sym (decided-then s row asked t k)
+      let e : readUnit s path u ≡ (check 101 (every allowed t) >> behindWith s asked (parameters t) (roleFound row) k) =
+      rw (allowed-behind u h is, is, f .query, f .at, role) in
+      e ∙ ap (λ (m : Checked Read). check 101 (every allowed t) >> m) (sym (decided-then s row asked t k))
+      ∙ sym (first-check (check 101 (every allowed t)) (decided s row asked t) k)
 
-  module _ (ok : every allowed u ≡ true) {st : ℕ} (at : Runs u st) (r : Looked) (keys : List ℕ) (k : LookedUp path (behind u st) r keys) where
-    pub bad-header : r ≡ Bad → readUnit s path u ≡ refused 102
-    unfolding readUnit check _>>_ _>>=_
-    bad-header q = rw (ok, ap (λ (t : Text). header (start dark t)) (sym (at .is)) ∙ rw q at k)
+  module _ {st : ℕ} (at : Runs u st) (r : Looked) (keys : List ℕ) (k : LookedUp path (behind u st) r keys) where
+    pub bad-header : r ≡ Bad → (n : ℕ) → n ≡ headerRefusal u → readUnit s path u ≡ refused n
+    unfolding readUnit headerRefusal check _>>_ _>>=_ if_then_else_
+    bad-header q n e = rw e (go (every allowed u) (ap (λ (t : Text). header (start dark t)) (sym (at .is)) ∙ rw q at k))
+      where
+        go : (ok : Bool) → header (headerText u) ≡ refused 102
+            → (check 101 ok >> header (headerText u) >>= λ h. behindWith s (h .query) (parameters (parameterText u)) (findRow (isCommon (h .place)) (fullNames (h .place) path (h .names)) (h .query) rows) (λ d. passed (record { deed = d; path = pathAfter (h .place) path (h .names) })))
+            ≡ refused (if ok then 102 else 101)
+        go true i = rw i
+        go false i = refl
 
     pub headed : {row used end : ℕ} {asked : Bool} → r ≡ At row used asked end → Headed s path u st row used asked end keys
     headed q =
@@ -134,7 +145,7 @@ module _ (s : Settings) (path : List Text) (u : Text) where
         record {
           within = rw (f .at) (found-most (isCommon (h .place)) (fullNames (h .place) path (h .names)) (h .query));
           left = pathAfter (h .place) path (h .names);
-          is = good-header ok h (ap (λ (t : Text). header (start dark t)) (sym (at .is)) ∙ g .1) f;
+          is = good-header h (ap (λ (t : Text). header (start dark t)) (sym (at .is)) ∙ g .1) f;
           holds = f .left;
           ends = ends-within at _ (f .ends);
           behind = ends-behind at _ (f .ends);
@@ -146,16 +157,21 @@ unfolding _>>_ _>>=_
 none-passes (refused m) n k d e = let z : _≡_ {A = ℕ} 0 1 = cc in omega arith
 none-passes (passed _) n k d e = let z : _≡_ {A = ℕ} 0 1 = cc in omega arith
 
-found-deed : (s : Settings) (row : ℕ) (asked : Bool) (t : Text) (d : Deed) → decided s row asked t ≡ passed d → row < rowCount
-unfolding decided roleFound if_then_else_
-found-deed s row asked t d e = go (ltb row rowCount) refl
+second-passes : {A : Type 0} (x : Checked (Unit {0})) (m : Checked A) (a : A) → (x >> m) ≡ passed a → m ≡ passed a
+unfolding _>>_
+second-passes (refused n) m a e = let z : _≡_ {A = ℕ} 0 1 = cc in absurd (omega arith)
+second-passes (passed _) m a e = e
+
+found-deed : (s : Settings) (row : ℕ) (asked : Bool) (t : Text) (d : Deed) → decidedText s row asked t ≡ passed d → row < rowCount
+unfolding decidedText decided roleFound if_then_else_
+found-deed s row asked t d e = go (ltb row rowCount) refl (second-passes (check 101 (every allowed t)) _ d e)
   where
-    go : (b : Bool) → ltb row rowCount ≡ b → row < rowCount
-    go true q = ltb-true row rowCount q
-    go false q = absurd (none-passes (full s asked (parameters t)) 113 _ d (rw q at e))
+    go : (b : Bool) → ltb row rowCount ≡ b → decided s row asked t ≡ passed d → row < rowCount
+    go true q k = ltb-true row rowCount q
+    go false q k = absurd (none-passes (full s asked (parameters t)) 113 _ d (rw q at k))
 
 module _ (s : Settings) (path : List Text) (u : Text) {st row used end : ℕ} {asked : Bool} {keys : List ℕ} where
-  pub read-to : Headed s path u st row used asked end keys → (d : Decision) → meantDeed d ≡ decided s row asked (parameterText u)
+  pub read-to : Headed s path u st row used asked end keys → (d : Decision) → meantDeed d ≡ decidedText s row asked (parameterText u)
       → UnitRead s path u d used keys
   unfolding _>>=_
   read-to h (noDeed e) is = h .is ∙ rw (sym is)

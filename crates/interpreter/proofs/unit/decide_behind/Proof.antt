@@ -48,22 +48,22 @@ part-behind-end c = le-refl _
 trimmed-end-requires : tie.Need-trimmed-end-requires
 trimmed-end-requires c κs = tt
 
-sub-decide : tie.Need-sub-decide
-sub-decide c = zero-le
+sub-decide-text : tie.Need-sub-decide-text
+sub-decide-text c = zero-le
 
-part-decide-start : tie.Need-part-decide-start
-part-decide-start c = zero-le
+part-decide-text-start : tie.Need-part-decide-text-start
+part-decide-text-start c = zero-le
 
-part-decide-end : tie.Need-part-decide-end
-part-decide-end c = omega arith
+part-decide-text-end : tie.Need-part-decide-text-end
+part-decide-text-end c = omega arith
 
-decide-requires : tie.Need-decide-requires
-decide-requires c κs =
+decide-text-requires : tie.Need-decide-text-requires
+decide-text-requires c κs =
     let p = c .before .before .before .before .before .before .pre in
     (p .0, p .1, rw (handed (c .before)) (trim-twice (behind-of (c .before))))
 
 returns : tie.Need-returns
-returns c = rw (handed (c .before .before)) at (c .decide .ensures)
+returns c = rw (handed (c .before .before)) at (c .decide-text .ensures)
 
 pub decide-behind-spec : {M : Type 1} → statement M
 decide-behind-spec =
@@ -74,8 +74,8 @@ decide-behind-spec =
     part-behind-start
     part-behind-end
     trimmed-end-requires
-    sub-decide
-    part-decide-start
-    part-decide-end
-    decide-requires
+    sub-decide-text
+    part-decide-text-start
+    part-decide-text-end
+    decide-text-requires
     returns)

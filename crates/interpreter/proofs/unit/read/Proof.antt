@@ -1,11 +1,7 @@
 use mathlib.Core.List.{List}
+use Rattle.registers.specs.Text.{Text}
 use Rattle.interpreter.specs.HeaderParts.{Holds}
-use mathlib.Core.Path.{_≡_, sym, _∙_}
-use mathlib.Core.Bool.{true}
-use borrow.Author.Tests.{not-true, not-false}
-use Rattle.registers.specs.Text.{Text, every}
-use Rattle.interpreter.proofs.unit.Bytes.{allowed}
-use Rattle.interpreter.proofs.unit.Whole.{Runs, runs, bad-byte, bad-header, Headed, headed, read-to}
+use Rattle.interpreter.proofs.unit.Whole.{Runs, runs, bad-header, Headed, headed, read-to}
 use native.Mathlib.Omega.{arith}
 use borrow.Author.Needs.{needs}
 use Rattle.interpreter.proofs.unit.read.Statement.{statement}
@@ -13,10 +9,7 @@ use Rattle.interpreter.proofs.unit.read.Tie as tie
 
 -- once the header's start is known
 abbrev entry : tie.After-white-end → tie.Start
-entry p = p .before .before .before .before .before
-
-clean : (p : tie.After-white-end) → every allowed (entry p .args .unit .now) ≡ true
-clean p = sym (p .before .before .all-allowed .ensures) ∙ not-false _ (p .before .if1 .left)
+entry p = p .before .before .before
 
 ran : (p : tie.After-white-end) → Runs (entry p .args .unit .now) (p .white-end .result)
 ran p = runs (entry p .args .unit .now) (p .white-end .result) (p .white-end .ensures)
@@ -35,15 +28,7 @@ row-found p names h =
     let w = white-at p in
     let a = entry w .args in
     let k = p .before .before .look-up in
-    headed (a .settings) names (a .unit .now) (clean w) (ran w) (k .result) (k .last .1 .0) (k .ensures names h) (p .looked .given .1)
-
-all-allowed-requires : tie.Need-all-allowed-requires
-all-allowed-requires c κs = search needs
-
-returns : tie.Need-returns
-returns c =
-    let a = c .before .before .before .before .args in
-    λ names h. bad-byte (a .settings) names (a .unit .now) (sym (c .before .all-allowed .ensures) ∙ not-true _ (c .if1 .taken))
+    headed (a .settings) names (a .unit .now) (ran w) (k .result) (k .last .1 .0) (k .ensures names h) (p .looked .given .1)
 
 white-end-requires : tie.Need-white-end-requires
 white-end-requires c κs = search needs
@@ -63,12 +48,15 @@ look-up-requires c κs = search needs
 enum-told : tie.Need-enum-told
 enum-told c = search needs
 
-returns-2 : tie.Need-returns-2
-returns-2 c =
-    let w = c .before .before .before .before .before in
+header-error-requires : tie.Need-header-error-requires
+header-error-requires c κs = search needs
+
+returns : tie.Need-returns
+returns c =
+    let w = c .before .before .before .before .before .before in
     let a = entry w .args in
-    let k = c .before .before .look-up in
-    λ names h. bad-header (a .settings) names (a .unit .now) (clean w) (ran w) (k .result) (k .last .1 .0) (k .ensures names h) (c .enum-told .given .1)
+    let k = c .before .before .before .look-up in
+    λ names h. bad-header (a .settings) names (a .unit .now) (ran w) (k .result) (k .last .1 .0) (k .ensures names h) (c .before .enum-told .given .1) _ (c .header-error .ensures)
 
 enum-known-looked : tie.Need-enum-known-looked
 enum-known-looked c = search needs
@@ -85,8 +73,8 @@ decide-behind-requires c κs =
     let f = row-found (c .before) (h .0) (h .1) in
     (entry (white-at (c .before)) .pre .0, f .within, f .ends)
 
-returns-3 : tie.Need-returns-3
-returns-3 c =
+returns-2 : tie.Need-returns-2
+returns-2 c =
     let l = c .before .before in
     let a = entry (white-at l) .args in
     λ names h.
@@ -97,16 +85,15 @@ pub read-spec : {M : Type 1} → statement M
 read-spec =
     tie.close
     (tie.spec
-    all-allowed-requires
-    returns
     white-end-requires
     sub-look-up
     part-look-up-start
     part-look-up-end
     look-up-requires
     enum-told
-    returns-2
+    header-error-requires
+    returns
     enum-known-looked
     add-decide-behind
     decide-behind-requires
-    returns-3)
+    returns-2)
