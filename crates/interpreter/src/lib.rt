@@ -3,7 +3,7 @@
 //
 // A caller needs `state` alone: State::power_up, piece, take, condition and look. None of them has a
 // `requires`; each says of any record and any bytes what it answers.
-pub mod deed;
+mod deed;
 mod flow;
 mod header;
 mod line;
