@@ -7,4 +7,3 @@ pub mod Numbers
 pub mod Walks
 pub mod Start
 pub mod Search
-pub mod Table

@@ -4,5 +4,4 @@ pub mod Behind
 pub mod Found
 pub mod Laws
 pub mod Whole
-pub mod Checks
 pub mod Allowed

@@ -16,7 +16,7 @@ use Rattle.interpreter.specs.Events.{Event, started, received, take, con
 use Rattle.interpreter.specs.Histories.{single, newline, moments, Recut, resultsOf, summed, counted}
 use Rattle.interpreter.specs.Demand3.{inLine, keep}
 use Rattle.interpreter.proofs.Choices.{if₂}
-use Rattle.interpreter.proofs.demands.Pieces.{newlines-append}
+use Rattle.interpreter.proofs.line.Pieces.{newlines-append}
 use Rattle.interpreter.proofs.demands.Keeping.{plain}
 
 -- how many lines the pieces end, by their bytes

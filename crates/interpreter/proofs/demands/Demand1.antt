@@ -24,7 +24,7 @@ use Rattle.interpreter.specs.Demand1.{numberFor, refusalOf, leaves, Refu
 use Rattle.interpreter.specs.declared.deed.Deed.{Deed}
 use Rattle.interpreter.specs.declared.deed.Deed.the-variants.{Change, Complete, Clear, Query, Inquire}
 use Rattle.interpreter.specs.declared.state.State.{State}
-use Rattle.interpreter.proofs.unit.Checks.{Holds, Any, passes, hold-bind, hold-check, holds-from, at-refused}
+use Rattle.interpreter.proofs.Checks.{Holds, Any, passes, hold-bind, hold-check, holds-from, at-refused}
 use Rattle.interpreter.proofs.unit.Allowed.{read-known}
 use Rattle.interpreter.proofs.perform.Permitted.{hold-permitted}
 use Rattle.interpreter.proofs.Choices.{if-elim, if₂, if-opposite}

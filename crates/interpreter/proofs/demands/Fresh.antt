@@ -19,7 +19,7 @@ use Rattle.interpreter.specs.declared.deed.Change.the-variants.{Nothing,
 use Rattle.interpreter.specs.declared.deed.Query as queries
 use Rattle.interpreter.specs.declared.deed.Query.the-variants.{Identity, SelfTest, Completed, Limit, Value, Stored, Condition, SetEvents}
 use Rattle.interpreter.proofs.Choices.{if-elim}
-use Rattle.interpreter.proofs.unit.Checks.{Holds, Any, passes, hold-bind, hold-check, holds-from}
+use Rattle.interpreter.proofs.Checks.{Holds, Any, passes, hold-bind, hold-check, holds-from}
 use Rattle.interpreter.proofs.unit.Allowed.{read-known}
 use Rattle.interpreter.proofs.perform.Permitted.{hold-permitted}
 use Rattle.interpreter.proofs.demands.Pieces.{newline-after}

@@ -41,7 +41,7 @@ use Rattle.interpreter.specs.declared.deed.Query.the-variants.{Identity,
 use Rattle.interpreter.specs.declared.state.State.{State}
 use Rattle.interpreter.proofs.demands.Calls.{chunk-after}
 use Rattle.interpreter.proofs.Choices.{if-elim}
-use Rattle.interpreter.proofs.unit.Checks.{Holds, passes, hold-bind, hold-check, holds-from}
+use Rattle.interpreter.proofs.Checks.{Holds, passes, hold-bind, hold-check, holds-from}
 use Rattle.interpreter.proofs.unit.Allowed.{read-allowed, read-known}
 use Rattle.interpreter.proofs.perform.Permitted.{Lets, hold-permitted}
 

@@ -3,31 +3,11 @@
 use mathlib.Core.Path.{_≡_, refl, sym, _∙_, ap}
 use mathlib.Core.Bool.{Bool, true, false}
 use mathlib.Core.List.{List, [], _∷_, _++_, map}
-use Prim.Native.Nat.{suc, _+_}
-use native.Mathlib.Omega.{arith}
-use lib.Dec.{eqb}
 use Rattle.registers.specs.Text.{Text, if_then_else_}
 use Rattle.interpreter.specs.Box.{Box}
-use Rattle.interpreter.specs.Line.{endLine, byte, piece, newlines}
+use Rattle.interpreter.specs.Line.{endLine, byte, piece}
 use Rattle.interpreter.specs.Events.{Event, started, received, take, condition, look, Result, happens, after}
 use Rattle.interpreter.specs.Histories.{single, newline, moments, Recut, resultsOf}
-
--- ---- pieces
-
-pub piece-append : (b : Box) (xs ys : Text) → piece b (xs ++ ys) ≡ piece (piece b xs) ys
-unfolding piece
-piece-append b [] ys = refl
-piece-append b (x ∷ xs) ys = piece-append (byte b x) xs ys
-
-pub newlines-append : (xs ys : Text) → newlines (xs ++ ys) ≡ newlines xs + newlines ys
-unfolding newlines if_then_else_
-newlines-append [] ys = omega arith
-newlines-append (x ∷ xs) ys = go (eqb x 10) (newlines-append xs ys)
-  where
-    go : (t : Bool) → newlines (xs ++ ys) ≡ newlines xs + newlines ys
-        → (if t then suc (newlines (xs ++ ys)) else newlines (xs ++ ys)) ≡ (if t then suc (newlines xs) else newlines xs) + newlines ys
-    go true ih = omega arith
-    go false ih = ih
 
 -- ---- histories, part by part
 

@@ -19,7 +19,7 @@ use Rattle.interpreter.specs.FlowParts.{flowBox, FlowFits, firstLine, Fl
 use Rattle.interpreter.specs.declared.flow.Flow.{Flow}
 use Rattle.interpreter.proofs.Lists.{rest-is}
 use Rattle.interpreter.proofs.line.Units.{place}
-use Rattle.interpreter.proofs.demands.Pieces.{piece-append, newlines-append}
+use Rattle.interpreter.proofs.line.Pieces.{piece-append, newlines-append}
 
 -- ---- a text laid over another
 

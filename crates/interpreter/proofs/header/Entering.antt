@@ -16,7 +16,7 @@ use Rattle.interpreter.specs.NameParts.{codeOf, withCode, keyFrom, keyOf
 use Rattle.interpreter.specs.HeaderParts.{mostNames, asksIn, namesIn, unasked, Entered, TailRead, NamesRead}
 use Rattle.interpreter.specs.declared.name.Name.{Name}
 use Rattle.interpreter.specs.declared.header.Names.{Names}
-use Rattle.interpreter.proofs.name.Codes.{letter-word, code-some}
+use Rattle.interpreter.proofs.table.Codes.{letter-word, code-some}
 use Rattle.interpreter.proofs.header.Scan.{scan-none, scan-on, scan-on-asks, scan-on-length, scan-last, scan-last-asks, scan-last-length, scan-bad}
 
 -- ---- a name is entered

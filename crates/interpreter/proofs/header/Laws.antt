@@ -13,7 +13,7 @@ use Rattle.interpreter.specs.Rows.{Row, rows, fitsRow, findRow, hasForm,
 use Rattle.interpreter.specs.RowsParts.{rowCount, roleAt, firstFit, rowOf}
 use Rattle.interpreter.specs.declared.deed.Role.{Role}
 use Rattle.interpreter.specs.declared.deed.Role.the-variants.{Setting as setting}
-use Rattle.interpreter.proofs.rows.Rows.{rows-many}
+use Rattle.interpreter.proofs.table.Lengths.{rows-many}
 
 module _ (star : Bool) (names : List Text) (asked : Bool) where
   abbrev fits : Row → Bool

@@ -9,7 +9,7 @@ use Rattle.registers.specs.Text.{Text, if_then_else_, letter, small, wordByte, 
 use Rattle.registers.proofs.text.Laws.{first-at, first-within, start-more, start-stop, start-end, OnWay, way-on, way-stop, way-end}
 use Rattle.interpreter.specs.NameParts.{codeOf, withCode, keyFrom, keyOf, nameIn, RestRead, NameRead}
 use Rattle.interpreter.specs.declared.name.Name.{Name}
-use Rattle.interpreter.proofs.name.Codes.{letter-word, code-some, code-none}
+use Rattle.interpreter.proofs.table.Codes.{letter-word, code-some, code-none}
 
 -- ---- a byte by its code
 

@@ -23,7 +23,7 @@ use Rattle.interpreter.specs.declared.deed.Change as changes
 use Rattle.interpreter.specs.declared.deed.Change.the-variants.{Nothing, Put, Reset, Store}
 use Rattle.interpreter.proofs.deed.Deed as deeds
 use Rattle.interpreter.proofs.deed.Change as orders
-use Rattle.interpreter.proofs.unit.Checks.{Holds, refuses-by}
+use Rattle.interpreter.proofs.Checks.{Holds, refuses-by}
 
 -- ---- what is let pass is not blocked under the lock, and makes no conflict
 

@@ -22,7 +22,7 @@ use Rattle.interpreter.specs.DeedsParts.{textOf, RepliesWith}
 use Rattle.interpreter.specs.declared.parameter.Takes.{Takes}
 use Rattle.interpreter.specs.declared.reply.Reply.the-variants.{Word}
 use Rattle.interpreter.proofs.Lists.{same-eq, every-at, table-at}
-use Rattle.interpreter.proofs.rows.Table.{words-from}
+use Rattle.interpreter.proofs.table.Cells.{words-from}
 
 -- ---- a word has its short form's length in its first cell and the short form from its third on
 

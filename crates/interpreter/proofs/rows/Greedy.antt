@@ -15,7 +15,7 @@ use Rattle.interpreter.specs.Rows.{Row, rows, settingRows, otherRows}
 use Rattle.interpreter.specs.NameParts.{keyOf}
 use Rattle.interpreter.specs.RowsParts.{greedy}
 use Rattle.interpreter.proofs.Lists.{same-eq}
-use Rattle.interpreter.proofs.name.Keys.{capitals, key-matches}
+use Rattle.interpreter.proofs.table.Keys.{capitals, key-matches}
 
 abbrev pub wordOf : Node → String
 wordOf (must w) = w

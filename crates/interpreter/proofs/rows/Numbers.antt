@@ -16,7 +16,8 @@ use Rattle.interpreter.specs.Rows.{Row, rows, hasForm, sameBool, fitsRow
 use Rattle.interpreter.specs.NameParts.{keyOf}
 use Rattle.interpreter.specs.RowsParts.{rowCount, firstFit, rowOf, keyMatches, greedy, fitsKeys, rowOfKeys}
 use Rattle.interpreter.proofs.rows.Greedy.{clear, rows-clear, greedy-spells}
-use Rattle.interpreter.proofs.rows.Rows.{few, rows-few, rows-many}
+use Rattle.interpreter.proofs.rows.Rows.{few, rows-few}
+use Rattle.interpreter.proofs.table.Lengths.{rows-many}
 
 -- ---- a search by one test finds what a search by another finds, if the tests agree on every row
 

@@ -15,14 +15,12 @@ use Rattle.registers.specs.Words.{Node, must}
 use Rattle.registers.specs.Settings.{table}
 use Rattle.registers.proofs.Tests.{and-assoc}
 use Rattle.interpreter.specs.Rows.{Row, plain, rows, settingRows, otherRows, hasForm, sameBool}
-use Rattle.interpreter.specs.RowsParts.{rowBytes, nodeCount, rowCount, nodeList, nodeAt, placeIn, nodeByte, formByte, rowRow, rowTableOf, rowTable, greedy, fitsKeys, nodeOf, wordIn, rowCell, formBit, formed}
+use Rattle.interpreter.specs.RowsParts.{nodeCount, rowCount, nodeList, nodeAt, placeIn, nodeByte, formByte, rowRow, rowTableOf, rowTable, greedy, fitsKeys, nodeOf, wordIn, rowCell, formBit, formed}
 use Rattle.interpreter.specs.declared.deed.Role.the-variants.{Setting as setting}
-use Rattle.interpreter.proofs.Lists.{every-at, map-at, getD-map, cell-at, table-length}
+use Rattle.interpreter.proofs.Lists.{every-at, map-at, getD-map, cell-at}
+use Rattle.interpreter.proofs.table.Lengths.{rows-many, rows-wide}
 
 -- ---- computed once over all rows
-
-abbrev wide : Row → Bool
-wide r = eqb (length (rowRow r)) 8
 
 abbrev pub few : Row → Bool
 few r = leb (length (r .nodes)) 5
@@ -47,14 +45,6 @@ bitSet star asked r = not (eqb (bitAnd (formByte r) (formBit star asked)) 0)
 abbrev has : Bool → Bool → Row → Bool
 has star asked r = sameBool star (r .star) && hasForm asked (r .role)
 
-pub rows-many : length rows ≡ rowCount
-unfolding rows settingRows otherRows table
-rows-many = refl
-
-rows-wide : every wide rows ≡ true
-unfolding rows settingRows otherRows table rowRow
-rows-wide = refl
-
 pub rows-few : every few rows ≡ true
 unfolding rows settingRows otherRows table
 rows-few = refl
@@ -74,13 +64,6 @@ forms-back true true = refl
 forms-back true false = refl
 forms-back false true = refl
 forms-back false false = refl
-
-pub table-long : length rowTable ≡ rowBytes
-unfolding rowTable rowTableOf
-table-long =
-    let n = rows-many in
-    let e = table-length rowRow 8 rowTableOf refl (λ x xs. refl) rows rows-wide in
-    omega arith
 
 -- ---- one row's cells
 

@@ -15,7 +15,8 @@ use Rattle.interpreter.specs.RowsParts.{rowCount, firstFit, greedy, fits
 use Rattle.interpreter.specs.declared.rows.Walk.{Walk}
 use Rattle.interpreter.specs.declared.rows.Walk.the-variants.{To, Missed}
 use Rattle.interpreter.proofs.rows.Start.{same-row, start-most}
-use Rattle.interpreter.proofs.rows.Rows.{rows-many, none, rowAt, count-cell, nodes-from, fits-is}
+use Rattle.interpreter.proofs.table.Lengths.{rows-many}
+use Rattle.interpreter.proofs.rows.Rows.{none, rowAt, count-cell, nodes-from, fits-is}
 
 -- ---- over the rows
 

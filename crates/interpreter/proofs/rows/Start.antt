@@ -20,7 +20,7 @@ use Rattle.interpreter.specs.Rows.{Row, rows, settingRows, otherRows, ha
 use Rattle.interpreter.specs.NameParts.{codeOf, withCode, keyFrom, keyOf}
 use Rattle.interpreter.specs.RowsParts.{rowCount, firstFit, keyMatches, greedy, fitsKeys, rowOfKeys, withLetter, markFrom, markOf, canMark, startOf, Marked}
 use Rattle.interpreter.proofs.rows.Greedy.{wordOf}
-use Rattle.interpreter.proofs.rows.Rows.{rows-many}
+use Rattle.interpreter.proofs.table.Lengths.{rows-many}
 
 -- ---- a word's first letter stands lowest in the numbers of both its forms
 

@@ -5,28 +5,21 @@ use mathlib.Core.List.{_++_}
 use Prim.Native.Nat.{ℕ, suc, _+_, _-_, _≤_, _<_}
 use Prim.Native.String.{String}
 use native.Mathlib.Omega.{arith}
-use lib.Dec.{eqb, ltb}
+use lib.Dec.{ltb}
 use lib.ListN.{length, getD, take, drop, length-append, length-take, length-replicate, replicate, List·getD-append}
 use borrow.Author.Tests.{eqb-true, ltb-true}
 use Rattle.registers.specs.Text.{Text, if_then_else_, bytes, small, capital, same, every}
 use Rattle.registers.specs.Words.{shortForm, longForm}
-use Rattle.interpreter.specs.RowsParts.{wordBytes, wordCount, wordList, wordAt, wordRow, wordTableOf, wordTable, wordCell}
-use Rattle.interpreter.proofs.Lists.{same-eq, every-at, cell-at, table-length}
+use Rattle.interpreter.specs.RowsParts.{wordCount, wordList, wordAt, wordRow, wordTableOf, wordTable, wordCell}
+use Rattle.interpreter.proofs.Lists.{same-eq, every-at, cell-at}
+use Rattle.interpreter.proofs.table.Lengths.{wordWide, words-wide, words-many}
 
--- the tests over all words: each has a row of sixteen bytes, and its long form starts with its short one, that is not
--- empty
-abbrev wide : String → Bool
-wide w = eqb (length (wordRow w)) 16
-
+-- the tests over all words: the long form starts with the short one, which is not empty
 abbrev starts : String → Bool
 starts w = same (shortForm w) (take (length (shortForm w)) (longForm w))
 
 abbrev some : String → Bool
 some w = ltb 0 (length (shortForm w))
-
-rows-wide : every wide wordList ≡ true
-unfolding wordList wordRow shortForm longForm bytes small capital if_then_else_
-rows-wide = refl
 
 short-starts : every starts wordList ≡ true
 unfolding wordList shortForm longForm bytes small capital if_then_else_ same
@@ -35,17 +28,6 @@ short-starts = refl
 short-not-empty : every some wordList ≡ true
 unfolding wordList shortForm bytes small if_then_else_
 short-not-empty = refl
-
-words-many : length wordList ≡ wordCount
-unfolding wordList
-words-many = refl
-
-pub words-long : length wordTable ≡ wordBytes
-unfolding wordTable wordTableOf
-words-long =
-    let n = words-many in
-    let e = table-length wordRow 16 wordTableOf refl (λ x xs. refl) wordList rows-wide in
-    omega arith
 
 module _ (w : ℕ) (h : w < wordCount) where
   abbrev short : Text
@@ -59,7 +41,7 @@ module _ (w : ℕ) (h : w < wordCount) where
 
   cell : (i : ℕ) → wordCell w i ≡ getD (wordRow (wordAt w) ++ wordTableOf (drop (suc w) wordList)) i 0
   unfolding wordTable wordTableOf wordAt wordCell
-  cell i = cell-at wordRow 16 wordTableOf refl (λ x xs. refl) wordList rows-wide w "" within i
+  cell i = cell-at wordRow 16 wordTableOf refl (λ x xs. refl) wordList words-wide w "" within i
 
   pub short-cell : wordCell w 0 ≡ length short
   unfolding wordRow
@@ -81,7 +63,7 @@ module _ (w : ℕ) (h : w < wordCount) where
   long-small : length long ≤ 14
   unfolding wordRow wordAt
   long-small =
-      let e : length (wordRow (wordAt w)) ≡ 16 = eqb-true (length (wordRow (wordAt w))) 16 (every-at wide wordList w "" rows-wide within) in
+      let e : length (wordRow (wordAt w)) ≡ 16 = eqb-true (length (wordRow (wordAt w))) 16 (every-at wordWide wordList w "" words-wide within) in
       let a = length-append long (replicate (14 - length long) 0) in
       let z = length-replicate {A = ℕ} (14 - length long) 0 in
       omega arith

@@ -29,7 +29,7 @@ use Rattle.interpreter.specs.Unit.{raisable, Read, readUnit}
 use Rattle.interpreter.specs.UnitParts.{Allowed}
 use Rattle.interpreter.specs.declared.deed.Role.{Role}
 use Rattle.interpreter.specs.declared.deed.Role.the-variants.{Setting as setting, Register as register, Order, Question}
-use Rattle.interpreter.proofs.unit.Checks.{Holds, Any, refuses-by, passes, hold-bind, hold-check, hold-if, at-passed, at-refused}
+use Rattle.interpreter.proofs.Checks.{Holds, Any, refuses-by, passes, hold-bind, hold-check, hold-if, at-passed, at-refused}
 
 -- ---- each reader refuses by such a number
 

@@ -17,7 +17,7 @@ use Rattle.interpreter.specs.declared.deed.Role.{Role}
 use Rattle.interpreter.specs.declared.deed.Role.the-variants.{Setting, Register, Order, Question}
 use Rattle.interpreter.proofs.Lists.{every-at}
 use Rattle.interpreter.proofs.header.Laws.{found-none, found-role}
-use Rattle.interpreter.proofs.rows.Rows.{rows-many}
+use Rattle.interpreter.proofs.table.Lengths.{rows-many}
 
 pub role-found : (star : Bool) (names : List Text) (asked : Bool) → findRow star names asked rows ≡ roleFound (rowOf star names asked)
 unfolding roleFound if_then_else_

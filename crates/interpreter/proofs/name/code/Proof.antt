@@ -2,7 +2,8 @@ use mathlib.Core.Path.{ap}
 use Prim.Native.Nat.{_+_}
 use lib.ListN.{length}
 use Rattle.interpreter.specs.RowsParts.{firstCode}
-use Rattle.interpreter.proofs.rows.Table.{commands-long, code-byte}
+use Rattle.interpreter.proofs.table.Lengths.{commands-long}
+use Rattle.interpreter.proofs.table.Cells.{code-byte}
 use native.Mathlib.Omega.{arith}
 use borrow.Author.Needs.{needs}
 use Rattle.interpreter.proofs.name.code.Statement.{statement}

@@ -1,6 +1,6 @@
 use mathlib.Core.Path.{sym, _∙_}
 use borrow.Author.Tests.{not-true, not-false}
-use Rattle.interpreter.proofs.name.Codes.{code-small}
+use Rattle.interpreter.proofs.table.Codes.{code-small}
 use Rattle.interpreter.proofs.name.Laws.{no-name, name-within, whole-name}
 use native.Mathlib.Omega.{arith}
 use borrow.Author.Needs.{needs}

@@ -1,7 +1,7 @@
 use Prim.Native.Nat.{_-_}
 use lib.ListN.{length}
 use Rattle.interpreter.proofs.Lists.{fewer}
-use Rattle.interpreter.proofs.name.Codes.{code-small}
+use Rattle.interpreter.proofs.table.Codes.{code-small}
 use Rattle.interpreter.proofs.name.Laws.{Spelled, spelled-none, spelled-on, spelled-stop, spelled-end}
 use native.Mathlib.Omega.{arith}
 use Rattle.interpreter.proofs.name.read_rest.Statement.{statement}

@@ -11,7 +11,7 @@ use Rattle.registers.proofs.answer.Signs.{size-plus}
 use Rattle.interpreter.specs.Parameter.{wordsOf}
 use Rattle.interpreter.specs.RowsParts.{wordCount, wordAt}
 use Rattle.interpreter.specs.DeedsParts.{placeText, textOf}
-use Rattle.interpreter.proofs.rows.Table.{commands-long}
+use Rattle.interpreter.proofs.table.Lengths.{commands-long}
 use Rattle.interpreter.proofs.reply.Words.{word-said, place-none, place-word, not-minus}
 use Rattle.interpreter.proofs.reply.to_word.Statement.{statement}
 use Rattle.interpreter.proofs.reply.to_word.Tie as tie

@@ -7,7 +7,7 @@ use mir.Facts.{toZ-ofZ}
 use Rattle.registers.specs.Text.{bytes}
 use Rattle.registers.proofs.answer.Laws.{laid-whole, laid-none}
 use Rattle.interpreter.specs.DeedsParts.{textOf}
-use Rattle.interpreter.proofs.rows.Table.{commands-long}
+use Rattle.interpreter.proofs.table.Lengths.{commands-long}
 use Rattle.interpreter.proofs.reply.write.Statement.{statement}
 use Rattle.interpreter.proofs.reply.write.Tie as tie
 

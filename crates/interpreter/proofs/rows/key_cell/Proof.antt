@@ -1,6 +1,7 @@
 use mathlib.Core.Path.{ap}
 use lib.ListN.{length}
-use Rattle.interpreter.proofs.rows.Table.{commands-long, key-read}
+use Rattle.interpreter.proofs.table.Lengths.{commands-long}
+use Rattle.interpreter.proofs.table.Cells.{key-read}
 use native.Mathlib.Omega.{arith}
 use borrow.Author.Needs.{needs}
 use Rattle.interpreter.proofs.rows.key_cell.Statement.{statement}

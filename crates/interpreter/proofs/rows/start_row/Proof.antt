@@ -3,7 +3,8 @@ use native.Mathlib.Omega.{arith}
 use Prim.Native.Nat.{_+_}
 use lib.ListN.{length}
 use Rattle.interpreter.specs.RowsParts.{firstStart, startOf}
-use Rattle.interpreter.proofs.rows.Table.{commands-long, start-byte}
+use Rattle.interpreter.proofs.table.Lengths.{commands-long}
+use Rattle.interpreter.proofs.table.Cells.{start-byte}
 use borrow.Author.Needs.{needs}
 use Rattle.interpreter.proofs.rows.start_row.Statement.{statement}
 use Rattle.interpreter.proofs.rows.start_row.Tie as tie

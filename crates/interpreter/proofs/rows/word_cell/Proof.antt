@@ -1,7 +1,8 @@
 use mathlib.Core.Path.{ap}
 use native.Mathlib.Omega.{arith}
 use lib.ListN.{length}
-use Rattle.interpreter.proofs.rows.Table.{commands-long, word-byte}
+use Rattle.interpreter.proofs.table.Lengths.{commands-long}
+use Rattle.interpreter.proofs.table.Cells.{word-byte}
 use Rattle.interpreter.proofs.rows.word_cell.Statement.{statement}
 use Rattle.interpreter.proofs.rows.word_cell.Tie as tie
 

@@ -1,45 +1,19 @@
--- The words, the rows, the numbers, the codes and the starts in one table: where each cell stands.
+-- Where each cell stands in the one table of words, rows, numbers, codes and starts. The table is those five parts one after the
+-- other, so a byte at a part's start and i is the part's byte i; a word's number is eight such bytes.
 use mathlib.Core.Path.{_≡_, refl, sym, _∙_, ap}
-use mathlib.Core.Bool.{Bool, true}
 use mathlib.Core.List.{_++_}
 use Prim.Native.Nat.{ℕ, zero, suc, _+_, _*_, _<_, _≤_}
-use Prim.Native.String.{String}
 use native.Mathlib.Omega.{arith}
-use lib.Dec.{eqb}
-use lib.ListN.{length, getD, drop, length-append, List·getD-append}
+use lib.ListN.{length, getD, drop, List·getD-append}
 use lib.Seq.{drop-append-le, drop-append-add, drop-drop, getD-append-add, getD-drop}
-use Rattle.registers.specs.Text.{Text, if_then_else_, every}
+use Rattle.registers.specs.Text.{Text, if_then_else_}
 use Rattle.registers.specs.Words.{shortForm, longForm}
 use Rattle.interpreter.specs.NameParts.{codeOf, keyOf}
-use Rattle.interpreter.specs.RowsParts.{tableBytes, wordBytes, rowBytes, keyBytes, firstKey, firstCode, firstStart, wordCount, rowCount, nodeCount, nodeList, nodeAt, wordTable, rowTable, eight, keyRow, keyTableOf, keyTable, listFrom, codeTable, startOf, startTable, searchTable, commandTable, wordCell, rowCell, quadAt, keyCell}
-use Rattle.interpreter.proofs.Lists.{table-at, table-length}
-use Rattle.interpreter.proofs.rows.Words.{words-long}
-use Rattle.interpreter.proofs.rows.Rows.{table-long}
+use Rattle.interpreter.specs.RowsParts.{wordBytes, keyBytes, firstKey, firstCode, firstStart, wordCount, rowCount, nodeCount, nodeList, nodeAt, wordTable, rowTable, eight, keyRow, keyTableOf, keyTable, listFrom, codeTable, startOf, startTable, searchTable, commandTable, wordCell, rowCell, quadAt, keyCell}
+use Rattle.interpreter.proofs.Lists.{table-at}
+use Rattle.interpreter.proofs.table.Lengths.{words-long, rows-long, nodes-many, keys-wide, keys-long, lists, codes-long}
 
--- ---- how long each part is
-
-abbrev wide : String → Bool
-wide w = eqb (length (keyRow w)) 16
-
-keys-wide : every wide nodeList ≡ true
-unfolding nodeList keyRow
-keys-wide = refl
-
-nodes-many : length nodeList ≡ nodeCount
-unfolding nodeList
-nodes-many = refl
-
-keys-long : length keyTable ≡ keyBytes
-unfolding keyTable keyTableOf
-keys-long =
-    let n = nodes-many in
-    let e = table-length keyRow 16 keyTableOf refl (λ x xs. refl) nodeList keys-wide in
-    omega arith
-
-list-length : (f : ℕ → ℕ) (i n : ℕ) → length (listFrom i n f) ≡ n
-unfolding listFrom
-list-length f i zero = refl
-list-length f i (suc n) = ap suc (list-length f (suc i) n)
+-- ---- where a cell stands
 
 list-at : (f : ℕ → ℕ) (i n k : ℕ) → k < n → getD (listFrom i n f) k 0 ≡ f (i + k)
 unfolding listFrom
@@ -47,37 +21,11 @@ list-at f i zero k h = absurd (omega arith)
 list-at f i (suc n) zero h = let e : i ≡ i + 0 = omega arith in ap f e
 list-at f i (suc n) (suc k) h = let e : suc i + k ≡ i + suc k = omega arith in list-at f (suc i) n k (omega arith) ∙ ap f e
 
--- behind the numbers
-abbrev lists : Text
-lists = codeTable ++ startTable
-
-codes-long : length codeTable ≡ 256
-unfolding codeTable
-codes-long = list-length codeOf 0 256
-
-lists-long : length lists ≡ 512
-unfolding startTable
-lists-long = let c = codes-long in let s = list-length startOf 0 256 in length-append codeTable startTable ∙ omega arith
-
-search-long : length searchTable ≡ rowBytes + (keyBytes + 512)
-unfolding searchTable
-search-long =
-    let r = table-long in
-    let k = keys-long in
-    let c = lists-long in
-    omega (arith, length-append rowTable (keyTable ++ lists), length-append keyTable lists)
-
-pub commands-long : length commandTable ≡ tableBytes
-unfolding commandTable
-commands-long = let w = words-long in let s = search-long in omega (arith, length-append wordTable searchTable)
-
--- ---- where a cell stands
-
 pub word-byte : (w i : ℕ) → w < wordCount → i < 16 → getD commandTable (w * 16 + i) 0 ≡ wordCell w i
 unfolding commandTable wordCell
 word-byte w i h k = let l = words-long in List·getD-append wordTable searchTable 0 (w * 16 + i) (omega arith)
 
--- from a word on, the rest of the table stands behind the words
+-- after the words' n first bytes come the rest of the words and then the other parts
 pub words-from : (n : ℕ) → n ≤ wordBytes → drop n commandTable ≡ drop n wordTable ++ searchTable
 unfolding commandTable
 words-from n h = let l = words-long in drop-append-le n wordTable searchTable (omega arith)
@@ -92,15 +40,15 @@ behind-words i =
 pub row-byte : (r i : ℕ) → r < rowCount → i < 8 → getD commandTable (wordBytes + r * 8 + i) 0 ≡ rowCell r i
 unfolding searchTable rowCell
 row-byte r i h k =
-    let l = table-long in
+    let l = rows-long in
     let e : wordBytes + r * 8 + i ≡ wordBytes + (r * 8 + i) = omega arith in
     rw e (behind-words (r * 8 + i) ∙ List·getD-append rowTable (keyTable ++ lists) 0 (r * 8 + i) (omega arith))
 
--- behind the rows and the numbers
+-- a byte of what comes after the numbers
 behind-keys : (i : ℕ) → getD commandTable (firstCode + i) 0 ≡ getD lists i 0
 unfolding searchTable
 behind-keys i =
-    let r = table-long in
+    let r = rows-long in
     let k = keys-long in
     let e : firstCode + i ≡ wordBytes + (length rowTable + (length keyTable + i)) = omega arith in
     rw e
@@ -125,12 +73,12 @@ start-byte x h =
 
 -- ---- the numbers of a node's word
 
--- from a number on
+-- what is left of the table at a word's numbers
 keys-from : (x : ℕ) → x ≤ keyBytes → drop (firstKey + x) commandTable ≡ drop x keyTable ++ lists
 unfolding commandTable searchTable
 keys-from x h =
     let w = words-long in
-    let r = table-long in
+    let r = rows-long in
     let k = keys-long in
     let e : firstKey + x ≡ length wordTable + (length rowTable + x) = omega arith in
     rw e

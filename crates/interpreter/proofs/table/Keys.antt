@@ -17,7 +17,7 @@ use Rattle.registers.proofs.Tests.{and-both, and-true}
 use Rattle.interpreter.specs.NameParts.{codeOf, withCode, keyFrom, keyOf}
 use Rattle.interpreter.specs.RowsParts.{keyMatches}
 use Rattle.interpreter.proofs.Lists.{same-eq, same-refl}
-use Rattle.interpreter.proofs.name.Codes.{upper, upper-letter, letter-word, code-small, code-some, same-letter, capital-same}
+use Rattle.interpreter.proofs.table.Codes.{upper, upper-letter, letter-word, code-small, code-some, same-letter, capital-same}
 
 -- ---- codes as the places of a number, the lowest first: as many as there are, and in 64 bits
 
