@@ -4,10 +4,10 @@ use Rattle.interpreter.specs.Deeds.{changed, perform}
 use Rattle.interpreter.specs.Histories.{noPiece}
 use Rattle.interpreter.specs.Demand2.{ResetsOnly, ClearsOnly, Demand2}
 use Rattle.interpreter.proofs.line.Pieces.{piece-append, newlines-append}
-use Rattle.interpreter.proofs.demands.Pieces.{recut-state, recut-results}
-use Rattle.interpreter.proofs.demands.Counts.{recut-counts}
+use Rattle.interpreter.proofs.demands.histories.Pieces.{recut-state, recut-results}
+use Rattle.interpreter.proofs.demands.histories.NewlineCounts.{recut-counts}
 use Rattle.interpreter.proofs.demands.Limits.{within-limits, within-range}
-use Rattle.interpreter.proofs.demands.RoundTrip.{query-answers, round-trip}
+use Rattle.interpreter.proofs.demands.trip.RoundTrip.{query-answers, round-trip}
 
 resets-only : ResetsOnly
 unfolding perform changed

@@ -14,14 +14,14 @@ use Rattle.interpreter.specs.Events.{Event, received, Result, after}
 use Rattle.interpreter.specs.Histories.{newline, moments, Recut, isTake, noPiece, howMany, resultsOf, answers, replies}
 use Rattle.interpreter.specs.Demand3.{keep, cutLine, atEnd, asSent, asCut, ALine, Watch, neither, asked, cleared, watch, Agree, AgreeAnswers, others, Statement}
 use Rattle.interpreter.proofs.Possible.{history-fit, power-up-fit}
-use Rattle.interpreter.proofs.demands.Pieces.{after-append, newline-after, results-append, recut-state, recut-results}
-use Rattle.interpreter.proofs.demands.Agreement.{over-cores, AgreeBoth, history-agree}
-use Rattle.interpreter.proofs.demands.Watching.{history-watch}
-use Rattle.interpreter.proofs.demands.Cutting.{cut, newline-cut}
-use Rattle.interpreter.proofs.demands.Keeping.{cutTo, DuringKept, during-kept}
-use Rattle.interpreter.proofs.demands.Counts.{cut-counts}
-use Rattle.interpreter.proofs.demands.Others.{results-length, others-append, others-keep}
-use Rattle.interpreter.proofs.demands.Starts.{cut-length, cut-is}
+use Rattle.interpreter.proofs.demands.histories.Pieces.{after-append, newline-after, results-append, recut-state, recut-results}
+use Rattle.interpreter.proofs.demands.refused.Agreement.{over-cores, AgreeBoth, history-agree}
+use Rattle.interpreter.proofs.demands.refused.Watching.{history-watch}
+use Rattle.interpreter.proofs.demands.refused.Cutting.{cut, newline-cut}
+use Rattle.interpreter.proofs.demands.refused.Keeping.{cutTo, DuringKept, during-kept}
+use Rattle.interpreter.proofs.demands.histories.NewlineCounts.{cut-counts}
+use Rattle.interpreter.proofs.demands.histories.ResultCounts.{results-length, others-append, others-keep}
+use Rattle.interpreter.proofs.demands.refused.CutIsStart.{cut-length, cut-is}
 
 -- a box at the start of a line has nothing to cut
 start-cut : (k : ℕ) (b : Box) → b .core .line ≡ [] → b .core .overlong ≡ false → b ≡ cutTo k b

@@ -31,7 +31,7 @@ use Rattle.interpreter.specs.Line.{Obeyed, attempt, refuse, next, runUni
 use Rattle.interpreter.specs.Events.{Event, started, received, take, condition, look, Happened, Result, taken, reported, happens, after}
 use Rattle.interpreter.specs.State.{boxOf, possibleState, admitted, Happens}
 use Rattle.interpreter.specs.Calls.{Call, event, chunk, Calls, done, call}
-use Rattle.interpreter.specs.Lock.{leavesKey, Held, InHistories, InCalls, LockHolds}
+use Rattle.interpreter.specs.Lock.{leavesKey, Held, LockHolds}
 use Rattle.interpreter.specs.declared.deed.Deed.{Deed}
 use Rattle.interpreter.specs.declared.deed.Deed.the-variants.{Change, Complete, Clear, Query, Inquire}
 use Rattle.interpreter.specs.declared.deed.Change as changes
@@ -39,7 +39,7 @@ use Rattle.interpreter.specs.declared.deed.Change.the-variants.{Nothing,
 use Rattle.interpreter.specs.declared.deed.Query as queries
 use Rattle.interpreter.specs.declared.deed.Query.the-variants.{Identity, SelfTest, Completed, Limit, Value, Stored, Condition, SetEvents}
 use Rattle.interpreter.specs.declared.state.State.{State}
-use Rattle.interpreter.proofs.demands.Calls.{chunk-after}
+use Rattle.interpreter.proofs.demands.calls.AsHistory.{chunk-after}
 use Rattle.interpreter.proofs.Choices.{if-elim}
 use Rattle.interpreter.proofs.Checks.{Holds, passes, hold-bind, hold-check, holds-from}
 use Rattle.interpreter.proofs.unit.Allowed.{read-allowed, read-known}

@@ -8,7 +8,7 @@ use lib.Dec.{eqb}
 use lib.ListN.{length, take, drop}
 use borrow.Author.Tests.{eqb-true}
 use mir.Val.{boolByte}
-use Rattle.registers.specs.Text.{Text, if_then_else_, white, dark, every, first, rest, start}
+use Rattle.registers.specs.Text.{Text, if_then_else_, white, dark, letter, small, every, first, rest, start}
 use Rattle.registers.specs.Check.{Checked, refused, passed, check, _>>_}
 use Rattle.registers.proofs.Tests.{and-both}
 use Rattle.interpreter.specs.Cuts.{cutAt}
@@ -21,6 +21,11 @@ use Rattle.interpreter.proofs.header.Scan.{asks-cons, body-cons, body-f
 use Rattle.interpreter.proofs.header.Path.{path-row, path-left, counted, star-row, star-left}
 
 -- ---- what leads a header
+
+-- no header has no bytes
+pub header-none : header [] ≡ refused 102
+unfolding header placed name cutAt letter small if_then_else_ _>>_ check
+header-none = refl
 
 abbrev placeOf : Bool → Bool → Place
 placeOf true r = common

@@ -1,15 +1,15 @@
 -- Demand 3, while the line comes in: cutting its bytes to the first k cuts the waiting line to its first k bytes, and nothing else.
 use mathlib.Core.Path.{_≡_, refl, sym, _∙_, ap, ap₂}
-use mathlib.Core.Bool.{Bool, true, false, not, false≢true}
+use mathlib.Core.Bool.{Bool, true, false, false≢true}
 use mathlib.Core.List.{List, [], _∷_, _++_}
 use Prim.Native.Nat.{ℕ, suc, _-_, _≤_, _<_}
 use native.Mathlib.Omega.{arith}
 use native.Mathlib.Numerals.{add-one}
-use lib.Dec.{leb, ltb, eqb}
+use lib.Dec.{leb, ltb}
 use lib.ListN as L
 use lib.ListN.{length, length-append}
 use lib.Seq.{take-nil, take-all, take-append-le}
-use borrow.Author.Tests.{lt-ltb, le-ltb, ltb-true, ltb-false, not-true}
+use borrow.Author.Tests.{lt-ltb, le-ltb, ltb-true, ltb-false}
 use Rattle.registers.specs.Text.{Text, if_then_else_, every, empty}
 use Rattle.registers.specs.Group.{widestGroup}
 use Rattle.registers.specs.Status.{Trouble}
@@ -21,20 +21,13 @@ use Rattle.interpreter.specs.Events.{Event, started, received, take, con
 use Rattle.interpreter.specs.Histories.{resultsOf}
 use Rattle.interpreter.specs.Demand3.{inLine, keep}
 use Rattle.interpreter.proofs.Choices.{if₂}
+use Rattle.interpreter.proofs.line.Pieces.{plain, byte-plain}
 
 -- the same box, its waiting line cut to the first k bytes
 unfoldable pub cutTo : ℕ → Box → Box
 cutTo k b = box (withLine (L.take k (b .core .line)) false (b .core)) (b .trouble)
 
 -- ---- one byte
-
-abbrev pub plain : ℕ → Bool
-plain x = not (eqb x 10)
-
--- a byte that is no newline joins the line, or finds it full
-pub byte-plain : (b : Box) (x : ℕ) → plain x ≡ true → byte b x ≡ box (held x (b .core)) (b .trouble)
-unfolding byte if_then_else_
-byte-plain b x t = rw (not-true (eqb x 10) t)
 
 held-room : (x : ℕ) (c : Core) → length (c .line) < mostLine → held x c ≡ withLine (c .line ++ x ∷ []) (c .overlong) c
 unfolding held if_then_else_

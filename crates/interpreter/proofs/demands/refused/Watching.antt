@@ -16,7 +16,7 @@ use Rattle.interpreter.specs.Demand3.{Watch, neither, asked, cleared, th
 use Rattle.interpreter.specs.declared.deed.Deed.{Deed}
 use Rattle.interpreter.specs.declared.deed.Deed.the-variants.{Change, Complete, Clear, Query, Inquire}
 use Rattle.interpreter.proofs.Choices.{if₂}
-use Rattle.interpreter.proofs.demands.Agreement.{over-cores, leaving, obeys, attempted, byte-agree, event-agree}
+use Rattle.interpreter.proofs.demands.refused.Agreement.{over-cores, leaving, obeys, attempted, byte-agree, event-agree}
 
 -- ---- units
 

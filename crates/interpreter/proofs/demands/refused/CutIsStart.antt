@@ -16,8 +16,8 @@ use Rattle.interpreter.specs.Box.{Box, box, withLine}
 use Rattle.interpreter.specs.Line.{Obeyed, attempt, unitsOf, atNewline}
 use Rattle.interpreter.specs.Demand3.{obeyedNext, obeyed, joinUnits, cutLine}
 use Rattle.interpreter.proofs.Choices.{if-elim}
-use Rattle.interpreter.proofs.demands.Cutting.{cut}
-use Rattle.interpreter.proofs.demands.Keeping.{cutTo}
+use Rattle.interpreter.proofs.demands.refused.Cutting.{cut}
+use Rattle.interpreter.proofs.demands.refused.Keeping.{cutTo}
 
 -- ---- a text cut at every `;` and joined again
 

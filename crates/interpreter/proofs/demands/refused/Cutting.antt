@@ -6,20 +6,21 @@ use mathlib.Core.List.{List, [], _∷_, _++_}
 use Prim.Native.Nat.{ℕ}
 use Prim.Native.Char.{code}
 use lib.Dec.{eqb}
-use borrow.Author.Tests.{eqb-true, eq-eqb, not-true}
-use Rattle.registers.specs.Text.{Text, if_then_else_, every, white, printable, letter, small, empty, after}
+use borrow.Author.Tests.{eqb-true}
+use Rattle.registers.specs.Text.{Text, if_then_else_, every, white, printable, empty, after}
 use Rattle.registers.specs.Check.{Checked, refused, passed, _>>=_, _>>_, check}
 use Rattle.registers.specs.declared.settings.Settings.{Settings}
 use Rattle.registers.proofs.Tests.{and-both, and-true}
-use Rattle.interpreter.specs.Cuts.{joinFirst, cutAt}
-use Rattle.interpreter.specs.Header.{name, placed, header}
+use Rattle.interpreter.specs.Cuts.{cutAt}
 use Rattle.interpreter.specs.Box.{Box, box, withLine}
 use Rattle.interpreter.specs.Unit.{Read, readUnit}
 use Rattle.interpreter.specs.Line.{Obeyed, attempt, refuse, next, runUnits, unitsOf, interrupted, finished, runLine, endLine, atNewline}
 use Rattle.interpreter.specs.Demand3.{obeyedNext, obeyed, refusalNext, refusal, joinUnits, cutLine, lineRefusal}
 use Rattle.interpreter.proofs.Choices.{if-elim}
 use Rattle.interpreter.proofs.Lists.{is-empty}
-use Rattle.interpreter.proofs.demands.Agreement.{over-cores, finished-core}
+use Rattle.interpreter.proofs.header.Whole.{header-none}
+use Rattle.interpreter.proofs.demands.Separators.{free, cut-free, cut-more, cut-one}
+use Rattle.interpreter.proofs.demands.refused.Agreement.{over-cores, finished-core}
 
 -- the same box, its waiting line cut to the first n units
 abbrev pub cut : Box → Box
@@ -48,36 +49,6 @@ units-cut (u ∷ us) path b h = next-cut u us path b (λ p c k. units-cut us p c
 
 -- ---- the cut line's units are the units that were obeyed
 
--- no separator stands in a text
-abbrev pub other : ℕ → ℕ → Bool
-other s b = not (eqb b s)
-
-unfoldable pub free : ℕ → Text → Bool
-free s u = every (other s) u
-
-join-free : (s b : ℕ) (us : List Text) → other s b ≡ true → every (free s) us ≡ true → every (free s) (joinFirst b us) ≡ true
-unfolding free
-join-free s b [] h t = rw h
-join-free s b (u ∷ us) h t = rw h t
-
-cut-free : (s : ℕ) (t : Text) → every (free s) (cutAt s t) ≡ true
-unfolding cutAt free
-cut-free s [] = refl
-cut-free s (b ∷ bs) =
-    if-elim (λ (us : List Text). every (free s) us ≡ true) (eqb b s) (λ _. cut-free s bs) (λ q. join-free s b (cutAt s bs) (rw q) (cut-free s bs))
-
--- the first part ends at the first separator
-cut-more : (s : ℕ) (u v : Text) → free s u ≡ true → cutAt s (u ++ s ∷ v) ≡ u ∷ cutAt s v
-unfolding cutAt free if_then_else_
-cut-more s [] v t = rw (eq-eqb s s refl)
-cut-more s (b ∷ bs) v t = let p = and-both (other s b) (every (other s) bs) t in rw (not-true (eqb b s) (p .0), cut-more s bs v (p .1))
-
--- a text with no separator is one part
-pub cut-one : (s : ℕ) (u : Text) → free s u ≡ true → cutAt s u ≡ u ∷ []
-unfolding cutAt free if_then_else_
-cut-one s [] t = refl
-cut-one s (b ∷ bs) t = let p = and-both (other s b) (every (other s) bs) t in rw (not-true (eqb b s) (p .0), cut-one s bs (p .1))
-
 -- units joined by `;` and cut again
 cut-joined : (u : Text) (us : List Text) → every (free (code ";")) (u ∷ us) ≡ true → cutAt (code ";") (joinUnits (u ∷ us)) ≡ u ∷ us
 unfolding joinUnits
@@ -92,10 +63,6 @@ after-all : (p : ℕ → Bool) (t : Text) → every p t ≡ true → after p t �
 unfolding if_then_else_
 after-all p [] h = refl
 after-all p (b ∷ bs) h = let q = and-both (p b) (every p bs) h in rw (q .0, after-all p bs (q .1))
-
-pub header-none : header [] ≡ refused 102
-unfolding header placed name cutAt letter small if_then_else_ _>>_ check
-header-none = refl
 
 blank-refused : (s : Settings) (path : List Text) (u : Text) → every white u ≡ true → (n : ℕ) × (readUnit s path u ≡ refused n)
 unfolding readUnit check _>>=_ _>>_

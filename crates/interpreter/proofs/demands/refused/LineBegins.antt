@@ -22,7 +22,7 @@ use Rattle.interpreter.proofs.Choices.{if-elim}
 use Rattle.interpreter.proofs.Checks.{Holds, Any, passes, hold-bind, hold-check, holds-from}
 use Rattle.interpreter.proofs.unit.Allowed.{read-known}
 use Rattle.interpreter.proofs.perform.Permitted.{hold-permitted}
-use Rattle.interpreter.proofs.demands.Pieces.{newline-after}
+use Rattle.interpreter.proofs.demands.histories.Pieces.{newline-after}
 
 abbrev FreshBox : Box → Type 0
 FreshBox b = Fresh (b .core)

@@ -12,7 +12,7 @@ use Rattle.interpreter.specs.State.{boxOf, possibleState, admitted, Happ
 use Rattle.interpreter.specs.Server.{linesOf, Service, service, tookBehind, servedLine, serves, takingFirst, eventsOf, begun, Serves}
 use Rattle.interpreter.specs.Calls.{Call, event, chunk, Calls, done, call, History}
 use Rattle.interpreter.specs.declared.state.State.{State}
-use Rattle.interpreter.proofs.demands.Pieces.{after-append}
+use Rattle.interpreter.proofs.demands.histories.Pieces.{after-append}
 
 -- a state that could be the box's is refused no event by number 4
 pub admits : (s : State) (e : Event) → possibleState s ≡ true → admitted s e ≡ true

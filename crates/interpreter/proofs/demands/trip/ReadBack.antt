@@ -30,7 +30,7 @@ use Rattle.interpreter.specs.Parameter.{Given, Word, Figure, findWord, p
 use Rattle.interpreter.specs.declared.deed.Deed.the-variants.{Change}
 use Rattle.interpreter.specs.declared.deed.Change.the-variants.{Put}
 use Rattle.interpreter.proofs.Choices.{if-elim}
-use Rattle.interpreter.proofs.demands.Tenths.{tenths-rounded, tenths-on, tenths-read, tenths-some, tenths-bytes}
+use Rattle.interpreter.proofs.demands.trip.Tenths.{tenths-rounded, tenths-on, tenths-read, tenths-some, tenths-bytes}
 
 -- ---- the test
 

@@ -2,7 +2,6 @@
 use mathlib.Core.Path.{_≡_, refl, sym, _∙_, ap, subst, subst₂}
 use mathlib.Core.Bool.{Bool, true, false}
 use mathlib.Core.List.{List, [], _∷_, _++_, append-assoc, head-eq-of-cons-eq}
-use Prim.Native.Nat.{ℕ}
 use lib.ListN.{length, drop}
 use lib.Seq.{drop-at}
 use lib.Signed.{leZ}
@@ -13,15 +12,15 @@ use Rattle.interpreter.specs.Events.{Event, take, Result, happens, Own, 
 use Rattle.interpreter.specs.Histories.{newline, Recut, isTake, isPiece, noPiece, howMany, resultsOf, chosen, summed}
 use Rattle.interpreter.specs.State.{boxOf, Started}
 use Rattle.interpreter.specs.Calls.{Calls, History}
-use Rattle.interpreter.specs.Demand2.{queried, sentBack, takenFrom}
+use Rattle.interpreter.specs.Demand2.{queried, takenFrom}
 use Rattle.interpreter.specs.Demand3.{asSent, watch, Agree, AgreeAnswers, others}
 use Rattle.interpreter.specs.OfCalls.{Ran, LimitsOfCalls, RangeOfCalls, PiecesOfCalls, AnsweredOfCalls, RoundTripOfCalls, Demand2OfCalls, Demand3OfCalls}
 use Rattle.interpreter.specs.declared.state.State.{State}
 use Rattle.interpreter.proofs.Possible.{power-up-own}
 use Rattle.interpreter.proofs.state.Records.{box-from}
-use Rattle.interpreter.proofs.demands.Pieces.{results-append, recut-state, recut-results}
-use Rattle.interpreter.proofs.demands.Others.{results-length}
-use Rattle.interpreter.proofs.demands.Calls.{calls-are-a-history}
+use Rattle.interpreter.proofs.demands.histories.Pieces.{results-append, recut-state, recut-results}
+use Rattle.interpreter.proofs.demands.histories.ResultCounts.{results-length}
+use Rattle.interpreter.proofs.demands.calls.AsHistory.{calls-are-a-history}
 use Rattle.interpreter.proofs.demands.Demand2.{demand2}
 use Rattle.interpreter.proofs.demands.Demand3.{demand3}
 

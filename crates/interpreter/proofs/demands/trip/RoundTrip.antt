@@ -31,12 +31,12 @@ use Rattle.interpreter.specs.declared.deed.Query.the-variants.{Value}
 use Rattle.interpreter.proofs.Choices.{if-elim}
 use Rattle.interpreter.proofs.Possible.{Fit, history-fit, own-fit}
 use Rattle.interpreter.proofs.unit.Allowed.{read-allowed}
-use Rattle.interpreter.proofs.demands.Pieces.{after-append, newline-after, recut-state}
+use Rattle.interpreter.proofs.demands.histories.Pieces.{after-append, newline-after, recut-state}
 use Rattle.interpreter.proofs.Lists.{is-empty}
 use Rattle.interpreter.proofs.demands.Limits.{good-at, no-conflict}
-use Rattle.interpreter.proofs.demands.ReadBack.{plainByte, plainText, answer-sets, answer-plain}
-use Rattle.interpreter.proofs.demands.SentUnit as sent
-use Rattle.interpreter.proofs.demands.Waiting.{Left, waits, gone, left-none, Quiet, quiet, Emptied, emptied}
+use Rattle.interpreter.proofs.demands.trip.ReadBack.{plainByte, plainText, answer-sets, answer-plain}
+use Rattle.interpreter.proofs.demands.trip.SentUnit as sent
+use Rattle.interpreter.proofs.demands.trip.AnswerWaits.{Left, waits, gone, left-none, Quiet, quiet, Emptied, emptied}
 
 -- ---- the query's newline
 

@@ -17,7 +17,7 @@ use Rattle.interpreter.specs.Line.{held, byte, piece}
 use Rattle.interpreter.specs.Events.{Event, started, received, take, condition, look, Happened, taken, reported, happens, after}
 use Rattle.interpreter.specs.Demand3.{inLine}
 use Rattle.interpreter.proofs.Choices.{if-elim}
-use Rattle.interpreter.proofs.demands.Keeping.{plain, byte-plain}
+use Rattle.interpreter.proofs.line.Pieces.{plain, byte-plain}
 
 -- an answer that is as it was, or gone
 pub data Left (a x : Text) : Type 0 where

@@ -1,6 +1,6 @@
 -- The sum of the pieces' own counts of newlines: it goes by the bytes, whatever their pieces are, and a line cut short keeps it.
 use mathlib.Core.Path.{_≡_, refl, sym, _∙_, ap}
-use mathlib.Core.Bool.{true, false, false≢true}
+use mathlib.Core.Bool.{true, false≢true}
 use mathlib.Core.List.{List, [], _∷_, _++_, map}
 use Prim.Native.Nat.{ℕ, zero, suc, _+_, _-_, _≤_, zero-le}
 use native.Mathlib.Omega.{arith}
@@ -16,8 +16,7 @@ use Rattle.interpreter.specs.Events.{Event, started, received, take, con
 use Rattle.interpreter.specs.Histories.{single, newline, moments, Recut, resultsOf, summed, counted}
 use Rattle.interpreter.specs.Demand3.{inLine, keep}
 use Rattle.interpreter.proofs.Choices.{if₂}
-use Rattle.interpreter.proofs.line.Pieces.{newlines-append}
-use Rattle.interpreter.proofs.demands.Keeping.{plain}
+use Rattle.interpreter.proofs.line.Pieces.{newlines-append, plain}
 
 -- how many lines the pieces end, by their bytes
 ends : List Event → ℕ

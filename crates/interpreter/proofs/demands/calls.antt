@@ -1,0 +1,2 @@
+pub mod AsHistory
+pub mod OfCalls

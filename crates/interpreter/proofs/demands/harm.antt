@@ -1,0 +1,3 @@
+pub mod FunctionRefusals
+pub mod UnitRefusals
+pub mod LineRefusals

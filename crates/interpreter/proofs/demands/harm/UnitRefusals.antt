@@ -1,0 +1,46 @@
+-- Demand 1, of a unit: each check of the chain refuses only by numbers that a unit can raise, and so does the whole chain; a refused
+-- unit raises its number, drops the units after it, and with -430 the answer.
+use mathlib.Core.Path.{refl}
+use mathlib.Core.List.{List}
+use borrow.Author.Tests.{eq-eqb, ne-eqb}
+use Rattle.registers.specs.Text.{Text, if_then_else_}
+use Rattle.registers.specs.Errors.{known, queueable}
+use Rattle.interpreter.specs.Box.{Core, Box}
+use Rattle.interpreter.specs.Unit.{readUnit}
+use Rattle.interpreter.specs.Deeds.{reply, perform}
+use Rattle.interpreter.specs.Line.{refuse, attempt, runUnits}
+use Rattle.interpreter.specs.Demand1.{UnitRefusals}
+use Rattle.interpreter.specs.declared.deed.Deed.{Deed}
+use Rattle.interpreter.specs.declared.deed.Deed.the-variants.{Change, Complete, Clear, Query, Inquire}
+use Rattle.interpreter.proofs.Checks.{Holds, Any, passes, hold-bind, hold-check, holds-from, at-refused}
+use Rattle.interpreter.proofs.unit.Allowed.{read-known}
+use Rattle.interpreter.proofs.perform.Permitted.{hold-permitted}
+
+reply-known : (t : Text) (c : Core) → Holds Any (reply t c)
+unfolding reply known queueable
+reply-known t c = hold-check Any 430 _ _ refl (λ _. passes tt)
+
+perform-known : (d : Deed) (b : Box) → Holds Any (perform d b)
+unfolding perform
+perform-known (Change x) b = passes tt
+perform-known Complete b = passes tt
+perform-known Clear b = passes tt
+perform-known (Query q) b = hold-bind Any Any _ _ (reply-known _ _) (λ c _. passes tt)
+perform-known (Inquire q) b = hold-bind Any Any _ _ (reply-known _ _) (λ c _. passes tt)
+
+pub attempt-known : (path : List Text) (b : Box) (u : Text) → Holds Any (attempt path b u)
+unfolding attempt
+attempt-known path b u =
+    let s = b .core .settings in
+    hold-bind Any Any _ _ (holds-from (readUnit s path u) (λ r _. tt) (λ n e. read-known s path u e)) (λ r _.
+    hold-permitted (r .deed) (b .core) Any _ (λ _.
+    hold-bind Any Any _ _ (perform-known (r .deed) b) (λ c _. passes tt)))
+
+pub unit-refusals : UnitRefusals
+unfolding runUnits refuse if_then_else_
+unit-refusals u us path b n e =
+    record {
+      ofUnit = at-refused (attempt-known path b u) e;
+      raises = λ other. rw (e, ne-eqb n 430 other);
+      drops = λ z. rw (e, eq-eqb n 430 z);
+    }

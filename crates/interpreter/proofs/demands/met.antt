@@ -1,0 +1,4 @@
+pub mod RefusedLines
+pub mod EveryRow
+pub mod Trips
+pub mod LockedLines

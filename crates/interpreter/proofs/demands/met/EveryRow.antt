@@ -1,0 +1,183 @@
+-- Demand 2's round trip holds of something: its premises for each of the seventeen settings, by its header and its answer at *RST. What
+-- they speak of is computed for the whole table at once (`seen`), and each row's premises are read off it.
+use mathlib.Core.Path.{_≡_, refl, sym, _∙_, ap}
+use mathlib.Core.Bool.{Bool, true, false}
+use mathlib.Core.List.{List, [], _∷_, _++_, map}
+use Prim.Native.Nat.{ℕ, zero, suc, _+_, _<_}
+use Prim.Native.String.{String}
+use native.Mathlib.Omega.{arith}
+use lib.ListN as L
+use lib.ListN.{length, getD, replicate}
+use Rattle.registers.specs.Text.{Text, if_then_else_, bytes, same, white, printable, digit, letter, wordByte, small, capital, every}
+use Rattle.registers.specs.Check.{Checked, passed, _>>=_, _>>_, check}
+use Rattle.registers.specs.Words.{shortForm, longForm, matches}
+use Rattle.registers.specs.Number.{afterSign, fractionOf, afterFraction, exponentOf, afterExponent, lowering, written, numeralFrom, decimalOf, valueOf, scaled, number}
+use Rattle.registers.specs.Suffix.{suffixes, noSuffix, powerIn, remains}
+use Rattle.registers.specs.Rounding.{switchedOn, nearest, sizeIn, rounded, sizeSide, sideIn}
+use Rattle.registers.specs.Answer.{inPlaces, decimal, tenths}
+use Rattle.registers.specs.Errors.{eventBit}
+use Rattle.registers.specs.Settings.{count, table, settingAt, atReset, wideRange, lowest, highest, within, conflict, examined, accepted, answerOf}
+use Rattle.registers.specs.Group.{rises, falls, eventsAfter, conditionIs}
+use Rattle.registers.specs.Status.{raised, locked, atStart}
+use Rattle.interpreter.specs.Cuts.{front, cutAt, trimEnd, trim}
+use Rattle.interpreter.specs.Header.{Header, here, name, placed, header, spells}
+use Rattle.interpreter.specs.Rows.{settingRows, otherRows, rows, fitsRow, findRow}
+use Rattle.interpreter.specs.Parameter.{parameters, least, greatest, findWord, parameter, valueGiven, settingDeed, deedOf}
+use Rattle.interpreter.specs.Unit.{Read, readUnit}
+use Rattle.interpreter.specs.Box.{powerUp}
+use Rattle.interpreter.specs.Deeds.{permitted, changed, replyTo, inquiryReply, joined, fitsAnswer, reply, perform}
+use Rattle.interpreter.specs.Line.{attempt, refuse, runUnits, interrupted, finished, unitsOf, runLine, endLine, held, byte, piece}
+use Rattle.interpreter.specs.Events.{Event, received, take, result, taken, reported, happens, after}
+use Rattle.interpreter.specs.Demand3.{inLine, asked}
+use Rattle.interpreter.specs.declared.deed.Deed.the-variants.{Query}
+use Rattle.interpreter.specs.declared.deed.Query.the-variants.{Value}
+use Rattle.interpreter.specs.declared.deed.Role.{Role}
+use Rattle.interpreter.specs.declared.deed.Role.the-variants.{Setting}
+use Rattle.interpreter.specs.Demand2.{Premises, queried, sentBack, takenFrom}
+use Rattle.interpreter.proofs.Possible.{power-up-own}
+
+unfoldable pub trips : List (String × String)
+trips =
+    ("OUTP", "0") ∷ ("OUTP:PON", "0") ∷ ("OUTP:REL", "1") ∷ ("OUTP:MON:MODE", "VOLT") ∷ ("VOLT", "0.0") ∷ ("VOLT:RANG", "R12V")
+    ∷ ("FREQ", "50.0") ∷ ("CURR:LIM:RMS", "1.0") ∷ ("CURR:LIM:RMS:MODE", "OFF") ∷ ("CURR:LIM:PEAK:MODE", "OFF")
+    ∷ ("CURR:LIM:RMS:TIME", "1") ∷ ("CURR:LIM:PEAK:TIME", "1") ∷ ("CURR:LIM:PEAK:HIGH", "4.0") ∷ ("CURR:LIM:PEAK:LOW", "-4.0")
+    ∷ ("DISP:BRIG", "50") ∷ ("SYST:KLOC", "0") ∷ ("SYST:EXAM", "0") ∷ []
+
+abbrev pub buffer : Text
+buffer = replicate 8 0
+
+-- the query's line, and the line that sends the answer back
+unfoldable pub asking : String × String → List Event
+asking t = received (bytes (t .0) ++ bytes "?") ∷ []
+
+unfoldable pub sending : String × String → List Event
+sending t = received (bytes (t .0) ++ bytes " " ++ bytes (t .1)) ∷ []
+
+-- the premises of demand 2's round trip
+abbrev pub PremisesAt : ℕ → String × String → Type 0
+PremisesAt i t = Premises powerUp i (bytes (t .1)) buffer (takenFrom powerUp (asking t) [] buffer) (asking t) [] (sending t)
+
+-- what they speak of
+record Seen : Type 0 where
+  whole : Bool × Bool
+  inLine : Bool
+  asked : Text
+  units : List Text
+  read : Checked Read
+  number : ℕ
+  taken : Text
+  line : Text
+  locks : Bool
+  heading : Checked Header
+  row : Checked Role
+
+unfoldable seenAt : String × String → Seen
+seenAt t =
+    let b = after powerUp (asking t) in
+    let r = happens (after powerUp (queried (asking t) ++ [])) (take buffer) .result in
+    let c = after powerUp (sentBack (asking t) [] buffer (sending t)) in
+    record {
+      whole = (b .core .overlong, c .core .overlong);
+      inLine = every inLine (sending t);
+      asked = b .core .line;
+      units = unitsOf (b .core .line);
+      read = readUnit (b .core .settings) [] (b .core .line);
+      number = r .number;
+      taken = L.take (r .value) (r .buffer);
+      line = c .core .line;
+      locks = locked (c .core .registers);
+      heading = header (bytes (t .0));
+      row = findRow false (cutAt 58 (bytes (t .0))) false rows;
+    }
+
+unfoldable expectedAt : ℕ → String × String → Seen
+expectedAt i t =
+    record {
+      whole = (false, false);
+      inLine = true;
+      asked = bytes (t .0) ++ bytes "?";
+      units = (bytes (t .0) ++ bytes "?") ∷ [];
+      read = passed (record { deed = Query (Value i); path = front (cutAt 58 (bytes (t .0))) });
+      number = 0;
+      taken = bytes (t .1) ++ 10 ∷ [];
+      line = bytes (t .0) ++ (bytes " " ++ (bytes (t .1) ++ []));
+      locks = false;
+      heading = passed (record { place = here; names = cutAt 58 (bytes (t .0)); query = false });
+      row = passed (Setting i);
+    }
+
+-- each expected by its place in the table
+unfoldable numbered : ℕ → List (String × String) → List Seen
+numbered i [] = []
+numbered i (t ∷ ts) = expectedAt i t ∷ numbered (suc i) ts
+
+abbrev pub tripAt : List (String × String) → ℕ → String × String
+tripAt ts i = getD ts i ("", "")
+
+seen : map seenAt trips ≡ numbered 0 trips
+unfolding if_then_else_ bytes same white printable digit letter wordByte small capital _>>=_ _>>_ check shortForm longForm matches
+    afterSign fractionOf afterFraction exponentOf afterExponent lowering written numeralFrom decimalOf valueOf scaled suffixes noSuffix powerIn remains number switchedOn
+    nearest sizeIn rounded sizeSide sideIn inPlaces decimal tenths eventBit
+    table settingAt atReset wideRange lowest highest within conflict examined accepted answerOf raised rises falls eventsAfter conditionIs atStart
+    cutAt trimEnd trim name placed header spells settingRows otherRows rows fitsRow findRow
+    parameters least greatest findWord parameter valueGiven settingDeed deedOf readUnit powerUp
+    permitted changed replyTo inquiryReply joined fitsAnswer reply perform
+    attempt refuse runUnits interrupted finished unitsOf runLine endLine held byte piece taken reported happens after
+    inLine trips asking sending seenAt expectedAt numbered
+seen = refl
+
+long : length trips ≡ count
+unfolding trips
+long = refl
+
+-- ---- the table's places
+
+seen-at : (ts : List (String × String)) (n i : ℕ) → i < length ts → map seenAt ts ≡ numbered n ts → seenAt (tripAt ts i) ≡ expectedAt (n + i) (tripAt ts i)
+unfolding numbered
+seen-at [] n i h e = absurd (omega arith)
+seen-at (t ∷ ts) n zero h e =
+    let z : seenAt t ≡ expectedAt n t = cc in
+    let q : n + 0 ≡ n = omega arith in
+    rw q z
+seen-at (t ∷ ts) n (suc i) h e =
+    let z : map seenAt ts ≡ numbered (suc n) ts = cc in
+    let q : n + suc i ≡ suc n + i = omega arith in
+    rw q (seen-at ts (suc n) i (omega arith) z)
+
+trip-at : (i : ℕ) (t : String × String) → seenAt t ≡ expectedAt i t → PremisesAt i t
+unfolding seenAt expectedAt bytes white
+trip-at i t e =
+    record {
+      trip = record {
+        own = power-up-own;
+        first = refl;
+        second = ap (λ (x : Seen). x .inLine) e;
+        asks = record {
+          whole = ap (λ (x : Seen). x .whole .0) e;
+          alone = ap (λ (x : Seen). x .units) e ∙ sym (ap (λ (x : Seen). x .asked ∷ []) e);
+          path = front (cutAt 58 (bytes (t .0)));
+          asks = ap (λ (x : Seen). x .read) e;
+        };
+        took = record { number = ap (λ (x : Seen). x .number) e; bytes = ap (λ (x : Seen). x .taken) e };
+        sends = record {
+          whole = ap (λ (x : Seen). x .whole .1) e;
+          left = [];
+          header = bytes (t .0);
+          gap = bytes " ";
+          right = [];
+          line = ap (λ (x : Seen). x .line) e;
+          spelling = record { read = _; reads = ap (λ (x : Seen). x .heading) e; sets = refl; row = ap (λ (x : Seen). x .row) e };
+          leftWhite = refl;
+          gapWhite = refl;
+          gapThere = refl;
+          rightWhite = refl;
+        };
+      };
+      free = ap (λ (x : Seen). x .locks) e;
+    }
+
+pub every-row : (i : ℕ) → i < count → PremisesAt i (tripAt trips i)
+every-row i h =
+    let l = long in
+    let q : 0 + i ≡ i = omega arith in
+    trip-at i (tripAt trips i) (rw q at (seen-at trips 0 i (omega arith) seen))

@@ -1,0 +1,109 @@
+-- Demand 3 holds of something: lines that meet its premises, each outcome of what comes first afterwards, and both histories in pieces of
+-- their own. All computed from the definitions.
+use mathlib.Core.Path.{_≡_, refl, sym, _∙_}
+use mathlib.Core.List.{List, [], _∷_, _++_, map}
+use Prim.Native.Nat.{ℕ}
+use Prim.Native.Char.{code}
+use Prim.Native.String.{String}
+use native.Mathlib.Omega.{arith}
+use lib.ListN as L
+use lib.ListN.{replicate}
+use Rattle.registers.specs.Text.{Text, if_then_else_, bytes, same, white, printable, digit, letter, wordByte, small, capital}
+use Rattle.registers.specs.Check.{_>>=_, _>>_, check}
+use Rattle.registers.specs.Words.{shortForm, longForm, matches}
+use Rattle.registers.specs.Number.{afterSign, fractionOf, afterFraction, exponentOf, afterExponent, lowering, written, numeralFrom, decimalOf, valueOf, scaled, number}
+use Rattle.registers.specs.Suffix.{suffixes, noSuffix, powerIn, remains}
+use Rattle.registers.specs.Rounding.{switchedOn, nearest, sizeIn, rounded, sizeSide, sideIn}
+use Rattle.registers.specs.Answer.{inPlaces, decimal, tenths}
+use Rattle.registers.specs.Errors.{eventBit}
+use Rattle.registers.specs.Settings.{table, settingAt, atReset, wideRange, lowest, highest, within, conflict, examined, accepted, answerOf}
+use Rattle.registers.specs.Group.{rises, falls, eventsAfter, conditionIs}
+use Rattle.registers.specs.Status.{raised, atStart}
+use Rattle.interpreter.specs.Cuts.{cutAt, trimEnd, trim}
+use Rattle.interpreter.specs.Header.{name, placed, header, spells}
+use Rattle.interpreter.specs.Rows.{settingRows, otherRows, rows, fitsRow, findRow}
+use Rattle.interpreter.specs.Parameter.{parameters, least, greatest, findWord, parameter, valueGiven, settingDeed, deedOf}
+use Rattle.interpreter.specs.Unit.{readUnit}
+use Rattle.interpreter.specs.Box.{powerUp}
+use Rattle.interpreter.specs.Deeds.{permitted, changed, replyTo, inquiryReply, joined, fitsAnswer, reply, perform}
+use Rattle.interpreter.specs.Line.{attempt, refuse, runUnits, interrupted, finished, unitsOf, runLine, endLine, held, byte, piece}
+use Rattle.interpreter.specs.Events.{Event, received, take, taken, reported, happens, after}
+use Rattle.interpreter.specs.Histories.{moments, Recut, resultsOf}
+use Rattle.interpreter.specs.Demand3.{obeyed, refusal, joinUnits, cutLine, lineRefusal, keep, inLine, atEnd, asSent, asCut, ALine, Watch, neither, asked, cleared, watchUnits, watchLine, watchByte, watchPiece, watchEvent, watch}
+
+abbrev pub text : String → Event
+text s = received (bytes s)
+
+-- a line refused by n, and what is left of it
+pub record Cut (before during : List Event) (n : ℕ) (left : Text) : Type 0 where
+  pub line : ALine before during
+  pub refusedBy : lineRefusal (atEnd before during) ≡ n
+  pub cutTo : cutLine (atEnd before during) ≡ left
+
+-- in two pieces with a take between them, refused at its second unit
+abbrev during : List Event
+during = text "VOLT 5;VO" ∷ take [] ∷ text "LTA 6" ∷ []
+
+-- behind another line, refused at the third of its four units, with an answer made before
+abbrev earlier : List Event
+earlier = text "FREQ 70\n" ∷ []
+
+abbrev atThird : List Event
+atThird = text "VOLT 5;VOLT?;FREQ 1;FREQ 60" ∷ []
+
+-- overlong: n = 0
+abbrev tooLong : List Event
+tooLong = received (replicate 513 (code "X")) ∷ []
+
+abbrev later : List Event
+later = text "*CLS\nVOLT?\n" ∷ take [] ∷ []
+
+-- what comes first afterwards
+unfoldable pub watched : String → Watch
+watched s = watch (after powerUp (asSent [] during)) (text s ∷ [])
+
+pub record Met3 : Type 0 where
+  pub second : Cut [] during 113 (bytes "VOLT 5")
+  pub third : Cut earlier atThird 222 (bytes "VOLT 5;VOLT?")
+  pub thirdAnswers : after powerUp (asSent earlier atThird) .core .answer ≡ bytes "5.0\n"
+  pub overlong : Cut [] tooLong 363 []
+  pub comesFirst : map watched ("VOLT?\n" ∷ "VOLT 1;*CLS;*ESR?\n" ∷ "SYST:ERR?;*CLS\n" ∷ []) ≡ neither ∷ cleared ∷ asked ∷ []
+  -- the history, and the one with the line cut, each in pieces of its own that go on behind the line's end
+  pub inPieces : Recut (text "VOLT 5;VO" ∷ take [] ∷ text "LTA 6\n*C" ∷ text "LS\nVOLT?\n" ∷ take [] ∷ []) (asSent [] during ++ later)
+  pub cutInPieces : Recut (text "VOL" ∷ text "T 5" ∷ take [] ∷ text "\n*CLS\nVOLT?\n" ∷ take [] ∷ []) (asCut [] during ++ later)
+
+pub met3 : Met3
+unfolding if_then_else_ bytes same white printable digit letter wordByte small capital _>>=_ _>>_ check shortForm longForm matches
+    afterSign fractionOf afterFraction exponentOf afterExponent lowering written numeralFrom decimalOf valueOf scaled suffixes noSuffix powerIn remains number switchedOn
+    nearest sizeIn rounded sizeSide sideIn inPlaces decimal tenths eventBit
+    table settingAt atReset wideRange lowest highest within conflict examined accepted answerOf raised rises falls eventsAfter conditionIs atStart
+    cutAt trimEnd trim name placed header spells settingRows otherRows rows fitsRow findRow
+    parameters least greatest findWord parameter valueGiven settingDeed deedOf readUnit powerUp
+    permitted changed replyTo inquiryReply joined fitsAnswer reply perform
+    attempt refuse runUnits interrupted finished unitsOf runLine endLine held byte piece taken reported happens after resultsOf moments
+    inLine obeyed refusal joinUnits cutLine lineRefusal keep watchUnits watchLine watchByte watchPiece watchEvent watch watched
+met3 =
+    let two : lineRefusal (atEnd [] during) ≡ 113 = refl in
+    let three : lineRefusal (atEnd earlier atThird) ≡ 222 = refl in
+    let long : lineRefusal (atEnd [] tooLong) ≡ 363 = refl in
+    record {
+      second = record {
+        line = record { begins = (refl, refl); underWay = refl; other = λ e. absurd (omega (arith, sym two ∙ e)) };
+        refusedBy = two;
+        cutTo = refl;
+      };
+      third = record {
+        line = record { begins = (refl, refl); underWay = refl; other = λ e. absurd (omega (arith, sym three ∙ e)) };
+        refusedBy = three;
+        cutTo = refl;
+      };
+      thirdAnswers = refl;
+      overlong = record {
+        line = record { begins = (refl, refl); underWay = refl; other = λ e. absurd (omega (arith, sym long ∙ e)) };
+        refusedBy = long;
+        cutTo = refl;
+      };
+      comesFirst = refl;
+      inPieces = refl;
+      cutInPieces = refl;
+    }

@@ -1,0 +1,6 @@
+pub mod HeaderBytes
+pub mod Tenths
+pub mod ReadBack
+pub mod SentUnit
+pub mod AnswerWaits
+pub mod RoundTrip
