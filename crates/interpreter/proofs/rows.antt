@@ -1,7 +1,4 @@
 pub mod Greedy
-pub mod Words
-pub mod Letters
-pub mod Spelling
 pub mod Rows
 pub mod Numbers
 pub mod Walks

@@ -12,12 +12,12 @@ use Rattle.interpreter.specs.declared.flow.Flow.{Flow}
 
 -- what the small part of a state means, with the line's array and the answer's
 abbrev pub flowBox : Flow → Text → Text → Box
-flowBox f line out = boxHolding (f .present) (take (f .filled) line) (f .overlong) (take (f .waiting) out)
+flowBox f line out = boxHolding (f .present) (take (f .filled) line) (f .overlong) (take (f .present .answered) out)
 
 -- the three lengths, and no more newlines than bytes
 pub record FlowFits (f : Flow) : Type 0 where
   pub filled : f .filled ≤ mostLine
-  pub waiting : f .waiting ≤ mostAnswer
+  pub waiting : f .present .answered ≤ mostAnswer
   pub queued : f .present .status .queued ≤ most
   pub few : f .count ≤ f .read
 

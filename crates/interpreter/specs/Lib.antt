@@ -4,6 +4,7 @@ pub mod Cuts
 pub mod Header
 pub mod Rows
 pub mod NameParts
+pub mod WordsParts
 pub mod RowsParts
 pub mod HeaderParts
 pub mod Parameter
@@ -14,7 +15,9 @@ pub mod Box
 pub mod Deeds
 pub mod Line
 pub mod Events
-pub mod DeedsParts
+pub mod PresentParts
+pub mod PerformParts
+pub mod ReplyParts
 pub mod LineParts
 pub mod FlowParts
 pub mod State

@@ -5,7 +5,7 @@ use mathlib.Core.List.{List, [], _∷_}
 use Prim.Native.Nat.{ℕ, _+_, _≤_}
 use Prim.Native.String.{String}
 use lib.Dec.{ltb, eqb}
-use lib.ListN.{length, take, drop}
+use lib.ListN.{length}
 use lib.IntN.{ℤ, pos, natAbs}
 use lib.Signed.{leZ}
 use Rattle.registers.specs.Text.{Text, if_then_else_, wordByte, every, empty}
@@ -21,7 +21,7 @@ use Rattle.registers.specs.declared.rounding.Side.{Side}
 use Rattle.registers.specs.declared.settings.Settings.{Settings}
 use Rattle.registers.specs.declared.status.Register.{Register}
 use Rattle.registers.specs.declared.suffix.Quantity.{Quantity}
-use Rattle.interpreter.specs.RowsParts.{wordCount, wordList}
+use Rattle.interpreter.specs.WordsParts.{wordCount, taken}
 use Rattle.interpreter.specs.Parameter.{Given, Word, Figure, parameters, findWord, registerDeed}
 use Rattle.interpreter.specs.declared.deed.Deed.{Deed}
 use Rattle.interpreter.specs.declared.deed.Deed.the-variants.{Change, Query}
@@ -50,15 +50,11 @@ pub record CountedIn (t : Text) (r : Counted) : Type 0 where
   pub parts : r .parts ≡ length (parameters t)
   pub full : r .full ≡ every (λ p. not (empty p)) (parameters t)
 
--- words that stand together in the table
-abbrev pub takenWords : Takes → List String
-takenWords x = take (x .count) (drop (x .first) wordList)
-
 pub record TakesOf (ws : List String) (also : Bool) (q : Quantity) (r : Takes) : Type 0 where
-  pub words : takenWords r ≡ ws
+  pub words : taken (r .words) ≡ ws
   pub numbers : r .numbers ≡ also
   pub quantity : r .quantity ≡ q
-  pub room : r .first + r .count ≤ wordCount
+  pub room : r .words .first + r .words .count ≤ wordCount
 
 -- check 5 on a word, and check 6
 unfoldable pub aWord : List String → Text → Checked Given

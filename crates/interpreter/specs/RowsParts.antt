@@ -1,5 +1,5 @@
--- How the code keeps the words and the rows, as a table of bytes made of 01's rows, and what the row search's own functions say. Nothing
--- of 01 is defined here.
+-- How the code keeps the rows, as a table of bytes made of 01's rows, and what the row search's own functions say. Nothing of 01 is
+-- defined here.
 use mathlib.Core.Path.{_≡_}
 use mathlib.Core.Bool.{Bool, true, false, not, _&&_, _||_}
 use mathlib.Core.List.{List, [], _∷_, _++_, map}
@@ -9,9 +9,10 @@ use lib.Dec.{ltb, eqb}
 use lib.Bits.{bitAnd}
 use lib.ListN.{length, getD, drop, replicate}
 use mir.Val.{boolByte}
-use Rattle.registers.specs.Text.{Text, if_then_else_, bytes, same, capital, empty, first}
+use Rattle.registers.specs.Text.{Text, if_then_else_, bytes, empty, first}
 use Rattle.registers.specs.Words.{Node, must, may, shortForm, longForm}
 use Rattle.interpreter.specs.NameParts.{codeOf, keyOf}
+use Rattle.interpreter.specs.WordsParts.{wordBytes, wordTable, placeIn}
 use Rattle.interpreter.specs.Rows.{Row, rows, sameBool, hasForm, fitsRow}
 use Rattle.registers.specs.declared.status.RegisterSet.{RegisterSet}
 use Rattle.registers.specs.declared.status.RegisterSet.the-variants.{Operation, Lock, Warning}
@@ -37,10 +38,7 @@ roleOfSet x i =
     else (if eqb i 1 then Question (Query (SetEvents x))
     else (if eqb i 2 then Register (Enable x) else (if eqb i 3 then Register (Ntr x) else Register (Ptr x))))
 
--- ---- words: those of the parameters, so that each row's words stand together, and those of the rows' nodes
-
-unfoldable pub wordList : List String
-wordList = "CURRent" ∷ "SCURrent" ∷ "VOLTage" ∷ "R12V" ∷ "R24V" ∷ "CONTinuous" ∷ "OFF" ∷ "ON" ∷ "MINimum" ∷ "MAXimum" ∷ []
+-- ---- the words of the rows' nodes
 
 unfoldable pub nodeList : List String
 nodeList =
@@ -49,20 +47,14 @@ nodeList =
     ∷ "IDN" ∷ "TST" ∷ "OPC" ∷ "WAI" ∷ "RST" ∷ "CLS" ∷ "ESE" ∷ "SRE" ∷ "ESR" ∷ "STB" ∷ "STATus" ∷ "OPERation" ∷ "CONDition" ∷ "EVENt"
     ∷ "ENABle" ∷ "NTRansition" ∷ "PTRansition" ∷ "ERRor" ∷ "EXAM" ∷ "LOCK" ∷ "WARNing" ∷ []
 
--- how many words the parameters have, how many the nodes, and how many rows there are
-abbrev pub wordCount : ℕ
-wordCount = 10
-
+-- how many words the nodes have, and how many rows there are
 abbrev pub nodeCount : ℕ
 nodeCount = 45
 
 abbrev pub rowCount : ℕ
 rowCount = 44
 
--- how many bytes the parameters' words take in the table, the rows, and the numbers of the nodes' words
-abbrev pub wordBytes : ℕ
-wordBytes = wordCount * 16
-
+-- how many bytes the rows take in the table, and the numbers of the nodes' words
 abbrev pub rowBytes : ℕ
 rowBytes = rowCount * 8
 
@@ -82,29 +74,10 @@ firstStart = firstCode + 256
 abbrev pub tableBytes : ℕ
 tableBytes = firstStart + 256
 
-unfoldable pub wordAt : ℕ → String
-wordAt i = getD wordList i ""
-
 unfoldable pub nodeAt : ℕ → String
 nodeAt i = getD nodeList i ""
 
--- 16 bytes to a word: the lengths of its short and its long form, its letters, and zeros
-unfoldable pub wordRow : String → Text
-wordRow w = length (shortForm w) ∷ length (longForm w) ∷ longForm w ++ replicate (14 - length (longForm w)) 0
-
-unfoldable pub wordTableOf : List String → Text
-wordTableOf [] = []
-wordTableOf (w ∷ ws) = wordRow w ++ wordTableOf ws
-
-unfoldable pub wordTable : Text
-wordTable = wordTableOf wordList
-
 -- ---- rows
-
--- a word's place in the list
-unfoldable pub placeIn : List String → String → ℕ
-placeIn [] w = 0
-placeIn (v ∷ vs) w = let more = suc (placeIn vs w) in if same (bytes v) (bytes w) then 0 else more
 
 -- a node's word, and 128 more if it is optional
 unfoldable pub nodeByte : Node → ℕ
@@ -228,22 +201,7 @@ fitsKeys star keys asked r = sameBool star (r .star) && (hasForm asked (r .role)
 unfoldable pub rowOfKeys : Bool → List ℕ → Bool → ℕ
 rowOfKeys star keys asked = firstFit (fitsKeys star keys asked) rows
 
--- ---- a word of a parameter
-
--- how many first bytes of a text, in capitals, are the letters
-unfoldable pub agreed : Text → Text → ℕ
-agreed [] letters = 0
-agreed (b ∷ bs) [] = 0
-agreed (b ∷ bs) (x ∷ xs) = let more = suc (agreed bs xs) in if eqb (capital b) x then more else 0
-
 -- ---- cells of the tables
-
-unfoldable pub wordCell : ℕ → ℕ → ℕ
-wordCell w i = getD wordTable (w * 16 + i) 0
-
--- the length of one of a word's forms
-unfoldable pub formLength : ℕ → ℕ → Bool
-formLength w n = eqb n (wordCell w 0) || eqb n (wordCell w 1)
 
 unfoldable pub rowCell : ℕ → ℕ → ℕ
 rowCell r i = getD rowTable (r * 8 + i) 0

@@ -21,10 +21,9 @@ pub record Tested (s : State) (r : Bool) : Type 0 where
 abbrev pub flowOf : State → Flow
 flowOf s =
     record {
-      present = record { settings = s .settings; status = s .status };
+      present = record { settings = s .settings; status = s .status; answered = s .waiting };
       filled = s .filled;
       overlong = s .overlong;
-      waiting = s .waiting;
       read = 0;
       count = 0;
     }
@@ -38,5 +37,5 @@ stateOf f line answer =
       filled = f .filled;
       overlong = f .overlong;
       answer = answer;
-      waiting = f .waiting;
+      waiting = f .present .answered;
     }

@@ -1,8 +1,8 @@
 // The bytes that come in: line by line, with the line and the waiting answer in place.
 use crate::line;
-use crate::perform::Present;
-use crate::state::ANSWER;
-use crate::state::LINE;
+use crate::present::Present;
+use crate::sizes::ANSWER;
+use crate::sizes::LINE;
 ghost use mathlib.Core.Path.{_≡_};
 ghost use mathlib.Core.List.{[], _∷_};
 ghost use Prim.Native.Nat.{_+_, _^_, _≤_, _<_, min};
@@ -18,7 +18,6 @@ pub(crate) struct Flow {
     pub(crate) present: Present,
     pub(crate) filled: usize,
     pub(crate) overlong: bool,
-    pub(crate) waiting: usize,
     pub(crate) read: usize,
     pub(crate) count: usize,
 }
@@ -62,14 +61,12 @@ fn newline(table: &[u8], flow: Flow, line: &[u8; LINE], out: &mut [u8; ANSWER]) 
 {
     let filled = flow.filled;
     let bytes: &[u8] = line;
-    let present = line::discard(flow.present, flow.waiting);
-    let ran = line::run_line(table, present, &bytes[0..filled], flow.overlong, out);
-    let next = ran.present;
+    let present = flow.present.discard();
+    let next = line::run_line(table, present, &bytes[0..filled], flow.overlong, out);
     Flow {
         present: next,
         filled: 0,
         overlong: false,
-        waiting: ran.answered,
         read: flow.read + 1,
         count: flow.count + 1,
     }
@@ -87,7 +84,7 @@ pub(crate) fn feed_line(
     ensures { λ r. ⌜ FlowFed flow (now (line .entry)) (now (out .entry)) (firstLine (drop (flow .read) (now (bytes .entry)))) r (now (line .exit)) (now (out .exit)) ⌝ }
 {
     let at = flow.read;
-    let end = bytes::scan::find(bytes, at, bytes.len(), 10);
+    let end = bytes::scan::find(bytes, at, bytes.len(), b'\n');
     let held = hold(flow, line, &bytes[at..end]);
     if end < bytes.len() {
         return newline(table, held, line, out);

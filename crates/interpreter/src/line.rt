@@ -2,8 +2,9 @@
 use crate::header::MOST;
 use crate::parameter::Decision;
 use crate::perform;
-use crate::perform::Done;
-use crate::perform::Present;
+use crate::present::Present;
+use crate::reply;
+use crate::reply::Told;
 use crate::unit;
 use registers::error::Error;
 use registers::text;
@@ -16,80 +17,79 @@ ghost use Rattle.registers.specs.Status.{most};
 ghost use Rattle.interpreter.specs.Box.{mostAnswer};
 ghost use Rattle.interpreter.specs.RowsParts.{commandTable};
 ghost use Rattle.interpreter.specs.HeaderParts.{Holds, Held};
-ghost use Rattle.interpreter.specs.LineParts.{RefusedWith, UnitRan, UnitsRan, LineRan, Discarded};
+ghost use Rattle.interpreter.specs.LineParts.{StoppedWith, UnitRan, UnitsRan, LineRan};
 
-// What a line leaves.
-pub(crate) struct Ran {
-    pub(crate) present: Present,
-    pub(crate) answered: usize,
+// What the units so far leave: how many names the path has, and whether the last one was obeyed.
+struct Done {
+    present: Present,
+    used: usize,
+    obeyed: bool,
 }
 
-// "raises one error and changes nothing else (but check 9 drops the answer)"
-fn refuse(mut done: Done, error: Error) -> Done
-    ensures { λ r. ⌜ RefusedWith error done r ⌝ }
+// Refuses a unit, so that the rest of the line is dropped; the path is of no more use.
+fn stop(present: Present, error: Error) -> Done
+    ensures { λ r. ⌜ StoppedWith error present r ⌝ }
 {
-    done.present = perform::raise(done.present, error);
-    done.obeyed = false;
-    if error.number() == 430 {
-        done.answered = 0;
-        return done;
+    Done {
+        present: present.refuse(error),
+        used: 0,
+        obeyed: false,
     }
-    done
 }
 
-// One unit behind those before it: checks 1 to 7, then the lock and check 8, then what it does with check 9.
-fn run_unit(
-    table: &[u8],
-    mut done: Done,
-    path: &mut [u64; MOST],
-    unit: &[u8],
-    out: &mut [u8],
-) -> Done
+// Runs one unit after those before it: checks 1 to 7, then the lock and check 8, then check 9. Where check 9 refuses, "the query
+// isn't performed", and what it would have left is forgotten.
+fn run_unit(table: &[u8], done: Done, path: &mut [u64; MOST], unit: &[u8], out: &mut [u8]) -> Done
     requires { ⌜ (now table ≡ commandTable) × Held (now path) (done .used) ⌝ }
-    requires { ⌜ (done .answered < mostAnswer) × (length (now out) ≡ mostAnswer) × (done .present .status .queued ≤ most) ⌝ }
+    requires { ⌜ (done .present .answered < mostAnswer) × (length (now out) ≡ mostAnswer) × (done .present .status .queued ≤ most) ⌝ }
     ensures { λ r. ⌜ ((names : List Text) → Holds names (now (path .entry)) (done .used) → UnitRan done names (now (unit .entry)) (now (out .entry)) r (now (path .exit)) (now (out .exit))) ⌝ }
 {
-    let reading = unit::read(table, done.present.settings, path, done.used, unit);
+    let present = done.present;
+    let reading = unit::read(table, present.settings, path, done.used, unit);
     let decision = reading.decision;
     match decision {
-        Decision::Refused(error) => {
-            return refuse(done, error);
-        }
+        Decision::Refused(error) => return stop(present, error),
         Decision::Obey(deed) => {
-            if !perform::is_permitted(done.present, deed) {
-                return refuse(done, Error::SettingsConflict);
+            if !perform::is_permitted(present, deed) {
+                return stop(present, Error::SettingsConflict);
             }
-            done.used = reading.used;
-            return perform::perform(table, done, deed, out);
+            let mut next = perform::after(present, deed);
+            let told = reply::answer(present, deed, out);
+            match told {
+                Told::Refused(error) => return stop(present, error),
+                Told::Until(end) => {
+                    next.answered = end;
+                    return Done {
+                        present: next,
+                        used: reading.used,
+                        obeyed: true,
+                    };
+                }
+            }
         }
     }
 }
 
 // The units of a line, which is cut at every `;`, up to the first that is refused. The path lives as long as
 // its line: it starts at the root, and is gone at the newline.
-fn run_units(table: &[u8], present: Present, line: &[u8], out: &mut [u8]) -> Ran
-    requires { ⌜ now table ≡ commandTable ⌝ }
+fn run_units(table: &[u8], present: Present, line: &[u8], out: &mut [u8]) -> Present
+    requires { ⌜ (now table ≡ commandTable) × (present .answered ≡ 0) ⌝ }
     requires { ⌜ (length (now out) ≡ mostAnswer) × (present .status .queued ≤ most) ⌝ }
     ensures { λ r. ⌜ UnitsRan present (now (line .entry)) r (now (out .exit)) ⌝ }
 {
     let mut done = Done {
         present,
-        answered: 0,
         used: 0,
         obeyed: true,
     };
     let mut path = [0u64; MOST];
     let mut at: usize = 0;
     loop {
-        let end = bytes::scan::find(line, at, line.len(), 59);
+        let end = bytes::scan::find(line, at, line.len(), b';');
         done = run_unit(table, done, &mut path, &line[at..end], out);
         let more = done.obeyed & (end < line.len());
         if !more {
-            let next = done.present;
-            return Ran {
-                present: next,
-                answered: done.answered,
-            };
+            return done.present;
         }
         at = end + 1;
     }
@@ -102,39 +102,23 @@ pub(crate) fn run_line(
     line: &[u8],
     overlong: bool,
     out: &mut [u8],
-) -> Ran
-    requires { ⌜ now table ≡ commandTable ⌝ }
+) -> Present
+    requires { ⌜ (now table ≡ commandTable) × (present .answered ≡ 0) ⌝ }
     requires { ⌜ (length (now out) ≡ mostAnswer) × (present .status .queued ≤ most) ⌝ }
     ensures { λ r. ⌜ LineRan present (now (line .entry)) overlong r (now (out .exit)) ⌝ }
 {
     if overlong {
-        return Ran {
-            present: perform::raise(present, Error::InputBufferOverrun),
-            answered: 0,
-        };
+        return present.raise(Error::InputBufferOverrun);
     }
     if text::white_end(line, 0) == line.len() {
-        return Ran {
-            present,
-            answered: 0,
-        };
+        return present;
     }
     let mut ran = run_units(table, present, line, out);
     let answered = ran.answered;
     if answered == 0 {
         return ran;
     }
-    out[answered] = 10;
+    out[answered] = b'\n';
     ran.answered = answered + 1;
     ran
-}
-
-// A waiting answer is discarded.
-pub(crate) fn discard(present: Present, waiting: usize) -> Present
-    ensures { λ r. ⌜ Discarded waiting present r ⌝ }
-{
-    if waiting == 0 {
-        return present;
-    }
-    perform::raise(present, Error::QueryInterrupted)
 }

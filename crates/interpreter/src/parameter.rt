@@ -3,7 +3,8 @@ use crate::deed::Change;
 use crate::deed::Deed;
 use crate::deed::Query;
 use crate::deed::Role;
-use crate::rows;
+use crate::words;
+use crate::words::Words;
 use registers::error::Error;
 use registers::number;
 use registers::number::Decimal;
@@ -22,9 +23,10 @@ ghost use mathlib.Core.Bool.{true, not, _&&_};
 ghost use Prim.Native.Nat.{_+_, _≤_, _<_};
 ghost use Rattle.registers.specs.Rounding.{rounded, sideIn};
 ghost use Rattle.registers.specs.Settings.{count, kindOf, quantityOf};
-ghost use Rattle.interpreter.specs.RowsParts.{wordCount, commandTable};
+ghost use Rattle.interpreter.specs.RowsParts.{commandTable};
 ghost use Rattle.interpreter.specs.Parameter.{Word, Figure, parameter, wordsOf, takesNumbers, least, greatest, valueGiven, sideGiven, deedOf};
-ghost use Rattle.interpreter.specs.ParameterParts.{meantGiven, meantDeed, CountedIn, takenWords, TakesOf, aWord, isNumber, roundedTo, putFit, storeTo, registerTo, partsOf};
+ghost use Rattle.interpreter.specs.WordsParts.{wordCount, taken};
+ghost use Rattle.interpreter.specs.ParameterParts.{meantGiven, meantDeed, CountedIn, TakesOf, aWord, isNumber, roundedTo, putFit, storeTo, registerTo, partsOf};
 
 // Checks 5 and 6 on a parameter: a word of the row by its place in the row's list, or a number.
 pub(crate) enum Parameter {
@@ -45,19 +47,12 @@ pub(crate) struct Counted {
     pub(crate) full: bool,
 }
 
-// What may be given: words that stand together in the table, and numbers of a quantity or none.
-pub(crate) struct Takes {
-    pub(crate) first: usize,
-    pub(crate) count: usize,
-    pub(crate) numbers: bool,
-    pub(crate) quantity: Quantity,
+// What may be given: words, and numbers of a quantity or none.
+struct Takes {
+    words: Words,
+    numbers: bool,
+    quantity: Quantity,
 }
-
-// Where each setting's words begin among those of the parameters, and how many there are. The first six
-// are those of the settings that take words only.
-const FIRST_WORDS: [u8; Settings::COUNT] = [6, 6, 6, 0, 8, 3, 8, 8, 5, 5, 8, 8, 8, 8, 8, 6, 6];
-
-const WORD_COUNTS: [u8; Settings::COUNT] = [2, 2, 2, 3, 2, 2, 2, 2, 2, 2, 2, 2, 2, 2, 2, 2, 2];
 
 // Counts the parameters of a text without white space around it.
 pub(crate) fn count(text: &[u8]) -> Counted
@@ -76,7 +71,7 @@ pub(crate) fn count(text: &[u8]) -> Counted
     while i < text.len() {
         let b = text[i];
         i += 1;
-        if b == 44 {
+        if b == b',' {
             full = full & dark;
             dark = false;
             parts += 1;
@@ -91,30 +86,27 @@ pub(crate) fn count(text: &[u8]) -> Counted
 }
 
 // What a setting takes.
-pub(crate) fn setting_takes(row: usize) -> Takes
+fn setting_takes(row: usize) -> Takes
     requires { ⌜ row < count ⌝ }
     ensures { λ r. ⌜ TakesOf (wordsOf (kindOf row)) (takesNumbers (kindOf row)) (quantityOf row) r ⌝ }
 {
-    let firsts = FIRST_WORDS;
-    let counts = WORD_COUNTS;
-    let first = firsts[row] as usize;
+    let words = words::of_setting(row);
     Takes {
-        first,
-        count: counts[row] as usize,
-        numbers: 6 <= first,
+        words,
+        numbers: words.with_numbers(),
         quantity: Settings::quantity_of(row),
     }
 }
 
 // Check 5 on a parameter that starts with a letter. A word with other bytes than letters, digits and
 // underscore is none of the table, so the search refuses it by the same number.
-fn find_word(table: &[u8], takes: Takes, text: &[u8]) -> Parameter
-    requires { ⌜ (now table ≡ commandTable) × (takes .first + takes .count ≤ wordCount) ⌝ }
-    ensures { λ r. ⌜ meantGiven r ≡ aWord (takenWords takes) (now (text .entry)) ⌝ }
+fn find_word(table: &[u8], words: Words, text: &[u8]) -> Parameter
+    requires { ⌜ (now table ≡ commandTable) × (words .first + words .count ≤ wordCount) ⌝ }
+    ensures { λ r. ⌜ meantGiven r ≡ aWord (taken words) (now (text .entry)) ⌝ }
 {
     let mut n: usize = 0;
-    while n < takes.count {
-        if rows::is_word(table, text, takes.first + n) {
+    while n < words.count {
+        if words::is_word(table, text, words.first + n) {
             return Parameter::Word(n);
         }
         n += 1;
@@ -124,14 +116,14 @@ fn find_word(table: &[u8], takes: Takes, text: &[u8]) -> Parameter
 
 // Checks 5 and 6. A digit, a sign or a point starts a number, and no query takes one.
 fn read_parameter(table: &[u8], takes: Takes, asked: bool, text: &[u8]) -> Parameter
-    requires { ⌜ (now table ≡ commandTable) × (takes .first + takes .count ≤ wordCount) ⌝ }
-    ensures { λ r. ⌜ meantGiven r ≡ parameter (takenWords takes) (takes .numbers && not asked) (takes .quantity) (now (text .entry)) ⌝ }
+    requires { ⌜ (now table ≡ commandTable) × (takes .words .first + takes .words .count ≤ wordCount) ⌝ }
+    ensures { λ r. ⌜ meantGiven r ≡ parameter (taken (takes .words)) (takes .numbers && not asked) (takes .quantity) (now (text .entry)) ⌝ }
 {
     let b = text::byte_at(text, 0);
     if text::is_letter(b) {
-        return find_word(table, takes, text);
+        return find_word(table, takes.words, text);
     }
-    let starts = text::is_digit(b) | ((b == 43) | (b == 45)) | (b == 46);
+    let starts = text::is_digit(b) | ((b == b'+') | (b == b'-')) | (b == b'.');
     if !(takes.numbers & !asked & starts) {
         return Parameter::Refused(Error::DataType);
     }
@@ -290,8 +282,7 @@ pub(crate) fn decide_register(
         return obey_query(Query::Stored(register));
     }
     let takes = Takes {
-        first: 0,
-        count: 0,
+        words: Words { first: 0, count: 0 },
         numbers: true,
         quantity: Quantity::Nothing,
     };

@@ -1,47 +1,20 @@
-// What a unit that was read may do, by the lock and check 8, and what it does, with check 9.
+// What a unit that was read may do, by the lock and check 8, and what it leaves of settings and status.
 use crate::deed::Change;
 use crate::deed::Deed;
 use crate::deed::Inquiry;
 use crate::deed::Query;
-use crate::reply;
-use registers::error::Error;
+use crate::present::Present;
 use registers::settings::Settings;
 use registers::status::Status;
 ghost use mathlib.Core.Path.{_≡_};
 ghost use mathlib.Core.Bool.{false};
-ghost use Prim.Native.Nat.{_≤_, _<_};
-ghost use lib.ListN.{length};
+ghost use Prim.Native.Nat.{_≤_};
 ghost use Rattle.registers.specs.Check.{check};
 ghost use Rattle.registers.specs.Status.{most};
 ghost use Rattle.interpreter.specs.Deeds.{conflicting, permitted};
-ghost use Rattle.interpreter.specs.Box.{mostAnswer};
-ghost use Rattle.interpreter.specs.RowsParts.{commandTable};
-ghost use Rattle.interpreter.specs.DeedsParts.{coreIn, raisedWith, settingsLeft, StatusLeft, PerformedIn};
+ghost use Rattle.interpreter.specs.PresentParts.{coreIn};
+ghost use Rattle.interpreter.specs.PerformParts.{settingsLeft, StatusLeft, After};
 ghost use Rattle.interpreter.specs.UnitParts.{Allowed};
-
-// What the units of a line change. It is small and goes by value; the arrays are lent beside it.
-pub(crate) struct Present {
-    pub(crate) settings: Settings,
-    pub(crate) status: Status,
-}
-
-// What the units so far leave: how much of the answer's buffer is written, how much of the path's buffer the path takes,
-// and whether the last one was obeyed.
-pub(crate) struct Done {
-    pub(crate) present: Present,
-    pub(crate) answered: usize,
-    pub(crate) used: usize,
-    pub(crate) obeyed: bool,
-}
-
-// An error is raised.
-pub(crate) fn raise(present: Present, error: Error) -> Present
-    ensures { λ r. ⌜ r ≡ raisedWith error present ⌝ }
-{
-    let settings = present.settings;
-    let status = present.status.raise(error);
-    Present { settings, status }
-}
 
 // Whether a deed passes the lock, which lets the settings change only by switching the output off, and then check 8.
 // Both refuse by -221, so one answer serves for the two.
@@ -105,26 +78,16 @@ fn status_after(status: Status, deed: Deed) -> Status
     }
 }
 
-// Performs a deed behind what the line's earlier units answered. The path stays: the unit's header set it.
-pub(crate) fn perform(table: &[u8], mut done: Done, deed: Deed, out: &mut [u8]) -> Done
-    requires { ⌜ (now table ≡ commandTable) × Allowed (done .present .settings) deed × (conflicting deed (done .present .settings) ≡ false) ⌝ }
-    requires { ⌜ (done .answered < mostAnswer) × (length (now out) ≡ mostAnswer) × (done .present .status .queued ≤ most) ⌝ }
-    ensures { λ r. ⌜ PerformedIn deed done (now (out .entry)) r (now (out .exit)) ⌝ }
+// What a deed leaves: all but the answer, which is the reply's affair.
+pub(crate) fn after(present: Present, deed: Deed) -> Present
+    requires { ⌜ Allowed (present .settings) deed × (conflicting deed (present .settings) ≡ false) × (present .status .queued ≤ most) ⌝ }
+    ensures { λ r. ⌜ After deed present r ⌝ }
 {
-    let reply = reply::to_deed(table, done.present, done.answered != 0, deed);
-    let end = reply::give(table, reply, out, done.answered);
-    if out.len() <= end {
-        done.present = raise(done.present, Error::QueryDeadlocked);
-        done.answered = 0;
-        done.obeyed = false;
-        return done;
-    }
-    let settings = settings_after(done.present.settings, deed);
-    let status = status_after(done.present.status, deed);
-    Done {
-        present: Present { settings, status },
-        answered: end,
-        used: done.used,
-        obeyed: true,
+    let settings = settings_after(present.settings, deed);
+    let status = status_after(present.status, deed);
+    Present {
+        settings,
+        status,
+        answered: present.answered,
     }
 }

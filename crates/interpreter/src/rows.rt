@@ -1,14 +1,12 @@
-// Check 3: the row that spells the names of a header; and how a parameter spells a word.
+// Check 3: the row that spells the names of a header.
 use crate::table::FIRST_KEY;
 use crate::table::FIRST_ROW;
 use crate::table::FIRST_START;
 use crate::table::ROWS;
-use registers::text;
 ghost use mathlib.Core.Path.{_≡_};
 ghost use Prim.Native.Nat.{_+_, _≤_, _<_};
 ghost use lib.ListN.{length, take, drop};
-ghost use Rattle.registers.specs.Words.{longForm, matches};
-ghost use Rattle.interpreter.specs.RowsParts.{wordCount, nodeCount, rowCount, commandTable, wordAt, nodeAt, agreed, formLength, wordCell, rowCell, PairRead, QuadRead, keyCell, keyMatches, wordIn, nodeOf, leftOut, Walked, formBit, rowOfKeys, Marked, markOf, startOf};
+ghost use Rattle.interpreter.specs.RowsParts.{nodeCount, rowCount, commandTable, nodeAt, rowCell, PairRead, QuadRead, keyCell, keyMatches, wordIn, nodeOf, leftOut, Walked, formBit, rowOfKeys, Marked, markOf, startOf};
 
 // Where a walk over a row's nodes goes on.
 enum Walk {
@@ -16,57 +14,11 @@ enum Walk {
     Missed,
 }
 
-fn word_cell(table: &[u8], word: usize, i: usize) -> u8
-    requires { ⌜ (now table ≡ commandTable) × (word < wordCount) × (i < 16) ⌝ }
-    ensures { λ r. ⌜ r ≡ wordCell word i ⌝ }
-{
-    table[word * 16 + i]
-}
-
 fn row_cell(table: &[u8], row: usize, i: usize) -> u8
     requires { ⌜ (now table ≡ commandTable) × (row < rowCount) × (i < 8) ⌝ }
     ensures { λ r. ⌜ r ≡ rowCell row i ⌝ }
 {
     table[FIRST_ROW + row * 8 + i]
-}
-
-// Whether a word's short or its long form has so many letters.
-fn has_length(table: &[u8], word: usize, n: usize) -> bool
-    requires { ⌜ (now table ≡ commandTable) × (word < wordCount) ⌝ }
-    ensures { λ r. ⌜ r ≡ formLength word n ⌝ }
-{
-    let short = word_cell(table, word, 0) as usize;
-    let long = word_cell(table, word, 1) as usize;
-    (n == short) | (n == long)
-}
-
-// How many first bytes of a text are a word's letters, in any letter case.
-fn agreed_letters(table: &[u8], text: &[u8], word: usize) -> usize
-    requires { ⌜ (now table ≡ commandTable) × (word < wordCount) ⌝ }
-    ensures { λ r. ⌜ r ≡ agreed (now (text .entry)) (longForm (wordAt word)) ⌝ }
-{
-    let long = word_cell(table, word, 1) as usize;
-    let mut n: usize = 0;
-    while n < text.len() {
-        if long <= n {
-            return n;
-        }
-        if text::in_capitals(text[n]) != word_cell(table, word, n + 2) {
-            return n;
-        }
-        n += 1;
-    }
-    n
-}
-
-// Whether a text spells a word, in its short or its long form. The short form is a start of the long one, so one walk over the letters
-// decides both: all bytes of the text were letters of the word, and one of the two forms has that many.
-pub(crate) fn is_word(table: &[u8], name: &[u8], word: usize) -> bool
-    requires { ⌜ (now table ≡ commandTable) × (word < wordCount) ⌝ }
-    ensures { λ r. ⌜ r ≡ matches (wordAt word) (now (name .entry)) ⌝ }
-{
-    let n = agreed_letters(table, name, word);
-    (n == name.len()) & has_length(table, word, n)
 }
 
 // Two bytes as a number, low byte first.

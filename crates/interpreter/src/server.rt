@@ -1,9 +1,9 @@
 // A chunk of input served for a program: fed line by line, each answer taken behind the one before.
 use crate::flow;
 use crate::flow::Flow;
+use crate::sizes::ANSWER;
+use crate::sizes::LINE;
 use crate::state;
-use crate::state::ANSWER;
-use crate::state::LINE;
 use crate::state::Outcome;
 use crate::state::State;
 use crate::table;
@@ -43,8 +43,8 @@ fn lines(
     let mut written: usize = 0;
     while (flow.read < input.len()) & (ANSWER <= output.len() - written) {
         flow = flow::feed_line(table, flow, line, out, input);
-        written = flow::paste(out, flow.waiting, output, written);
-        flow.waiting = 0;
+        written = flow::paste(out, flow.present.answered, output, written);
+        flow.present.answered = 0;
     }
     Progress { flow, written }
 }

@@ -1,7 +1,8 @@
 // The box's state, and the five events that can happen to it.
 use crate::flow;
 use crate::flow::Flow;
-use crate::perform::Present;
+use crate::present::Present;
+use crate::sizes;
 use crate::table;
 use registers::error::Error;
 use registers::group::Group;
@@ -15,9 +16,9 @@ ghost use Rattle.interpreter.specs.State.{numberOf, Happens, Started};
 ghost use Rattle.interpreter.specs.StateParts.{Tested, flowOf, stateOf};
 
 // The room of a line before its newline, and of an answer with its newline.
-pub const LINE: usize = 512;
+pub const LINE: usize = sizes::LINE;
 
-pub const ANSWER: usize = 1024;
+pub const ANSWER: usize = sizes::ANSWER;
 
 // Everything that the box keeps from one event to the next.
 pub struct State {
@@ -85,10 +86,13 @@ pub(crate) fn flow_of(state: State) -> Flow
     let settings = state.settings;
     let status = state.status;
     Flow {
-        present: Present { settings, status },
+        present: Present {
+            settings,
+            status,
+            answered: state.waiting,
+        },
         filled: state.filled,
         overlong: state.overlong,
-        waiting: state.waiting,
         read: 0,
         count: 0,
     }
@@ -107,7 +111,7 @@ pub(crate) fn state_of(flow: Flow, line: [u8; LINE], answer: [u8; ANSWER]) -> St
         filled: flow.filled,
         overlong: flow.overlong,
         answer,
-        waiting: flow.waiting,
+        waiting: flow.present.answered,
     }
 }
 

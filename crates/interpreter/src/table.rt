@@ -4,7 +4,7 @@ ghost use mathlib.Core.Path.{_≡_};
 ghost use Rattle.interpreter.specs.RowsParts.{commandTable};
 
 // How many words the parameters have, how many rows there are, and how many words the rows' nodes have.
-const WORDS: usize = 10;
+pub(crate) const WORDS: usize = 10;
 
 pub(crate) const ROWS: usize = 44;
 

@@ -154,7 +154,7 @@ min-take part k n is = go (ltb k (length part)) refl
         (take-all n part (omega arith) ∙ sym (take-all k part (omega arith)), le-ltb n (length part) (omega arith) ∙ sym e)
 
 abbrev pub heldIn : Flow → ℕ → Bool → ℕ → Flow
-heldIn f at o n = record { present = f .present; filled = at; overlong = o; waiting = f .waiting; read = n; count = f .count }
+heldIn f at o n = record { present = f .present; filled = at; overlong = o; read = n; count = f .count }
 
 module _ (f : Flow) (line part : Text) (w : FlowFits f) (long : length line ≡ mostLine) (plain : newlines part ≡ 0) where
   pub held-fed : (n at : ℕ) (lines : Text) → n ≡ min (length part) (mostLine - f .filled) → at ≡ f .filled + n → lines ≡ paste line (f .filled) part n

@@ -1,50 +1,29 @@
--- Laws of one unit: what an error raised, a unit refused and a unit performed leave.
-use mathlib.Core.Path.{_≡_, sym, _∙_, subst}
+-- Laws of one unit: it is refused by a check, or performed.
+use mathlib.Core.Path.{_≡_, refl, sym, _∙_, subst}
 use mathlib.Core.Bool.{true, false, false≢true}
-use mathlib.Core.List.{List, []}
-use Prim.Native.Nat.{ℕ, _-_, _≤_, _<_}
+use mathlib.Core.List.{List}
+use Prim.Native.Nat.{ℕ, _≤_, _<_}
 use native.Mathlib.Omega.{arith}
-use lib.ListN.{length, take}
-use borrow.Author.Tests.{eq-eqb, ne-eqb}
-use Rattle.registers.specs.Text.{Text, if_then_else_}
+use Rattle.registers.specs.Text.{Text}
 use Rattle.registers.specs.Check.{Checked, refused, passed, _>>=_, _>>_}
 use Rattle.registers.specs.Errors.{numberOf}
 use Rattle.registers.specs.declared.error.Error.{Error}
-use Rattle.registers.specs.declared.error.Error.the-variants.{SettingsConflict}
-use Rattle.registers.proofs.status.Means.{raised-trouble, raised-registers, raised-queued}
-use Rattle.interpreter.specs.Box.{Box, raise, mostAnswer}
+use Rattle.interpreter.specs.Box.{Box, mostAnswer}
 use Rattle.interpreter.specs.Unit.{Read, readUnit}
 use Rattle.interpreter.specs.Deeds.{permitted, perform}
 use Rattle.interpreter.specs.Line.{attempt, refuse}
-use Rattle.interpreter.specs.DeedsParts.{coreIn, boxIn, raisedWith, PerformedIn}
 use Rattle.interpreter.specs.UnitParts.{UnitRead, Allowed}
-use Rattle.interpreter.specs.LineParts.{boxAt, RefusedWith, UnitRan}
+use Rattle.interpreter.specs.PresentParts.{coreIn, boxAt}
+use Rattle.interpreter.specs.PerformParts.{After}
+use Rattle.interpreter.specs.ReplyParts.{Answered}
+use Rattle.interpreter.specs.LineParts.{StoppedWith, UnitRan}
+use Rattle.interpreter.specs.declared.reply.Told.the-variants.{Until, Refused as noAnswer}
 use Rattle.interpreter.specs.declared.deed.Deed.{Deed}
-use Rattle.interpreter.specs.declared.perform.Present.{Present}
+use Rattle.interpreter.specs.declared.present.Present.{Present}
 use Rattle.interpreter.specs.declared.parameter.Decision.{Decision}
 use Rattle.interpreter.specs.declared.parameter.Decision.the-variants.{Refused, Obey}
-use Rattle.interpreter.specs.declared.perform.Done.{Done}
+use Rattle.interpreter.specs.declared.line.Done.{Done}
 use Rattle.interpreter.proofs.unit.Allowed.{read-allowed}
-
--- ---- errors
-
-module _ (e : Error) (p : Present) (long : length (p .status .errors) ≡ 16) where
-  pub raised-box : (a : Text) → boxIn (raisedWith e p) a ≡ raise (numberOf e) (boxIn p a)
-  unfolding raisedWith
-  raised-box a = rw (raised-trouble (numberOf e) (p .status) long, raised-registers (numberOf e) (p .status) long)
-
-  pub raised-short : p .status .queued ≤ 16 → raisedWith e p .status .queued ≤ 16
-  unfolding raisedWith
-  raised-short h = raised-queued (numberOf e) (p .status) long h
-
-  -- check 9's error drops the answer, any other leaves it
-  pub refused-dropped : numberOf e ≡ 430 → (a out : Text) → boxIn (raisedWith e p) (take 0 out) ≡ refuse (numberOf e) (boxIn p a)
-  unfolding refuse if_then_else_
-  refused-dropped h a out = rw (raised-box [], eq-eqb (numberOf e) 430 h)
-
-  pub refused-kept : (numberOf e ≡ 430 → ⊥) → (a : Text) → boxIn (raisedWith e p) a ≡ refuse (numberOf e) (boxIn p a)
-  unfolding refuse if_then_else_
-  refused-kept h a = rw (raised-box a, ne-eqb (numberOf e) 430 h)
 
 -- ---- all nine checks on a unit
 
@@ -77,47 +56,52 @@ module _ (d : Done) (path : List Text) (unit : Text) (keys : List ℕ) (res : De
 
   module _ (out : Text) where
     abbrev b : Box
-    b = boxAt (d .present) (d .answered) out
+    b = boxAt (d .present) out
 
     -- the lock and check 8 see nothing of the answers so far
     seen : (e : Deed) {m : Checked (Unit {0})} → permitted e (coreIn (d .present .settings) (d .present .status)) ≡ m → permitted e (b .core) ≡ m
     unfolding permitted
     seen e p = p
 
-    pub unit-refused : (e : Error) → res ≡ Refused e → (r : Done) → RefusedWith e d r
-        → d .present .status .queued ≤ 16 → d .answered < mostAnswer → UnitRan d path unit out r keys out
-    unit-refused e q r w short room =
-        let f = subst (λ (r : Decision). UnitRead (d .present .settings) path unit r used keys) q read in
-        let less = w .room in
-        record {
-          queued = w .queued short;
-          room = omega arith;
-          goes = λ t. absurd (false≢true (sym (w .stops) ∙ t));
-          stops = λ _. (numberOf e, attempt-read path b unit (numberOf e) f, w .box out);
-        }
+    -- a refusal by any check, which leaves of the answers so far what it leaves of those in out
+    module _ (short : d .present .status .queued ≤ 16) (room : d .present .answered < mostAnswer) (e : Error) (r : Done) (w : StoppedWith e (d .present) r) where
+      stopped : (left : Text) → attempt path b unit ≡ refused (numberOf e) → refuse (numberOf e) (boxAt (d .present) left) ≡ refuse (numberOf e) b
+          → UnitRan d path unit out r keys left
+      stopped left is same =
+          let less = w .left .room in
+          record {
+            queued = w .left .queued short;
+            room = omega arith;
+            goes = λ t. absurd (false≢true (sym (w .stops) ∙ t));
+            stops = λ _. (numberOf e, is, w .left .box left ∙ same);
+          }
 
-    pub unit-barred : (e : Deed) → res ≡ Obey e → permitted e (coreIn (d .present .settings) (d .present .status)) ≡ refused 221
-        → (r : Done) → RefusedWith SettingsConflict d r
-        → d .present .status .queued ≤ 16 → d .answered < mostAnswer → UnitRan d path unit out r keys out
-    unit-barred e q l r w short room =
-        let f = subst (λ (r : Decision). UnitRead (d .present .settings) path unit r used keys) q read in
-        let less = w .room in
-        record {
-          queued = w .queued short;
-          room = omega arith;
-          goes = λ t. absurd (false≢true (sym (w .stops) ∙ t));
-          stops = λ _. (221, attempt-barred path b unit _ 221 (f .1) (seen e l), w .box out);
-        }
+      pub unit-refused : res ≡ Refused e → UnitRan d path unit out r keys out
+      unit-refused q =
+          let f = subst (λ (r : Decision). UnitRead (d .present .settings) path unit r used keys) q read in
+          stopped out (attempt-read path b unit (numberOf e) f) refl
 
-    pub unit-obeyed : (e : Deed) → res ≡ Obey e → permitted e (coreIn (d .present .settings) (d .present .status)) ≡ passed tt
-        → (r : Done) (left : Text)
-        → PerformedIn e (record { present = d .present; answered = d .answered; used = used; obeyed = d .obeyed }) out r left
-        → UnitRan d path unit out r keys left
-    unit-obeyed e q l r left w =
+      module _ (a : Deed) (q : res ≡ Obey a) where
+        pub unit-barred : permitted a (coreIn (d .present .settings) (d .present .status)) ≡ refused (numberOf e) → UnitRan d path unit out r keys out
+        unit-barred l =
+            let f = subst (λ (r : Decision). UnitRead (d .present .settings) path unit r used keys) q read in
+            stopped out (attempt-barred path b unit _ (numberOf e) (f .1) (seen a l)) refl
+
+        pub unit-unanswered : permitted a (coreIn (d .present .settings) (d .present .status)) ≡ passed tt → (left : Text)
+            → Answered a (d .present) out (noAnswer e) left → UnitRan d path unit out r keys left
+        unit-unanswered l left w =
+            let f = subst (λ (r : Decision). UnitRead (d .present .settings) path unit r used keys) q read in
+            stopped left (attempt-full path b unit _ (f .1) (seen a l) (numberOf e) (w .0)) (w .1)
+
+    pub unit-obeyed : (a : Deed) → res ≡ Obey a → permitted a (coreIn (d .present .settings) (d .present .status)) ≡ passed tt
+        → (next : Present) → After a (d .present) next → (end : ℕ) (left : Text) → Answered a (d .present) out (Until end) left
+        → UnitRan d path unit out
+        (record { present = record { settings = next .settings; status = next .status; answered = end }; used = used; obeyed = true }) keys left
+    unit-obeyed a q l next s end left w =
         let f = subst (λ (r : Decision). UnitRead (d .present .settings) path unit r used keys) q read in
         record {
-          queued = w .queued;
-          room = w .room;
-          goes = λ t. (f .0, attempt-done path b unit _ (f .1) (seen e l) _ (w .done t), rw (w .used) (f .2));
-          stops = λ t. (430, attempt-full path b unit _ (f .1) (seen e l) 430 (w .dropped t .0), w .dropped t .1);
+          queued = s .status .queued;
+          room = w .0;
+          goes = λ _. (f .0, attempt-done path b unit _ (f .1) (seen a l) _ (w .1 next (unit-allowed a q) s), f .2);
+          stops = λ t. absurd (false≢true (sym t));
         }

@@ -10,14 +10,14 @@ use lib.ListN.{length, take, set}
 use lib.Seq.{take-suc-set}
 use borrow.Author.Tests.{eq-eqb, ne-eqb}
 use Rattle.registers.specs.Text.{Text, if_then_else_, start, white, every, empty}
-use Rattle.registers.specs.declared.error.Error.the-variants.{QueryInterrupted, InputBufferOverrun}
+use Rattle.registers.specs.declared.error.Error.the-variants.{InputBufferOverrun}
 use Rattle.interpreter.specs.Box.{box, mostAnswer}
 use Rattle.interpreter.specs.Line.{runUnits, interrupted, finished, unitsOf, runLine, endLine}
-use Rattle.interpreter.specs.DeedsParts.{boxIn, raisedWith}
-use Rattle.interpreter.specs.LineParts.{boxAt, Discarded, boxHolding, UnitsRan}
-use Rattle.interpreter.specs.declared.perform.Present.{Present}
-use Rattle.interpreter.specs.declared.line.Ran.{Ran}
-use Rattle.interpreter.proofs.line.Laws.{raised-box}
+use Rattle.interpreter.specs.PresentParts.{boxIn, raisedWith}
+use Rattle.interpreter.specs.PresentParts.{boxAt, Discarded}
+use Rattle.interpreter.specs.LineParts.{boxHolding, UnitsRan}
+use Rattle.interpreter.specs.declared.present.Present.{Present}
+use Rattle.interpreter.proofs.present.Laws.{raised-box}
 
 -- ---- a line
 
@@ -55,13 +55,13 @@ module _ (p : Present) (line : Text) (o : Bool) where
   unfolding runLine unitsOf finished runUnits if_then_else_
   line-blank e b = rw (e, b)
 
-  module _ (e : o ≡ false) (dark : every white line ≡ false) (r : Ran) (out : Text) (ran : UnitsRan p line r out) where
-    pub line-none : r .answered ≡ 0 → boxAt (r .present) (r .answered) out ≡ runLine line o (boxIn p [])
+  module _ (e : o ≡ false) (dark : every white line ≡ false) (r : Present) (out : Text) (ran : UnitsRan p line r out) where
+    pub line-none : r .answered ≡ 0 → boxAt r out ≡ runLine line o (boxIn p [])
     unfolding runLine unitsOf finished if_then_else_
     line-none z = rw (e, dark, ← ran .box, z)
 
     pub line-some : (r .answered ≡ 0 → ⊥) → length out ≡ mostAnswer
-        → boxAt (r .present) (r .answered + 1) (set out (r .answered) 10) ≡ runLine line o (boxIn p [])
+        → boxIn r (take (r .answered + 1) (set out (r .answered) 10)) ≡ runLine line o (boxIn p [])
     unfolding runLine unitsOf finished if_then_else_
     line-some h long =
         let room = ran .room in
@@ -69,23 +69,8 @@ module _ (p : Present) (line : Text) (o : Bool) where
 
 -- ---- the newline
 
--- an answer waits exactly where its length isn't 0
-pub waits : (out : Text) (n : ℕ) → 0 < length out → empty (take n out) ≡ eqb n 0
-waits [] n h = absurd (omega arith)
-waits (x ∷ out) zero h = refl
-waits (x ∷ out) (suc n) h = sym (ne-eqb (suc n) 0 (λ e. omega arith))
-
-module _ (p : Present) (out : Text) (n : ℕ) where
-  pub none-waits : n ≡ 0 → boxIn p [] ≡ interrupted (boxIn p (take n out))
-  unfolding interrupted if_then_else_
-  none-waits e = rw e
-
-  pub one-waits : length (p .status .errors) ≡ 16 → 0 < length out → (n ≡ 0 → ⊥)
-      → boxIn (raisedWith QueryInterrupted p) [] ≡ interrupted (boxIn p (take n out))
-  unfolding interrupted if_then_else_
-  one-waits long room ne = rw (waits out n room, ne-eqb n 0 ne, raised-box QueryInterrupted p long [])
-
-  pub ended : (q : Present) → Discarded n p q → 0 < length out → (line : Text) (o : Bool)
-      → runLine line o (boxIn q []) ≡ endLine (boxHolding p line o (take n out))
+module _ (p : Present) (out : Text) where
+  pub ended : (q : Present) → Discarded p q → 0 < length out → (line : Text) (o : Bool)
+      → runLine line o (boxIn q []) ≡ endLine (boxHolding p line o (take (p .answered) out))
   unfolding endLine
   ended q w room line o = rw (w .box out room)

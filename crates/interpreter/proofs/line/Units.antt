@@ -2,6 +2,7 @@
 use mathlib.Core.Path.{_≡_, refl, sym, _∙_}
 use mathlib.Core.Bool.{Bool, true, false, _&&_, false≢true}
 use mathlib.Core.List.{List, [], _∷_}
+use Prim.Native.Char.{code}
 use Prim.Native.Nat.{ℕ, suc, _+_, _-_, _≤_, _<_, zero-le}
 use native.Mathlib.Omega.{arith}
 use native.Mathlib.Numerals.{add-one}
@@ -17,10 +18,11 @@ use Rattle.interpreter.specs.Cuts.{cutAt}
 use Rattle.interpreter.specs.Box.{Box, box, mostAnswer}
 use Rattle.interpreter.specs.Line.{Obeyed, attempt, refuse, runUnits}
 use Rattle.interpreter.specs.HeaderParts.{Holds}
-use Rattle.interpreter.specs.DeedsParts.{boxIn}
-use Rattle.interpreter.specs.LineParts.{boxAt, UnitRan}
-use Rattle.interpreter.specs.declared.perform.Present.{Present}
-use Rattle.interpreter.specs.declared.perform.Done.{Done}
+use Rattle.interpreter.specs.PresentParts.{boxIn}
+use Rattle.interpreter.specs.PresentParts.{boxAt}
+use Rattle.interpreter.specs.LineParts.{UnitRan}
+use Rattle.interpreter.specs.declared.present.Present.{Present}
+use Rattle.interpreter.specs.declared.line.Done.{Done}
 use Rattle.interpreter.proofs.header.Path.{holds-none}
 
 -- ---- where a byte stands from a place on
@@ -33,25 +35,25 @@ place x l at end is = let e : end ≡ at + indexOf x (drop at l) = rw (take-leng
 
 -- the units behind the first
 unfoldable others : Text → List Text
-others l = if ltb (indexOf 59 l) (length l) then cutAt 59 (drop (indexOf 59 l + 1) l) else []
+others l = if ltb (indexOf (code ";") l) (length l) then cutAt (code ";") (drop (indexOf (code ";") l + 1) l) else []
 
-first-unit : (l : Text) → cutAt 59 l ≡ take (indexOf 59 l) l ∷ others l
+first-unit : (l : Text) → cutAt (code ";") l ≡ take (indexOf (code ";") l) l ∷ others l
 unfolding cutAt others indexOf indexAfter if_then_else_
 first-unit [] = refl
-first-unit (x ∷ l) = go (eqb x 59) refl (first-unit l)
+first-unit (x ∷ l) = go (eqb x (code ";")) refl (first-unit l)
   where
-    go : (t : Bool) → eqb x 59 ≡ t → cutAt 59 l ≡ take (indexOf 59 l) l ∷ others l
-        → cutAt 59 (x ∷ l) ≡ take (indexOf 59 (x ∷ l)) (x ∷ l) ∷ others (x ∷ l)
+    go : (t : Bool) → eqb x (code ";") ≡ t → cutAt (code ";") l ≡ take (indexOf (code ";") l) l ∷ others l
+        → cutAt (code ";") (x ∷ l) ≡ take (indexOf (code ";") (x ∷ l)) (x ∷ l) ∷ others (x ∷ l)
     go true e ih = rw (e, lt-ltb 0 (suc (length l)) (omega arith))
-    go false e ih = rw (e, ih, leb·suc-suc (suc (indexOf 59 l)) (length l), add-one (suc (indexOf 59 l)), add-one (indexOf 59 l))
+    go false e ih = rw (e, ih, leb·suc-suc (suc (indexOf (code ";") l)) (length l), add-one (suc (indexOf (code ";") l)), add-one (indexOf (code ";") l))
 
-others-more : (l : Text) → indexOf 59 l < length l → others l ≡ cutAt 59 (drop (indexOf 59 l + 1) l)
+others-more : (l : Text) → indexOf (code ";") l < length l → others l ≡ cutAt (code ";") (drop (indexOf (code ";") l + 1) l)
 unfolding others if_then_else_
-others-more l h = rw (lt-ltb (indexOf 59 l) (length l) h)
+others-more l h = rw (lt-ltb (indexOf (code ";") l) (length l) h)
 
-others-none : (l : Text) → length l ≤ indexOf 59 l → others l ≡ []
+others-none : (l : Text) → length l ≤ indexOf (code ";") l → others l ≡ []
 unfolding others if_then_else_
-others-none l h = rw (le-ltb (indexOf 59 l) (length l) h)
+others-none l h = rw (le-ltb (indexOf (code ";") l) (length l) h)
 
 -- ---- units run one by one
 
@@ -72,40 +74,40 @@ run-none path b = refl
 
 pub record Going (b : Box) (line : Text) (keys : List ℕ) (out : Text) (d : Done) (at : ℕ) : Type 0 where
   pub queued : d .present .status .queued ≤ 16
-  pub answers : d .answered < mostAnswer
+  pub answers : d .present .answered < mostAnswer
   pub long : length out ≡ mostAnswer
   pub within : at ≤ length line
   pub path : List Text
   pub holds : Holds path keys (d .used)
-  pub left : runUnits (cutAt 59 (drop at line)) path (boxAt (d .present) (d .answered) out) ≡ runUnits (cutAt 59 line) [] b
+  pub left : runUnits (cutAt (code ";") (drop at line)) path (boxAt (d .present) out) ≡ runUnits (cutAt (code ";") line) [] b
 
-pub going-start : (p : Present) (o : Bool) (line : Text) (keys : List ℕ) (out : Text) → p .status .queued ≤ 16 → length out ≡ mostAnswer
-    → Going (boxIn p []) line keys out (record { present = p; answered = 0; used = 0; obeyed = o }) 0
-going-start p o line keys out q l =
-    record { queued = q; answers = omega arith; long = l; within = zero-le; path = []; holds = holds-none keys; left = refl }
+pub going-start : (p : Present) (o : Bool) (line : Text) (keys : List ℕ) (out : Text) → p .answered ≡ 0 → p .status .queued ≤ 16 → length out ≡ mostAnswer
+    → Going (boxIn p []) line keys out (record { present = p; used = 0; obeyed = o }) 0
+going-start p o line keys out z q l =
+    record { queued = q; answers = omega arith; long = l; within = zero-le; path = []; holds = holds-none keys; left = rw z }
 
 module _ (b : Box) (line : Text) (keys : List ℕ) (out : Text) (d : Done) (at : ℕ) (g : Going b line keys out d at)
-    (end : ℕ) (is : end ≡ at + indexOf 59 (slice at (length line) line)) (within : end ≤ length line)
+    (end : ℕ) (is : end ≡ at + indexOf (code ";") (slice at (length line) line)) (within : end ≤ length line)
     (r : Done) (more : List ℕ) (left : Text) (w : UnitRan d (g .path) (take (end - at) (drop at line)) out r more left) where
   -- the line from this unit on, and the box before it
   abbrev here : Text
   here = drop at line
 
   abbrev before : Box
-  before = boxAt (d .present) (d .answered) out
+  before = boxAt (d .present) out
 
-  n : end - at ≡ indexOf 59 here
-  n = place 59 line at end is
+  n : end - at ≡ indexOf (code ";") here
+  n = place (code ";") line at end is
 
-  first : cutAt 59 here ≡ take (end - at) here ∷ others here
+  first : cutAt (code ";") here ≡ take (end - at) here ∷ others here
   first = rw n (first-unit here)
 
-  stopped : r .obeyed ≡ false → boxAt (r .present) (r .answered) left ≡ runUnits (cutAt 59 line) [] b
+  stopped : r .obeyed ≡ false → boxAt (r .present) left ≡ runUnits (cutAt (code ";") line) [] b
   stopped f =
       let s = w .stops f in
       s .2 ∙ sym (run-stop (take (end - at) here) (others here) (g .path) before (s .0) (s .1)) ∙ (rw first at (g .left))
 
-  passes : (t : r .obeyed ≡ true) → runUnits (others here) (w .goes t .0) (boxAt (r .present) (r .answered) left) ≡ runUnits (cutAt 59 line) [] b
+  passes : (t : r .obeyed ≡ true) → runUnits (others here) (w .goes t .0) (boxAt (r .present) left) ≡ runUnits (cutAt (code ";") line) [] b
   passes t = sym (run-on (take (end - at) here) (others here) (g .path) before _ (w .goes t .1)) ∙ (rw first at (g .left))
 
   pub going-less : (r .obeyed && ltb end (length line)) ≡ true → length line - (end + 1) < length line - at
@@ -118,8 +120,8 @@ module _ (b : Box) (line : Text) (keys : List ℕ) (out : Text) (d : Done) (at :
       let o = w .goes (both .0) in
       let m = n in
       let f = length-drop at line in
-      let next : at + (indexOf 59 here + 1) ≡ end + 1 = omega arith in
-      let rest : others here ≡ cutAt 59 (drop (end + 1) line) = rw (others-more here (omega arith), drop-drop (indexOf 59 here + 1) at line, next) in
+      let next : at + (indexOf (code ";") here + 1) ≡ end + 1 = omega arith in
+      let rest : others here ≡ cutAt (code ";") (drop (end + 1) line) = rw (others-more here (omega arith), drop-drop (indexOf (code ";") here + 1) at line, next) in
       record {
         queued = w .queued;
         answers = w .room;
@@ -130,10 +132,10 @@ module _ (b : Box) (line : Text) (keys : List ℕ) (out : Text) (d : Done) (at :
         left = rw rest at (passes (both .0));
       }
 
-  pub going-end : (r .obeyed && ltb end (length line)) ≡ false → boxAt (r .present) (r .answered) left ≡ runUnits (cutAt 59 line) [] b
+  pub going-end : (r .obeyed && ltb end (length line)) ≡ false → boxAt (r .present) left ≡ runUnits (cutAt (code ";") line) [] b
   going-end e = go (r .obeyed) refl (ltb end (length line)) refl
     where
-      go : (t : Bool) → r .obeyed ≡ t → (u : Bool) → ltb end (length line) ≡ u → boxAt (r .present) (r .answered) left ≡ runUnits (cutAt 59 line) [] b
+      go : (t : Bool) → r .obeyed ≡ t → (u : Bool) → ltb end (length line) ≡ u → boxAt (r .present) left ≡ runUnits (cutAt (code ";") line) [] b
       go false o u q = stopped o
       go true o true q = absurd (false≢true (sym e ∙ rw (o, q)))
       go true o false q =

@@ -5,7 +5,7 @@ use mathlib.Core.List.{List, [], _∷_}
 use Prim.Native.Nat.{ℕ, zero, suc, _+_, _≤_, _<_}
 use native.Mathlib.Omega.{arith}
 use lib.Dec.{leb, ltb, eqb}
-use lib.ListN.{length, getD, take, drop}
+use lib.ListN.{length}
 use lib.IntN.{ℤ, pos}
 use mir.Val.{boolByte}
 use types.Run.{OneOf, miss}
@@ -13,7 +13,7 @@ use denote.Enum.Declared.{tagOf}
 use borrow.Author.Tests.{leb-true, ltb-true, ltb-false}
 use Rattle.registers.specs.Text.{if_then_else_}
 use Rattle.registers.specs.Rounding.{switchedOn, rounded, sideIn}
-use Rattle.registers.specs.Settings.{count, Kind, bool, words, number, table, settingAt, kindOf, quantityOf, sortOf, meantValues, valuesIn, highest}
+use Rattle.registers.specs.Settings.{count, Kind, bool, words, number, table, settingAt, kindOf, sortOf, meantValues, valuesIn, highest}
 use Rattle.registers.specs.declared.number.Decimal.{Decimal}
 use Rattle.registers.specs.declared.rounding.Side.{Side}
 use Rattle.registers.specs.declared.rounding.Side.the-variants.{On}
@@ -23,9 +23,9 @@ use Rattle.registers.specs.declared.settings.Values.the-variants.{Bool as BoolV
 use Rattle.registers.proofs.Tests.{below-at}
 use Rattle.registers.proofs.settings.Laws.{behind-is, values-is}
 use Rattle.registers.proofs.settings.Values as values
-use Rattle.interpreter.specs.RowsParts.{wordCount, wordList}
-use Rattle.interpreter.specs.Parameter.{Word, Figure, least, greatest, asksLimits, takesNumbers, wordsOf, limitAt, valueGiven, sideGiven}
-use Rattle.interpreter.specs.ParameterParts.{TakesOf, isNumber}
+use Rattle.interpreter.specs.WordsParts.{wordCount}
+use Rattle.interpreter.specs.Parameter.{Word, Figure, least, greatest, asksLimits, wordsOf, limitAt, valueGiven, sideGiven}
+use Rattle.interpreter.specs.ParameterParts.{isNumber}
 use Rattle.interpreter.specs.declared.deed.Role.{Role}
 use Rattle.interpreter.specs.declared.deed.Role.the-variants.{Setting, Register, Order, Question}
 use Rattle.interpreter.proofs.deed.Laws.{listed, agree}
@@ -136,26 +136,7 @@ pub limit-other : (s : Settings) (i n : ℕ) → (n ≡ 0 → ⊥) → highest s
 limit-other s i zero h = absurd (h refl)
 limit-other s i (suc n) h = refl
 
--- ---- the code's tables of words
-
-abbrev firstWords : List ℕ
-firstWords = 6 ∷ 6 ∷ 6 ∷ 0 ∷ 8 ∷ 3 ∷ 8 ∷ 8 ∷ 5 ∷ 5 ∷ 8 ∷ 8 ∷ 8 ∷ 8 ∷ 8 ∷ 6 ∷ 6 ∷ []
-
-abbrev wordCounts : List ℕ
-wordCounts = 2 ∷ 2 ∷ 2 ∷ 3 ∷ 2 ∷ 2 ∷ 2 ∷ 2 ∷ 2 ∷ 2 ∷ 2 ∷ 2 ∷ 2 ∷ 2 ∷ 2 ∷ 2 ∷ 2 ∷ []
-
-pub setting-takes : (i : ℕ) → i < count
-    → TakesOf (wordsOf (kindOf i)) (takesNumbers (kindOf i)) (quantityOf i)
-    (record { first = getD firstWords i 0; count = getD wordCounts i 0; numbers = leb 6 (getD firstWords i 0); quantity = quantityOf i })
-unfolding listed wordList settingAt table
-setting-takes i h =
-    record {
-      words = agree count (λ k. take (getD wordCounts k 0) (drop (getD firstWords k 0) wordList)) (λ k. wordsOf (kindOf k)) refl i h;
-      numbers = agree count (λ k. leb 6 (getD firstWords k 0)) (λ k. takesNumbers (kindOf k)) refl i h;
-      quantity = refl;
-      room = leb-true (getD firstWords i 0 + getD wordCounts i 0) wordCount
-          (below-at count (λ k. leb (getD firstWords k 0 + getD wordCounts k 0) wordCount) refl i h);
-    }
+-- ---- how many words a setting takes
 
 pub words-few : (i : ℕ) → i < count → length (wordsOf (kindOf i)) ≤ wordCount
 unfolding settingAt table

@@ -16,7 +16,7 @@ use Rattle.registers.specs.Words.{shortForm, longForm, matches}
 use Rattle.registers.specs.Number.{number, sign, point}
 use Rattle.registers.specs.declared.number.Decimal.{Decimal}
 use Rattle.registers.proofs.Tests.{and-both, and-true}
-use Rattle.interpreter.specs.RowsParts.{wordCount, wordList, wordAt}
+use Rattle.interpreter.specs.WordsParts.{wordCount, wordList, wordAt}
 use Rattle.registers.specs.declared.suffix.Quantity.{Quantity}
 use Rattle.interpreter.specs.Parameter.{Given, Word, Figure, findWord, parameter}
 use Rattle.interpreter.specs.ParameterParts.{aWord, aFigure}

@@ -2,6 +2,7 @@
 use mathlib.Core.Path.{_≡_, refl, sym, ap, _∙_}
 use mathlib.Core.Bool.{true, not}
 use mathlib.Core.List.{[], _∷_, _++_}
+use Prim.Native.Char.{code}
 use Prim.Native.Nat.{ℕ, zero, suc, _+_, _-_, _≤_, _<_}
 use native.Mathlib.Nat.{zero-add}
 use native.Mathlib.Numerals.{add-one}
@@ -19,7 +20,7 @@ use Rattle.registers.specs.Answer.{Laid}
 use Rattle.registers.proofs.answer.Laws.{over-start, over-length}
 use Rattle.interpreter.specs.Box.{mostAnswer}
 use Rattle.interpreter.specs.Deeds.{joined}
-use Rattle.interpreter.specs.DeedsParts.{textOf, said, answeredWith, GivenTo}
+use Rattle.interpreter.specs.ReplyParts.{textOf, said, answeredWith, GivenTo}
 use Rattle.interpreter.specs.declared.reply.Reply.{Reply}
 use Rattle.interpreter.specs.declared.reply.Reply.the-variants.{Nothing, Identity, Word, Tenths, Whole, Number, Error}
 use Rattle.interpreter.proofs.reply.Reply as replies
@@ -42,7 +43,7 @@ unfolding joined if_then_else_
 joined-length [] t = sym (zero-add (length t))
 joined-length (x ∷ a) t = rw (start-more (length a)) (simp length-append (omega arith))
 
-joined-more : (a t : Text) → 0 < length a → joined a t ≡ a ++ 59 ∷ t
+joined-more : (a t : Text) → 0 < length a → joined a t ≡ a ++ code ";" ∷ t
 unfolding joined if_then_else_
 joined-more [] t h = absurd (omega arith)
 joined-more (x ∷ a) t h = refl
@@ -57,23 +58,23 @@ module _ (out tail t : Text) (k : ℕ) (bytes : take (length t) tail ≡ t) (lon
       ∙ ap (λ (y : Text). p ++ y) (take-append-le (length t) tail l long ∙ bytes))
 
   -- the separator is written first: the text of the first answer stands over it
-  stands : (n : ℕ) → n < length out → take (start n + length t) (putMid (start n) k (set out n 59) tail) ≡ joined (take n out) t
+  stands : (n : ℕ) → n < length out → take (start n + length t) (putMid (start n) k (set out n (code ";")) tail) ≡ joined (take n out) t
   unfolding joined if_then_else_
-  stands zero h = behind [] (drop k (set out 0 59)) 0 refl
+  stands zero h = behind [] (drop k (set out 0 (code ";"))) 0 refl
   stands (suc n) h =
-      let p : Text = take (suc n) out ++ 59 ∷ [] in
+      let p : Text = take (suc n) out ++ code ";" ∷ [] in
       let some : 0 < length (take (suc n) out) = rw length-take (omega arith) in
       let size : length p ≡ suc n + 1 = simp (length-append, length-take) (omega arith) in
-      let front : take (suc n + 1) (set out (suc n) 59) ≡ p = rw (add-one (suc n)) (take-suc-set out (suc n) 59 h) in
-      rw (start-more n, front, behind p (drop k (drop (suc n + 1) (set out (suc n) 59))) (suc n + 1) size, joined-more (take (suc n) out) t some)
-      (append-snoc (take (suc n) out) 59 t)
+      let front : take (suc n + 1) (set out (suc n) (code ";")) ≡ p = rw (add-one (suc n)) (take-suc-set out (suc n) (code ";") h) in
+      rw (start-more n, front, behind p (drop k (drop (suc n + 1) (set out (suc n) (code ";")))) (suc n + 1) size, joined-more (take (suc n) out) t some)
+      (append-snoc (take (suc n) out) (code ";") t)
 
 -- ---- check 9
 
 pub says : (r : Reply) → OneOf (1 ∷ 2 ∷ 3 ∷ 4 ∷ 5 ∷ 6 ∷ []) (tagOf replies.the-type r) → said r ≡ true
 says Nothing h = absurd (miss (1 ∷ 2 ∷ 3 ∷ 4 ∷ 5 ∷ 6 ∷ []) 0 tt h)
 says Identity h = refl
-says (Word from to) h = refl
+says (Word n) h = refl
 says (Tenths v) h = refl
 says (Whole v) h = refl
 says (Number n) h = refl
@@ -90,9 +91,9 @@ module _ (out : Text) {answered : ℕ} (room : answered < mostAnswer) (size : le
       record { stands = λ _. (l, refl); falls = λ h. absurd (omega arith) }
 
   module _ (reply : Reply) (some : said reply ≡ true) {tail : Text} {n : ℕ}
-      (laid : Laid (textOf reply) (midOf (start answered) (length (set out answered 59) - start answered) (set out answered 59)) n tail) where
+      (laid : Laid (textOf reply) (midOf (start answered) (length (set out answered (code ";")) - start answered) (set out answered (code ";"))) n tail) where
     abbrev left : Text
-    left = putMid (start answered) (length (set out answered 59) - start answered) (set out answered 59) tail
+    left = putMid (start answered) (length (set out answered (code ";")) - start answered) (set out answered (code ";")) tail
 
     long : length (answeredWith reply so-far) ≡ start answered + n
     unfolding answeredWith if_then_else_
@@ -101,9 +102,9 @@ module _ (out : Text) {answered : ℕ} (room : answered < mostAnswer) (size : le
         rw (some, joined-length, taken, laid .long)
 
     -- the code has it from the length m of the buffer, which is kept
-    module _ {m : ℕ} (kept : m ≡ length (set out answered 59)) where
+    module _ {m : ℕ} (kept : m ≡ length (set out answered (code ";"))) where
       whole : m ≡ mostAnswer
-      whole = kept ∙ length-set out answered 59 ∙ size
+      whole = kept ∙ length-set out answered (code ";") ∙ size
 
       pub given-over : m - start answered ≤ n → GivenTo reply answered out m left
       given-over h =
@@ -119,12 +120,12 @@ module _ (out : Text) {answered : ℕ} (room : answered < mostAnswer) (size : le
       given-whole h =
           let e = whole in
           let fits = end-room h in
-          let lent = midOf (start answered) (length (set out answered 59) - start answered) (set out answered 59) in
+          let lent = midOf (start answered) (length (set out answered (code ";")) - start answered) (set out answered (code ";")) in
           let l : length lent ≡ mostAnswer - start answered = simp (length-take, length-drop, length-set) (omega arith) in
           let k : length (textOf reply) ≤ length lent = let e = laid .long in omega arith in
           let bytes : take (length (textOf reply)) tail ≡ textOf reply = rw (laid .bytes) (over-start (textOf reply) lent k) in
           let t : length (textOf reply) ≤ length tail = rw (laid .bytes, over-length (textOf reply) lent) k in
-          let is = stands out tail (textOf reply) (length (set out answered 59) - start answered) bytes t answered (omega arith) in
+          let is = stands out tail (textOf reply) (length (set out answered (code ";")) - start answered) bytes t answered (omega arith) in
           record {
             stands = λ _. (rw long fits, rw (some, laid .long) is);
             falls = λ f. absurd (omega arith);

@@ -20,11 +20,11 @@ use Rattle.registers.specs.declared.settings.Values.{Values}
 use Rattle.registers.specs.declared.settings.Values.the-variants.{Bool as BoolValue, Word, Tenths, Whole}
 use Rattle.registers.proofs.settings.Laws.{behind-is}
 use Rattle.registers.proofs.settings.Values as values
-use Rattle.interpreter.specs.DeedsParts.{textOf, RepliesWith, ReplyTo}
+use Rattle.interpreter.specs.ReplyParts.{textOf, RepliesWith, ReplyTo}
 use Rattle.interpreter.specs.Parameter.{wordsOf, limitWords}
 use Rattle.interpreter.specs.declared.deed.Deed.{Deed}
 use Rattle.interpreter.specs.declared.deed.Deed.the-variants.{Change, Complete, Clear, Query, Inquire}
-use Rattle.interpreter.specs.declared.perform.Present.{Present}
+use Rattle.interpreter.specs.declared.present.Present.{Present}
 use Rattle.interpreter.specs.declared.reply.Reply.{Reply}
 use Rattle.interpreter.specs.declared.reply.Reply.the-variants.{Nothing, Whole as said-whole}
 use Rattle.interpreter.proofs.deed.Deed as deeds
@@ -55,7 +55,7 @@ module _ (k : Kind) {z : ℤ} (h : SFits w32 z) {told : Values} (is : told ≡ v
   -- a bool is answered as a whole number is
   pub told-whole : OneOf (3 ∷ 0 ∷ []) (tagOf values.the-type told) → RepliesWith (answerOf k z) (said-whole (toZ w32 (ofZ w32 z)))
   unfolding textOf
-  told-whole o = told-value refl (record { is = whole told o; some = refl; stands = tt })
+  told-whole o = told-value refl (record { is = whole told o; some = refl })
     where
       whole : (v : Values) → OneOf (3 ∷ 0 ∷ []) (tagOf values.the-type v)
           → signedText decimal (toZ w32 (ofZ w32 z)) ≡ answerAs v (wordsOf k) (toZ w32 (ofZ w32 z))

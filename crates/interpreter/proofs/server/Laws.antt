@@ -18,7 +18,7 @@ use Rattle.interpreter.specs.Server.{linesOf, Service, service, servedLi
 use Rattle.interpreter.specs.ServerParts.{serviceAt, FlowServed}
 use Rattle.interpreter.specs.declared.flow.Flow.{Flow}
 use Rattle.registers.proofs.Tests.{and-both}
-use Rattle.interpreter.proofs.line.Newline.{waits}
+use Rattle.interpreter.proofs.present.Laws.{waits}
 use Rattle.interpreter.proofs.flow.Laws.{first-some, first-within}
 
 -- ---- the first line
@@ -47,29 +47,29 @@ serves-on s l ls h = rw (le-leb mostAnswer (length (s .rest)) h)
 
 -- the answer is gone
 abbrev pub taken-from : Flow → Flow
-taken-from f = record { present = f .present; filled = f .filled; overlong = f .overlong; waiting = 0; read = f .read; count = f .count }
+taken-from f = record { present = record { settings = f .present .settings; status = f .present .status; answered = 0 }; filled = f .filled; overlong = f .overlong; read = f .read; count = f .count }
 
 module _ (f r : Flow) (line out bytes lines left : Text) (w : FlowFed f line out bytes r lines left) (outs : length left ≡ mostAnswer) where
   pub served-one : (read : ℕ) (answers rest : Text) → mostAnswer ≤ length rest
       → servedLine (service (flowBox f line out) read answers rest) bytes
-      ≡ service (flowBox (taken-from r) lines left) (read + length bytes) (answers ++ take (r .waiting) left) (drop (r .waiting) rest)
+      ≡ service (flowBox (taken-from r) lines left) (read + length bytes) (answers ++ take (r .present .answered) left) (drop (r .present .answered) rest)
   unfolding servedLine happens taken if_then_else_
-  served-one read answers rest h = go (eqb (r .waiting) 0) refl
+  served-one read answers rest h = go (eqb (r .present .answered) 0) refl
     where
-      n : length (take (r .waiting) left) ≡ r .waiting
+      n : length (take (r .present .answered) left) ≡ r .present .answered
       n = let k = w .fits .waiting in rw length-take (omega arith)
 
-      within : r .waiting ≤ length rest
+      within : r .present .answered ≤ length rest
       within = let k = w .fits .waiting in omega arith
 
-      is : empty (take (r .waiting) left) ≡ eqb (r .waiting) 0
-      is = waits left (r .waiting) (omega arith)
+      is : empty (take (r .present .answered) left) ≡ eqb (r .present .answered) 0
+      is = waits left (r .present .answered) (omega arith)
 
-      go : (t : Bool) → eqb (r .waiting) 0 ≡ t → servedLine (service (flowBox f line out) read answers rest) bytes
-          ≡ service (flowBox (taken-from r) lines left) (read + length bytes) (answers ++ take (r .waiting) left) (drop (r .waiting) rest)
-      go true e = let z = eqb-true (r .waiting) 0 e in rw (← w .box, is, z, append-nil answers)
+      go : (t : Bool) → eqb (r .present .answered) 0 ≡ t → servedLine (service (flowBox f line out) read answers rest) bytes
+          ≡ service (flowBox (taken-from r) lines left) (read + length bytes) (answers ++ take (r .present .answered) left) (drop (r .present .answered) rest)
+      go true e = let z = eqb-true (r .present .answered) 0 e in rw (← w .box, is, z, append-nil answers)
       go false e =
-          rw (← w .box, is, e, n, le-leb (r .waiting) (length rest) within, take-at (take (r .waiting) left) (drop (r .waiting) rest) (r .waiting) n, drop-at (take (r .waiting) left) (drop (r .waiting) rest) (r .waiting) n)
+          rw (← w .box, is, e, n, le-leb (r .present .answered) (length rest) within, take-at (take (r .present .answered) left) (drop (r .present .answered) rest) (r .present .answered) n, drop-at (take (r .present .answered) left) (drop (r .present .answered) rest) (r .present .answered) n)
 
 -- ---- the loop over a chunk's lines
 
@@ -112,7 +112,7 @@ module _ (begun : Service) (room : ℕ) (input line out output : Text) (f : Flow
           let n = w .read in
           omega arith
 
-      pub serve-on : length out′ ≡ mostAnswer → (end : ℕ) (output′ : Text) → end ≡ written + r .waiting → output′ ≡ paste output written out′ (r .waiting)
+      pub serve-on : length out′ ≡ mostAnswer → (end : ℕ) (output′ : Text) → end ≡ written + r .present .answered → output′ ≡ paste output written out′ (r .present .answered)
           → Serving begun room input line′ out′ output′ (taken-from r) end
       serve-on outs end output′ e u =
           let h = more-input in
@@ -122,12 +122,12 @@ module _ (begun : Service) (room : ℕ) (input line out output : Text) (f : Flow
           let d = length-drop (f .read) input in
           let k = length-drop written output in
           let m = first-within (drop (f .read) input) in
-          let long = length-paste output written out′ (r .waiting) (omega arith) (omega arith) in
+          let long = length-paste output written out′ (r .present .answered) (omega arith) (omega arith) in
           let rest = lines-first (drop (f .read) input) (omega arith) in
           let behind : drop (length first) (drop (f .read) input) ≡ drop (r .read) input = rw (is, drop-drop) in
           let one = served-one f r line out first line′ out′ w outs (f .read) (take written output) (drop written output) (omega arith) in
           let now : serviceAt (taken-from r) end line′ out′ output′ ≡ servedLine (serviceAt f written line out output) first =
-          rw (is, e, u, take-paste output written out′ (r .waiting) (omega arith) (omega arith), drop-paste output written out′ (r .waiting) (omega arith) (omega arith), ← drop-drop (r .waiting) written output)
+          rw (is, e, u, take-paste output written out′ (r .present .answered) (omega arith) (omega arith), drop-paste output written out′ (r .present .answered) (omega arith) (omega arith), ← drop-drop (r .present .answered) written output)
           (sym one) in
           record {
             fits = record { filled = w .fits .filled; waiting = zero-le; queued = w .fits .queued; few = w .fits .few };

@@ -24,7 +24,7 @@ use Rattle.interpreter.specs.StateParts.{Tested, flowOf, stateOf}
 use Rattle.interpreter.specs.FlowParts.{FlowFed}
 use Rattle.interpreter.specs.declared.state.State.{State}
 use Rattle.interpreter.specs.declared.flow.Flow.{Flow}
-use Rattle.interpreter.proofs.line.Newline.{waits}
+use Rattle.interpreter.proofs.present.Laws.{waits}
 use Rattle.interpreter.proofs.state.Records.{Short, short-from, could, could-not, happens-so}
 
 -- an event that is no power-up

@@ -9,7 +9,8 @@ use lib.Seq.{drop-append-le, drop-append-add, drop-drop, getD-append-add, getD-d
 use Rattle.registers.specs.Text.{Text, if_then_else_}
 use Rattle.registers.specs.Words.{shortForm, longForm}
 use Rattle.interpreter.specs.NameParts.{codeOf, keyOf}
-use Rattle.interpreter.specs.RowsParts.{wordBytes, keyBytes, firstKey, firstCode, firstStart, wordCount, rowCount, nodeCount, nodeList, nodeAt, wordTable, rowTable, eight, keyRow, keyTableOf, keyTable, listFrom, codeTable, startOf, startTable, searchTable, commandTable, wordCell, rowCell, quadAt, keyCell}
+use Rattle.interpreter.specs.WordsParts.{wordBytes, wordCount, wordTable, wordCell}
+use Rattle.interpreter.specs.RowsParts.{keyBytes, firstKey, firstCode, firstStart, rowCount, nodeCount, nodeList, nodeAt, rowTable, eight, keyRow, keyTableOf, keyTable, listFrom, codeTable, startOf, startTable, searchTable, commandTable, rowCell, quadAt, keyCell}
 use Rattle.interpreter.proofs.Lists.{table-at}
 use Rattle.interpreter.proofs.table.Lengths.{words-long, rows-long, nodes-many, keys-wide, keys-long, lists, codes-long}
 

@@ -26,28 +26,28 @@ run-line-requires : tie.Need-run-line-requires
 run-line-requires c κs =
     let p = c .before .before .before .before .before .pre in
     let g = c .run-line-arg2 .given in
-    (p .0, (search needs, c .before .before .discard .ensures .queued (p .1 .queued)))
+    ((p .0, c .before .before .discard .ensures .gone), (search needs, c .before .before .discard .ensures .queued (p .1 .queued)))
 
-add-t12 : tie.Need-add-t12
-add-t12 c = omega arith
+add-t11 : tie.Need-add-t11
+add-t11 c = omega arith
 
-add-t17 : tie.Need-add-t17
-add-t17 c = let few = c .before .before .before .before .before .before .before .before .before .pre .1 .few in omega arith
+add-t16 : tie.Need-add-t16
+add-t16 c = let few = c .before .before .before .before .before .before .before .before .pre .1 .few in omega arith
 
 returns : tie.Need-returns
 unfolding piece byte newlines if_then_else_
 returns c =
-    let a = c .before .before .before .before .before .before .before .before .before .args in
+    let a = c .before .before .before .before .before .before .before .before .args in
     let f = a .flow in
-    let g = c .before .before .before .before .run-line-arg2 .given in
+    let g = c .before .before .before .run-line-arg2 .given in
     let outs : length (a .out .now) ≡ 1024 = search needs in
     let room : 0 < length (a .out .now) = omega arith in
-    let few = c .before .before .before .before .before .before .before .before .before .pre .1 .few in
-    let d = c .before .before .before .before .before .before .discard in
-    let w = c .before .before .before .run-line .ensures in
+    let few = c .before .before .before .before .before .before .before .before .pre .1 .few in
+    let d = c .before .before .before .before .before .discard in
+    let w = c .before .before .run-line .ensures in
     record {
       fits = record { filled = zero-le; waiting = w .room; queued = w .queued; few = omega arith };
-      box = rw (← ended (f .present) (a .out .now) (f .waiting) (d .result) (d .ensures) room (take (f .filled) (a .line .now)) (f .overlong)) (rw sub-zero at (w .box));
+      box = rw (← ended (f .present) (a .out .now) (d .result) (d .ensures) room (take (f .filled) (a .line .now)) (f .overlong)) (rw sub-zero at (w .box));
       read = refl;
       count = refl;
     }
@@ -61,6 +61,6 @@ newline-spec =
     part-run-line-start
     part-run-line-end
     run-line-requires
-    add-t12
-    add-t17
+    add-t11
+    add-t16
     returns)

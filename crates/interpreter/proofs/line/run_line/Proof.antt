@@ -1,7 +1,9 @@
 use mathlib.Core.Path.{_≡_}
 use native.Mathlib.Omega.{arith}
 use lib.ListN.{length}
-use Rattle.interpreter.proofs.line.Laws.{raised-short}
+use Rattle.registers.specs.declared.error.Error.the-variants.{InputBufferOverrun}
+use Rattle.interpreter.specs.PresentParts.{raisedWith}
+use Rattle.interpreter.proofs.present.Laws.{raised-short}
 use Rattle.interpreter.proofs.line.Newline.{blank, not-blank, line-overlong, line-blank, line-none, line-some}
 use borrow.Author.Needs.{needs}
 use Rattle.interpreter.proofs.line.run_line.Statement.{statement}
@@ -11,15 +13,17 @@ raise-requires : tie.Need-raise-requires
 raise-requires c κs = tt
 
 returns : tie.Need-returns
+unfolding raisedWith
 returns c =
     let a = c .before .before .before .before .before .args in
     let s = c .before .before .before .before .before .good .1 .0 .1 .1 .1 .0 .1 .1 in
     let long : length (a .present .status .errors) ≡ 16 = search needs in
     let raised = c .raise .ensures in
+    let none = c .before .before .before .before .before .pre .0 .1 in
     record {
-      queued = rw raised (raised-short _ (a .present) long (c .before .before .before .before .before .pre .1 .1));
-      room = omega arith;
-      box = rw raised (line-overlong (a .present) (a .line .now) (a .overlong) long (c .before .if1 .taken));
+      queued = rw raised (raised-short InputBufferOverrun (a .present) long (c .before .before .before .before .before .pre .1 .1));
+      room = rw (raised, none) (omega arith);
+      box = rw (raised, none) (line-overlong (a .present) (a .line .now) (a .overlong) long (c .before .if1 .taken));
     }
 
 white-end-requires : tie.Need-white-end-requires
@@ -28,10 +32,11 @@ white-end-requires c κs = tt
 returns-2 : tie.Need-returns-2
 returns-2 c =
     let a = c .before .before .before .before .before .before .args in
+    let none = c .before .before .before .before .before .before .pre .0 .1 in
     record {
       queued = c .before .before .before .before .before .before .pre .1 .1;
-      room = omega arith;
-      box = line-blank (a .present) (a .line .now) (a .overlong) (c .before .before .if1 .left) (blank (a .line .now) (c .before .white-end .result) (c .before .white-end .ensures) (c .if2 .taken));
+      room = rw none (omega arith);
+      box = rw none (line-blank (a .present) (a .line .now) (a .overlong) (c .before .before .if1 .left) (blank (a .line .now) (c .before .white-end .result) (c .before .white-end .ensures) (c .if2 .taken)));
     }
 
 run-units-requires : tie.Need-run-units-requires

@@ -3,7 +3,7 @@ use Prim.Native.Nat.{_-_}
 use native.Mathlib.Omega.{arith}
 use lib.ListN.{length}
 use borrow.Author.Tests.{not-true, not-false}
-use Rattle.interpreter.specs.DeedsParts.{boxIn}
+use Rattle.interpreter.specs.PresentParts.{boxIn}
 use Rattle.interpreter.proofs.line.Units.{Going, going-start, going-less, going-on, going-end}
 use Rattle.interpreter.proofs.line.run_units.Statement.{statement}
 use Rattle.interpreter.proofs.line.run_units.Tie as tie
@@ -18,7 +18,7 @@ loop-holds : tie.Need-loop-holds Inv-loop μ-loop
 loop-holds c =
     let a = c .before .before .before .args in
     let p = c .before .before .before .pre in
-    going-start (a .present) _ (a .line .now) _ (a .out .now) (p .1 .1) (p .1 .0)
+    going-start (a .present) _ (a .line .now) _ (a .out .now) (p .0 .1) (p .1 .1) (p .1 .0)
 
 find-requires : tie.Need-find-requires Inv-loop μ-loop
 find-requires c κs =
@@ -38,7 +38,7 @@ run-unit-requires : tie.Need-run-unit-requires Inv-loop μ-loop
 run-unit-requires c κs =
     let p = c .before .before .before .before .before .before .before .before .pre in
     let g = c .before .before .before .before .loop .inv in
-    ((p .0, (g .path, g .holds)), (g .answers, g .long, g .queued))
+    ((p .0 .0, (g .path, g .holds)), (g .answers, g .long, g .queued))
 
 same-length : tie.Need-same-length Inv-loop μ-loop
 same-length c =

@@ -7,10 +7,10 @@ use Rattle.interpreter.proofs.parameter.find_word.Statement.{statement}
 use Rattle.interpreter.proofs.parameter.find_word.Tie as tie
 
 abbrev Inv-loop : tie.InvT-loop
-Inv-loop table takes text n₀ n = Searching (takes .first) (takes .count) text n
+Inv-loop table words text n₀ n = Searching (words .first) (words .count) text n
 
 abbrev μ-loop : tie.MeasureT-loop
-μ-loop table takes text n₀ n = takes .count - n
+μ-loop table words text n₀ n = words .count - n
 
 loop-holds : tie.Need-loop-holds Inv-loop μ-loop
 loop-holds c = record { room = c .before .before .pre .1; left = refl }

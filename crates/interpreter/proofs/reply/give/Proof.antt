@@ -1,5 +1,6 @@
 use mathlib.Core.Path.{_∙_}
 use Prim.Native.Nat.{_≤_}
+use Prim.Native.Char.{code}
 use native.Mathlib.Nat.{le-refl}
 use native.Mathlib.Omega.{arith}
 use lib.ListN.{length, set, length-set}
@@ -8,19 +9,19 @@ use Rattle.interpreter.proofs.reply.Answers.{start, start-room, says, g
 use Rattle.interpreter.proofs.reply.give.Statement.{statement}
 use Rattle.interpreter.proofs.reply.give.Tie as tie
 
-room-at : (s : tie.Start) → start (s .args .answered) ≤ length (set (s .args .out .now) (s .args .answered) 59)
-room-at s = rw length-set (rw (s .pre .1 .1) (start-room (s .args .answered) (s .pre .1 .0)))
+room-at : (s : tie.Start) → start (s .args .answered) ≤ length (set (s .args .out .now) (s .args .answered) (code ";"))
+room-at s = rw length-set (rw (s .pre .1) (start-room (s .args .answered) (s .pre .0)))
 
 abbrev entry : tie.After-out → tie.Start
-entry o = o .before .before .before .before .before .before
+entry o = o .before .before .before .before .before
 
 enum-told : tie.Need-enum-told
 enum-told c = c .match .keys1
 
 returns : tie.Need-returns
 returns c =
-    let s = c .before .before .before .before in
-    rw (c .enum-told .given .1) (given-none (s .args .out .now) (s .pre .1 .0) (s .pre .1 .1))
+    let s = c .before .before .before in
+    rw (c .enum-told .given .1) (given-none (s .args .out .now) (s .pre .0) (s .pre .1))
 
 slice-write-out : tie.Need-slice-write-out
 slice-write-out c = omega arith
@@ -29,31 +30,31 @@ cast-start : tie.Need-cast-start
 cast-start c = tt
 
 add-start : tie.Need-add-start
-add-start c = let h = start-room (c .before .before .before .args .answered) (c .before .before .before .pre .1 .0) in omega arith
+add-start c = let h = start-room (c .before .before .args .answered) (c .before .before .pre .0) in omega arith
 
 sub-write : tie.Need-sub-write
-sub-write c = room-at (c .before .before .before)
+sub-write c = room-at (c .before .before)
 
 part-write-start : tie.Need-part-write-start
-part-write-start c = room-at (c .before .before .before)
+part-write-start c = room-at (c .before .before)
 
 part-write-end : tie.Need-part-write-end
 part-write-end c = le-refl _
 
 write-requires : tie.Need-write-requires
-write-requires c κs = search needs
+write-requires c κs = tt
 
 sub-if1 : tie.Need-sub-if1
 sub-if1 c = rw (c .before .out .given .1) (room-at (entry (c .before)))
 
 same-length : tie.Need-same-length
-same-length c = let o = c .before .before in o .out .given .1 ∙ length-set (entry o .args .out .now) (entry o .args .answered) 59
+same-length c = let o = c .before .before in o .out .given .1 ∙ length-set (entry o .args .out .now) (entry o .args .answered) (code ";")
 
 returns-2 : tie.Need-returns-2
 returns-2 c =
     let o = c .before .before in
     let a = entry o .args in
-    let p = entry o .pre .1 in
+    let p = entry o .pre in
     given-over (a .out .now) (p .0) (p .1) (a .reply) (says (a .reply) (o .before .before .before .match .keys2)) (o .before .write .ensures)
     (o .out .given .1) (c .if1 .taken)
 
@@ -61,20 +62,20 @@ add-result : tie.Need-add-result
 add-result c =
     let o = c .before .before in
     let a = entry o .args in
-    let p = entry o .pre .1 in
+    let p = entry o .pre in
     let h =
     end-room (a .out .now) (p .0) (p .1) (a .reply) (says (a .reply) (o .before .before .before .match .keys2)) (o .before .write .ensures)
     (o .out .given .1) (c .if1 .left) in
     omega arith
 
 same-length-2 : tie.Need-same-length-2
-same-length-2 c = let o = c .before .before in o .out .given .1 ∙ length-set (entry o .args .out .now) (entry o .args .answered) 59
+same-length-2 c = let o = c .before .before in o .out .given .1 ∙ length-set (entry o .args .out .now) (entry o .args .answered) (code ";")
 
 returns-3 : tie.Need-returns-3
 returns-3 c =
     let o = c .before .before in
     let a = entry o .args in
-    let p = entry o .pre .1 in
+    let p = entry o .pre in
     given-whole (a .out .now) (p .0) (p .1) (a .reply) (says (a .reply) (o .before .before .before .match .keys2)) (o .before .write .ensures)
     (o .out .given .1) (c .if1 .left)
 

@@ -7,7 +7,7 @@ enum-known-deed : tie.Need-enum-known-deed
 enum-known-deed c = c .match .keys1
 
 to-query-requires : tie.Need-to-query-requires
-to-query-requires c κs = search needs
+to-query-requires c κs = tt
 
 enum-known-deed-2 : tie.Need-enum-known-deed-2
 enum-known-deed-2 c = c .match .keys2
@@ -19,12 +19,12 @@ returns : tie.Need-returns
 returns c = rw (c .before .before .deed .given .1) (c .to-query .ensures)
 
 returns-2 : tie.Need-returns-2
-returns-2 c = rw (c .before .before .deed2 .given .1) (c .to-inquiry .ensures)
+returns-2 c = rw (c .before .before .before .deed2 .given .1) (c .to-inquiry .ensures)
 
 returns-3 : tie.Need-returns-3
 returns-3 c =
-    let a = c .before .before .args in
-    nothing-said (a .deed) (c .match .keys3) (a .present) (a .answers)
+    let a = c .before .args in
+    nothing-said (a .deed) (c .match .keys3) (a .present) _
 
 pub to-deed-spec : {M : Type 1} → statement M
 to-deed-spec =

@@ -1,6 +1,6 @@
 use native.Mathlib.Omega.{arith}
 use mathlib.Core.Path.{refl}
-use Rattle.interpreter.specs.DeedsParts.{textOf}
+use Rattle.interpreter.specs.ReplyParts.{textOf}
 use Rattle.interpreter.proofs.reply.to_inquiry.Statement.{statement}
 use Rattle.interpreter.proofs.reply.to_inquiry.Tie as tie
 
@@ -24,15 +24,15 @@ oldest-requires c κs = tt
 
 returns : tie.Need-returns
 unfolding textOf
-returns c = rw (c .enum-told .given .1) (record { is = refl; some = refl; stands = tt })
+returns c = rw (c .enum-told .given .1) (record { is = refl; some = refl })
 
 returns-2 : tie.Need-returns-2
 unfolding textOf
-returns-2 c = rw (c .before .enum-told2 .given .1, c .status-byte .ensures) (record { is = refl; some = refl; stands = tt })
+returns-2 c = rw (c .before .enum-told2 .given .1, c .status-byte .ensures) (record { is = refl; some = refl })
 
 returns-3 : tie.Need-returns-3
 unfolding textOf
-returns-3 c = rw (c .before .enum-told3 .given .1, c .oldest .ensures) (record { is = refl; some = refl; stands = tt })
+returns-3 c = rw (c .before .enum-told3 .given .1, c .oldest .ensures) (record { is = refl; some = refl })
 
 pub to-inquiry-spec : {M : Type 1} → statement M
 to-inquiry-spec =

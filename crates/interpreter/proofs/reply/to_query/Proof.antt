@@ -6,7 +6,7 @@ use borrow.Author.Needs.{needs}
 use Rattle.registers.specs.Text.{if_then_else_, bytes}
 use Rattle.registers.specs.Answer.{inPlaces, decimal}
 use Rattle.interpreter.specs.Deeds.{replyTo}
-use Rattle.interpreter.specs.DeedsParts.{textOf}
+use Rattle.interpreter.specs.ReplyParts.{textOf}
 use Rattle.interpreter.proofs.reply.to_query.Statement.{statement}
 use Rattle.interpreter.proofs.reply.to_query.Tie as tie
 
@@ -23,7 +23,7 @@ enum-known-query : tie.Need-enum-known-query
 enum-known-query c = c .match .keys4
 
 to-value-requires : tie.Need-to-value-requires
-to-value-requires c κs = search needs
+to-value-requires c κs = tt
 
 enum-known-query-2 : tie.Need-enum-known-query-2
 enum-known-query-2 c = c .match .keys5
@@ -32,7 +32,7 @@ value-requires : tie.Need-value-requires
 value-requires c κs = tt
 
 to-value-requires-2 : tie.Need-to-value-requires-2
-to-value-requires-2 c κs = search needs
+to-value-requires-2 c κs = tt
 
 enum-known-query-3 : tie.Need-enum-known-query-3
 enum-known-query-3 c = c .match .keys6
@@ -54,15 +54,15 @@ group-requires-2 c κs = tt
 
 returns : tie.Need-returns
 unfolding textOf replyTo
-returns c = rw (c .enum-told .given .1) (record { is = refl; some = refl; stands = tt })
+returns c = rw (c .enum-told .given .1) (record { is = refl; some = refl })
 
 returns-2 : tie.Need-returns-2
 unfolding textOf replyTo decimal inPlaces bytes if_then_else_
-returns-2 c = rw (c .enum-told2 .given .1) (record { is = refl; some = refl; stands = tt })
+returns-2 c = rw (c .enum-told2 .given .1) (record { is = refl; some = refl })
 
 returns-3 : tie.Need-returns-3
 unfolding textOf replyTo decimal inPlaces bytes if_then_else_
-returns-3 c = rw (c .enum-told3 .given .1) (record { is = refl; some = refl; stands = tt })
+returns-3 c = rw (c .enum-told3 .given .1) (record { is = refl; some = refl })
 
 returns-4 : tie.Need-returns-4
 unfolding replyTo
@@ -79,15 +79,15 @@ returns-5 c =
 
 returns-6 : tie.Need-returns-6
 unfolding textOf replyTo
-returns-6 c = rw (c .before .before .query3 .given .1, c .register .ensures) (record { is = refl; some = refl; stands = tt })
+returns-6 c = rw (c .before .before .query3 .given .1, c .register .ensures) (record { is = refl; some = refl })
 
 returns-7 : tie.Need-returns-7
 unfolding textOf replyTo
-returns-7 c = rw (c .before .before .query4 .given .1, c .group .ensures) (record { is = refl; some = refl; stands = tt })
+returns-7 c = rw (c .before .before .query4 .given .1, c .group .ensures) (record { is = refl; some = refl })
 
 returns-8 : tie.Need-returns-8
 unfolding textOf replyTo
-returns-8 c = rw (c .before .before .query5 .given .1, c .group2 .ensures) (record { is = refl; some = refl; stands = tt })
+returns-8 c = rw (c .before .before .query5 .given .1, c .group2 .ensures) (record { is = refl; some = refl })
 
 pub to-query-spec : {M : Type 1} → statement M
 to-query-spec =

@@ -1,13 +1,13 @@
 use mathlib.Core.Path.{_≡_, refl}
 use Rattle.registers.specs.Settings.{kindOf, valuesIn}
 use Rattle.registers.proofs.settings.Laws.{values-is}
-use Rattle.interpreter.specs.DeedsParts.{textOf}
+use Rattle.interpreter.specs.ReplyParts.{textOf}
 use Rattle.interpreter.proofs.reply.Values.{told-value, told-whole, word-row}
 use Rattle.interpreter.proofs.reply.to_value.Statement.{statement}
 use Rattle.interpreter.proofs.reply.to_value.Tie as tie
 
-named : (c : tie.After-values-of) → c .values-of .result ≡ valuesIn (kindOf (c .before .before .args .row))
-named c = values-is (c .values-of .result) (kindOf (c .before .before .args .row)) (c .values-of .ensures)
+named : (c : tie.After-values-of) → c .values-of .result ≡ valuesIn (kindOf (c .before .args .row))
+named c = values-is (c .values-of .result) (kindOf (c .before .args .row)) (c .values-of .ensures)
 
 values-of-requires : tie.Need-values-of-requires
 values-of-requires c κs = tt
@@ -16,22 +16,22 @@ enum-told : tie.Need-enum-told
 enum-told c = c .match .keys1
 
 to-word-requires : tie.Need-to-word-requires
-to-word-requires c κs = (c .before .before .before .before .pre, word-row (c .before .before .before .before .args .row) (named (c .before .before)) (c .enum-told .given .1))
+to-word-requires c κs = (word-row (c .before .before .before .args .row) (named (c .before .before)) (c .enum-told .given .1))
 
 enum-told-2 : tie.Need-enum-told-2
 enum-told-2 c = c .match .keys2
 
 returns : tie.Need-returns
-returns c = told-value (kindOf (c .before .before .before .before .before .args .row)) (c .before .before .before .before .before .fits .value) (named (c .before .before .before)) (c .before .enum-told .given .1) (c .to-word .ensures)
+returns c = told-value (kindOf (c .before .before .before .before .args .row)) (c .before .before .before .before .fits .value) (named (c .before .before .before)) (c .before .enum-told .given .1) (c .to-word .ensures)
 
 returns-2 : tie.Need-returns-2
 unfolding textOf
 returns-2 c =
-    told-value (kindOf (c .before .before .before .before .args .row)) (c .before .before .before .before .fits .value) (named (c .before .before)) (c .enum-told2 .given .1)
-    (record { is = refl; some = refl; stands = tt })
+    told-value (kindOf (c .before .before .before .args .row)) (c .before .before .before .fits .value) (named (c .before .before)) (c .enum-told2 .given .1)
+    (record { is = refl; some = refl })
 
 returns-3 : tie.Need-returns-3
-returns-3 c = told-whole (kindOf (c .before .before .before .args .row)) (c .before .before .before .fits .value) (named (c .before)) (c .match .keys3)
+returns-3 c = told-whole (kindOf (c .before .before .args .row)) (c .before .before .fits .value) (named (c .before)) (c .match .keys3)
 
 pub to-value-spec : {M : Type 1} → statement M
 to-value-spec =

@@ -1,13 +1,11 @@
-use mathlib.Core.Path.{refl, ap, _∙_}
+use mathlib.Core.Path.{refl}
 use native.Mathlib.Omega.{arith}
-use lib.ListN.{length}
 use mir.Syntax.{w32}
 use mir.Val.{SFits}
 use mir.Facts.{toZ-ofZ}
 use Rattle.registers.specs.Text.{bytes}
 use Rattle.registers.proofs.answer.Laws.{laid-whole, laid-none}
-use Rattle.interpreter.specs.DeedsParts.{textOf}
-use Rattle.interpreter.proofs.table.Lengths.{commands-long}
+use Rattle.interpreter.specs.ReplyParts.{textOf}
 use Rattle.interpreter.proofs.reply.write.Statement.{statement}
 use Rattle.interpreter.proofs.reply.write.Tie as tie
 
@@ -26,25 +24,8 @@ write-text-requires c κs = tt
 enum-known-reply : tie.Need-enum-known-reply
 enum-known-reply c = c .match .keys3
 
-sub-write-text : tie.Need-sub-write-text
-sub-write-text c =
-    let h = rw (c .before .reply .given .1) at (c .before .before .before .before .before .pre .1) in
-    h .0
-
-part-write-text-start : tie.Need-part-write-text-start
-part-write-text-start c =
-    let h = rw (c .before .reply .given .1) at (c .before .before .before .before .before .pre .1) in
-    h .0
-
-part-write-text-end : tie.Need-part-write-text-end
-part-write-text-end c =
-    let h = rw (c .before .reply .given .1) at (c .before .before .before .before .before .pre .1) in
-    let l = ap length (c .before .before .before .before .before .pre .0) ∙ commands-long in
-    let k = h .1 in
-    omega arith
-
-write-text-requires-2 : tie.Need-write-text-requires-2
-write-text-requires-2 c κs = tt
+write-short-requires : tie.Need-write-short-requires
+write-short-requires c κs = tt
 
 enum-known-reply-2 : tie.Need-enum-known-reply-2
 enum-known-reply-2 c = c .match .keys4
@@ -75,7 +56,7 @@ write-error-requires c κs = tt
 
 returns : tie.Need-returns
 unfolding textOf
-returns c = rw (c .enum-told .given .1) (laid-whole (laid-none 0 (c .before .before .before .before .args .tail .now)))
+returns c = rw (c .enum-told .given .1) (laid-whole (laid-none 0 (c .before .before .before .args .tail .now)))
 
 same-length : tie.Need-same-length
 same-length c = c .before .before .write-text .kept .1 .0
@@ -85,11 +66,11 @@ unfolding textOf bytes
 returns-2 c = rw (c .before .before .before .before .before .enum-told2 .given .1) (c .before .before .write-text .ensures)
 
 same-length-2 : tie.Need-same-length-2
-same-length-2 c = c .before .before .write-text2 .kept .1 .0
+same-length-2 c = c .before .before .write-short .kept .1 .0
 
 returns-3 : tie.Need-returns-3
 unfolding textOf
-returns-3 c = rw (c .before .before .before .before .before .before .reply .given .1) (rw (c .before .before .before .before .before .before .before .before .before .before .pre .0) at (c .before .before .write-text2 .ensures))
+returns-3 c = rw (c .before .before .before .before .before .reply .given .1) (c .before .before .write-short .ensures)
 
 same-length-3 : tie.Need-same-length-3
 same-length-3 c = c .before .before .write-tenths .kept .1 .0
@@ -132,10 +113,7 @@ write-spec =
     slice-aggregate-write-text
     write-text-requires
     enum-known-reply
-    sub-write-text
-    part-write-text-start
-    part-write-text-end
-    write-text-requires-2
+    write-short-requires
     enum-known-reply-2
     write-tenths-requires
     enum-known-reply-3

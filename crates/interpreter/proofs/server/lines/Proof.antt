@@ -4,6 +4,7 @@ use Prim.Native.Nat.{_-_}
 use native.Mathlib.Omega.{arith}
 use lib.ListN.{length}
 use borrow.Author.Needs.{needs}
+use Rattle.interpreter.specs.Box.{mostAnswer}
 use Rattle.interpreter.specs.FlowParts.{flowBox}
 use Rattle.interpreter.specs.Server.{service}
 use Rattle.interpreter.proofs.server.Laws.{Serving, serve-begun, more-input, more-room, serve-further, serve-on, serve-end}
@@ -16,6 +17,14 @@ Inv-loop table flow₀ line₀ out₀ input output₀ written₀ flow line out o
 
 abbrev μ-loop : tie.MeasureT-loop
 μ-loop table flow₀ line₀ out₀ input output₀ written₀ flow line out output written = length input - flow .read
+
+-- a turn of the loop, from where its line was fed
+abbrev served-from : tie.After-feed-line Inv-loop μ-loop → tie.Then1 Inv-loop μ-loop
+served-from l = l .before .before .before
+
+-- the answer's buffer keeps its length
+outs : (p : tie.After-paste-arg3 Inv-loop μ-loop) → length (p .before .before .before .feed-line .last .1 .1 .1 .0) ≡ mostAnswer
+outs p = search needs
 
 loop-holds : tie.Need-loop-holds Inv-loop μ-loop
 loop-holds c =
@@ -31,22 +40,26 @@ feed-line-requires c κs = let g = c .before .before .before .before .loop .inv 
 paste-requires : tie.Need-paste-requires Inv-loop μ-loop
 paste-requires c κs =
     let few = c .before .before .before .feed-line .ensures .fits .waiting in
-    let outs : length (c .before .before .before .feed-line .last .1 .1 .1 .0) ≡ 1024 = search needs in
+    let long = outs c in
     let free = more-room _ _ _ _ _ _ _ _ (c .before .before .before .before .before .before .before .before .loop .inv) (c .before .before .before .before .before .before .if1 .taken) in
     (omega arith, omega arith)
 
 loop-less : tie.Need-loop-less Inv-loop μ-loop
 loop-less c =
-    let fed = c .before .before .before .before .before .before .feed-line in
-    let k = serve-further _ _ _ _ _ _ _ _ (c .before .before .before .before .before .before .before .before .before .before .before .loop .inv) (c .before .before .before .before .before .before .before .before .before .if1 .taken) (fed .result) _ _ (fed .ensures) in
-    let n = more-input _ _ _ _ _ _ _ _ (c .before .before .before .before .before .before .before .before .before .before .before .loop .inv) (c .before .before .before .before .before .before .before .before .before .if1 .taken) in
+    let l = c .before .before .before .before .before .before .before in
+    let g = served-from l in
+    let fed = l .feed-line in
+    let k = serve-further _ _ _ _ _ _ _ _ (g .before .before .loop .inv) (g .if1 .taken) (fed .result) _ _ (fed .ensures) in
+    let n = more-input _ _ _ _ _ _ _ _ (g .before .before .loop .inv) (g .if1 .taken) in
     omega arith
 
 loop-again : tie.Need-loop-again Inv-loop μ-loop
 loop-again c =
-    let fed = c .before .before .before .before .before .before .feed-line in
-    let laid = c .before .before .paste in
-    serve-on _ _ _ _ _ _ _ _ (c .before .before .before .before .before .before .before .before .before .before .before .loop .inv) (c .before .before .before .before .before .before .before .before .before .if1 .taken) (fed .result) _ _ (fed .ensures) (search needs) (laid .result) _ (laid .ensures .0) (laid .ensures .1)
+    let l = c .before .before .before .before .before .before .before in
+    let g = served-from l in
+    let fed = l .feed-line in
+    let laid = c .before .before .before .paste in
+    serve-on _ _ _ _ _ _ _ _ (g .before .before .loop .inv) (g .if1 .taken) (fed .result) _ _ (fed .ensures) (outs (c .before .before .before .before)) (laid .result) _ (laid .ensures .0) (laid .ensures .1)
 
 same-length : tie.Need-same-length Inv-loop μ-loop
 same-length c = let now = c .before .before .loop .inv .outputs in omega arith

@@ -1,6 +1,6 @@
-use Rattle.interpreter.proofs.rows.Spelling.{whole-word}
-use Rattle.interpreter.proofs.rows.is_word.Statement.{statement}
-use Rattle.interpreter.proofs.rows.is_word.Tie as tie
+use Rattle.interpreter.proofs.words.Spelling.{whole-word}
+use Rattle.interpreter.proofs.words.is_word.Statement.{statement}
+use Rattle.interpreter.proofs.words.is_word.Tie as tie
 
 agreed-letters-requires : tie.Need-agreed-letters-requires
 agreed-letters-requires c κs = c .before .before .pre

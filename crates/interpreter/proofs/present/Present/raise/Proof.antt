@@ -1,6 +1,6 @@
-use Rattle.interpreter.specs.DeedsParts.{raisedWith}
-use Rattle.interpreter.proofs.perform.raise.Statement.{statement}
-use Rattle.interpreter.proofs.perform.raise.Tie as tie
+use Rattle.interpreter.specs.PresentParts.{raisedWith}
+use Rattle.interpreter.proofs.present.Present.raise.Statement.{statement}
+use Rattle.interpreter.proofs.present.Present.raise.Tie as tie
 
 raise-requires : tie.Need-raise-requires
 raise-requires c κs = tt

@@ -1,8 +1,8 @@
 use native.Mathlib.Omega.{arith}
-use Rattle.interpreter.specs.RowsParts.{formLength}
+use Rattle.interpreter.specs.WordsParts.{formLength}
 use mathlib.Core.Path.{sym}
-use Rattle.interpreter.proofs.rows.has_length.Statement.{statement}
-use Rattle.interpreter.proofs.rows.has_length.Tie as tie
+use Rattle.interpreter.proofs.words.has_length.Statement.{statement}
+use Rattle.interpreter.proofs.words.has_length.Tie as tie
 
 word-cell-requires : tie.Need-word-cell-requires
 word-cell-requires c κs = (c .before .pre .0, c .before .pre .1, omega arith)

@@ -10,7 +10,7 @@ use lib.ListN.{length, getD, take, drop, length-append, length-take, length-repl
 use borrow.Author.Tests.{eqb-true, ltb-true}
 use Rattle.registers.specs.Text.{Text, if_then_else_, bytes, small, capital, same, every}
 use Rattle.registers.specs.Words.{shortForm, longForm}
-use Rattle.interpreter.specs.RowsParts.{wordCount, wordList, wordAt, wordRow, wordTableOf, wordTable, wordCell}
+use Rattle.interpreter.specs.WordsParts.{wordCount, wordList, wordAt, wordRow, wordTableOf, wordTable, wordCell}
 use Rattle.interpreter.proofs.Lists.{same-eq, every-at, cell-at}
 use Rattle.interpreter.proofs.table.Lengths.{wordWide, words-wide, words-many}
 

@@ -3,8 +3,8 @@ use native.Mathlib.Omega.{arith}
 use lib.ListN.{length}
 use Rattle.interpreter.proofs.table.Lengths.{commands-long}
 use Rattle.interpreter.proofs.table.Cells.{word-byte}
-use Rattle.interpreter.proofs.rows.word_cell.Statement.{statement}
-use Rattle.interpreter.proofs.rows.word_cell.Tie as tie
+use Rattle.interpreter.proofs.words.word_cell.Statement.{statement}
+use Rattle.interpreter.proofs.words.word_cell.Tie as tie
 
 mul-result : tie.Need-mul-result
 mul-result c = omega arith

@@ -4,9 +4,9 @@ use native.Mathlib.Omega.{arith}
 use lib.ListN.{length}
 use borrow.Author.Needs.{needs}
 use Rattle.interpreter.proofs.Lists.{fewer}
-use Rattle.interpreter.proofs.rows.Letters.{Agreeing, agreeing-none, agreeing-on, agreeing-miss, agreeing-end, agreeing-full}
-use Rattle.interpreter.proofs.rows.agreed_letters.Statement.{statement}
-use Rattle.interpreter.proofs.rows.agreed_letters.Tie as tie
+use Rattle.interpreter.proofs.words.Letters.{Agreeing, agreeing-none, agreeing-on, agreeing-miss, agreeing-end, agreeing-full}
+use Rattle.interpreter.proofs.words.agreed_letters.Statement.{statement}
+use Rattle.interpreter.proofs.words.agreed_letters.Tie as tie
 
 abbrev Inv-loop : tie.InvT-loop
 Inv-loop table text word long n₀ n = Agreeing text word n

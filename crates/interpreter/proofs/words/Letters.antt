@@ -11,8 +11,8 @@ use lib.Seq.{drop-cons, take-length}
 use borrow.Author.Tests.{eq-eqb, ne-eqb}
 use Rattle.registers.specs.Text.{Text, if_then_else_, capital, empty, same}
 use Rattle.registers.specs.Words.{shortForm, longForm, matches}
-use Rattle.interpreter.specs.RowsParts.{wordCount, wordAt, agreed, wordCell, formLength}
-use Rattle.interpreter.proofs.rows.Words.{forms, short-cell, long-cell, short-is, short-small, long-at}
+use Rattle.interpreter.specs.WordsParts.{wordCount, wordAt, agreed, wordCell, formLength}
+use Rattle.interpreter.proofs.words.Forms.{forms, short-cell, long-cell, short-is, short-small, long-at}
 
 pub agreed-most : (t l : Text) → (agreed t l ≤ length t) × (agreed t l ≤ length l)
 unfolding agreed if_then_else_

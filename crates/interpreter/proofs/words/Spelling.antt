@@ -9,8 +9,8 @@ use borrow.Author.Tests.{eqb-true, eqb-false, le-leb, lt-leb}
 use Rattle.registers.specs.Text.{Text}
 use Rattle.registers.specs.Words.{longForm, matches}
 use Rattle.registers.proofs.text.Laws.{empty-at}
-use Rattle.interpreter.specs.RowsParts.{wordCount, wordAt, agreed, formLength}
-use Rattle.interpreter.proofs.rows.Letters.{agreed-most, word-is}
+use Rattle.interpreter.specs.WordsParts.{wordCount, wordAt, agreed, formLength}
+use Rattle.interpreter.proofs.words.Letters.{agreed-most, word-is}
 
 module _ (t : Text) (w n : ℕ) (h : w < wordCount) (is : n ≡ agreed t (longForm (wordAt w))) where
   whole-is : matches (wordAt w) t ≡ (formLength w n && leb (length t) n)

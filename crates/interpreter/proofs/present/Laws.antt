@@ -1,0 +1,53 @@
+-- Laws of an error: what one that is raised leaves of the box, what a refused unit leaves, and what is left of an answer that waits.
+use mathlib.Core.Path.{_≡_, refl, sym}
+use mathlib.Core.List.{[], _∷_}
+use Prim.Native.Nat.{ℕ, zero, suc, _≤_, _<_}
+use native.Mathlib.Omega.{arith}
+use lib.Dec.{eqb}
+use lib.ListN.{length, take}
+use borrow.Author.Tests.{eq-eqb, ne-eqb}
+use Rattle.registers.specs.Text.{Text, if_then_else_, empty}
+use Rattle.registers.specs.Errors.{numberOf}
+use Rattle.registers.specs.declared.error.Error.{Error}
+use Rattle.registers.specs.declared.error.Error.the-variants.{QueryInterrupted}
+use Rattle.registers.proofs.status.Means.{raised-trouble, raised-registers, raised-queued}
+use Rattle.interpreter.specs.Box.{raise}
+use Rattle.interpreter.specs.Line.{refuse, interrupted}
+use Rattle.interpreter.specs.PresentParts.{boxIn, boxAt, raisedWith}
+use Rattle.interpreter.specs.declared.present.Present.{Present}
+
+module _ (e : Error) (p : Present) (long : length (p .status .errors) ≡ 16) where
+  pub raised-box : (a : Text) → boxIn (raisedWith e p) a ≡ raise (numberOf e) (boxIn p a)
+  unfolding raisedWith
+  raised-box a = rw (raised-trouble (numberOf e) (p .status) long, raised-registers (numberOf e) (p .status) long)
+
+  pub raised-short : p .status .queued ≤ 16 → raisedWith e p .status .queued ≤ 16
+  unfolding raisedWith
+  raised-short h = raised-queued (numberOf e) (p .status) long h
+
+  -- check 9's error drops the answer, any other leaves it
+  pub refused-dropped : numberOf e ≡ 430 → (a out : Text) → boxIn (raisedWith e p) (take 0 out) ≡ refuse (numberOf e) (boxIn p a)
+  unfolding refuse if_then_else_
+  refused-dropped h a out = rw (raised-box [], eq-eqb (numberOf e) 430 h)
+
+  pub refused-kept : (numberOf e ≡ 430 → ⊥) → (a : Text) → boxIn (raisedWith e p) a ≡ refuse (numberOf e) (boxIn p a)
+  unfolding refuse if_then_else_
+  refused-kept h a = rw (raised-box a, ne-eqb (numberOf e) 430 h)
+
+-- ---- an answer that waits
+
+-- an answer waits exactly where its length isn't 0
+pub waits : (out : Text) (n : ℕ) → 0 < length out → empty (take n out) ≡ eqb n 0
+waits [] n h = absurd (omega arith)
+waits (x ∷ out) zero h = refl
+waits (x ∷ out) (suc n) h = sym (ne-eqb (suc n) 0 (λ e. omega arith))
+
+module _ (p : Present) (out : Text) where
+  pub none-waits : p .answered ≡ 0 → boxIn p [] ≡ interrupted (boxAt p out)
+  unfolding interrupted if_then_else_
+  none-waits e = rw e
+
+  pub one-waits : length (p .status .errors) ≡ 16 → 0 < length out → (p .answered ≡ 0 → ⊥)
+      → boxIn (raisedWith QueryInterrupted p) [] ≡ interrupted (boxAt p out)
+  unfolding interrupted if_then_else_
+  one-waits long room ne = rw (waits out (p .answered) room, ne-eqb (p .answered) 0 ne, raised-box QueryInterrupted p long [])

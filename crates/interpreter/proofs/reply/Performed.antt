@@ -1,0 +1,147 @@
+-- A deed that answers does what the definition says of it, if check 9 lets it: the reply is written after the answers so far, and what
+-- the code leaves of settings and status is what the definition leaves of the box.
+use mathlib.Core.Path.{_≡_, refl, sym, ap}
+use mathlib.Core.Bool.{Bool, true, not}
+use mathlib.Core.List.{[], _∷_}
+use Prim.Native.Nat.{ℕ, zero, suc, _≤_, _<_}
+use native.Mathlib.Omega.{arith}
+use lib.Dec.{eqb}
+use lib.ListN.{length, take, length-take}
+use borrow.Author.Tests.{ne-eqb, lt-ltb, le-ltb}
+use Rattle.registers.specs.Text.{Text, if_then_else_, empty}
+use Rattle.registers.specs.Check.{refused, passed, _>>=_, _>>_, check}
+use Rattle.registers.specs.Status.{Registers, registersOf, troubleOf}
+use Rattle.registers.specs.declared.error.Error.the-variants.{QueryDeadlocked}
+use Rattle.registers.specs.declared.settings.Settings.{Settings}
+use Rattle.interpreter.specs.Box.{Core, Box, box, withAnswer, mostAnswer}
+use Rattle.interpreter.specs.Deeds.{changed, replyTo, afterQuery, inquiryReply, joined, fitsAnswer, reply, perform}
+use Rattle.interpreter.specs.Line.{refuse}
+use Rattle.interpreter.specs.PresentParts.{coreOf, boxIn}
+use Rattle.interpreter.specs.PerformParts.{settingsChanged, settingsLeft, registersChanged, registersAsked, registersLeft, troubleLeft}
+use Rattle.interpreter.specs.ReplyParts.{inquiryText, textOf, said, ReplyTo, answeredWith, GivenTo, Answered}
+use Rattle.interpreter.specs.declared.deed.Deed.{Deed}
+use Rattle.interpreter.specs.declared.deed.Deed.the-variants.{Change, Complete, Clear, Query, Inquire}
+use Rattle.interpreter.specs.declared.deed.Change as changes
+use Rattle.interpreter.specs.declared.deed.Change.the-variants.{Nothing as noChange, Put, Reset, Store}
+use Rattle.interpreter.specs.declared.deed.Query as queries
+use Rattle.interpreter.specs.declared.deed.Query.the-variants.{Identity, SelfTest, Completed, Limit, Value, Stored, Condition, SetEvents}
+use Rattle.interpreter.specs.declared.deed.Inquiry as inquiries
+use Rattle.interpreter.specs.declared.deed.Inquiry.the-variants.{StandardEvents, StatusByte, NextError}
+use Rattle.interpreter.specs.declared.present.Present.{Present}
+use Rattle.interpreter.specs.declared.reply.Reply.{Reply}
+use Rattle.interpreter.specs.declared.reply.Reply.the-variants.{Nothing}
+use Rattle.interpreter.specs.declared.reply.Told.the-variants.{Until, Refused}
+
+-- ---- what is asked, and what is left, as the box has it
+
+changed-is : (x : changes.Change) (s : Settings) (r : Registers) (a : Text)
+    → changed x (coreOf s r a) ≡ coreOf (settingsChanged x s) (registersChanged x r) a
+unfolding changed
+changed-is noChange s r a = refl
+changed-is (Put i v side) s r a = refl
+changed-is Reset s r a = refl
+changed-is (Store x n side) s r a = refl
+
+-- a query sees nothing of the answers so far
+record Apart (q : queries.Query) : Type 0 where
+  unseen : (s : Settings) (r : Registers) (a : Text) → replyTo q (coreOf s r a) ≡ replyTo q (coreOf s r [])
+  left : (s : Settings) (r : Registers) (a : Text) → afterQuery q (coreOf s r a) ≡ coreOf s (registersAsked q r) a
+
+apart : (q : queries.Query) → Apart q
+unfolding replyTo
+apart Identity = record { unseen = λ s r a. refl; left = λ s r a. refl }
+apart SelfTest = record { unseen = λ s r a. refl; left = λ s r a. refl }
+apart Completed = record { unseen = λ s r a. refl; left = λ s r a. refl }
+apart (Limit i v) = record { unseen = λ s r a. refl; left = λ s r a. refl }
+apart (Value i) = record { unseen = λ s r a. refl; left = λ s r a. refl }
+apart (Stored x) = record { unseen = λ s r a. refl; left = λ s r a. refl }
+apart (Condition y) = record { unseen = λ s r a. refl; left = λ s r a. refl }
+apart (SetEvents y) = record { unseen = λ s r a. refl; left = λ s r a. refl }
+
+inquiry-same : (q : inquiries.Inquiry) (p : Present) (a : Text) → inquiryReply q (boxIn p a) ≡ inquiryText q (p .status) (not (empty a))
+unfolding inquiryReply
+inquiry-same StandardEvents p a = refl
+inquiry-same StatusByte p a = refl
+inquiry-same NextError p a = refl
+
+-- the answers so far have bytes unless none was written
+some-answer : (out : Text) (n : ℕ) → n < length out → empty (take n out) ≡ eqb n 0
+some-answer out zero h = refl
+some-answer [] (suc n) h = absurd (omega arith)
+some-answer (x ∷ out) (suc n) h = sym (ne-eqb (suc n) 0 (λ e. omega arith))
+
+-- ---- check 9 on a reply that says something
+
+module _ (r : Reply) (c : Core) (some : said r ≡ true) where
+  joined-is : answeredWith r (c .answer) ≡ joined (c .answer) (textOf r)
+  unfolding answeredWith if_then_else_
+  joined-is = rw some
+
+  reply-given : length (answeredWith r (c .answer)) < mostAnswer → reply (textOf r) c ≡ passed (withAnswer (answeredWith r (c .answer)) c)
+  unfolding reply check _>>_ fitsAnswer
+  reply-given h =
+      let k = rw joined-is at h in
+      rw (joined-is, lt-ltb (length (joined (c .answer) (textOf r))) mostAnswer k)
+
+  reply-refused : mostAnswer ≤ length (answeredWith r (c .answer)) → reply (textOf r) c ≡ refused 430
+  unfolding reply check _>>_ fitsAnswer
+  reply-refused h =
+      let k = rw joined-is at h in
+      rw (le-ltb (length (joined (c .answer) (textOf r))) mostAnswer k)
+
+-- nothing that is said always has room
+silent : (r : Reply) (a : Text) → r ≡ Nothing → length a < mostAnswer → mostAnswer ≤ length (answeredWith r a) → ⊥
+unfolding answeredWith if_then_else_
+silent r a e k h = let l = rw e at h in omega arith
+
+-- ---- a deed that answers with reply r
+
+module _ (p : Present) (a : Text) (r : Reply) where
+  abbrev left : Deed → Text → Box
+  left d b = box (coreOf (settingsLeft d (p .settings)) (registersLeft d (registersOf (p .status))) b) (troubleLeft d (troubleOf (p .status)))
+
+  abbrev after : Deed → Core
+  after d = left d a .core
+
+  given : (d : Deed) → ReplyTo d p (not (empty a)) r → length (answeredWith r a) < mostAnswer
+      → perform d (boxIn p a) ≡ passed (left d (answeredWith r a))
+  unfolding perform answeredWith if_then_else_ _>>=_
+  given (Change x) e h = rw e (ap (λ (c : Core). passed (box c (troubleOf (p .status)))) (changed-is x (p .settings) (registersOf (p .status)) a))
+  given Complete e h = rw e
+  given Clear e h = rw e
+  given (Query q) e h =
+      let t = registersOf (p .status) in
+      rw (apart q .unseen (p .settings) t a, ← e .is, apart q .left (p .settings) t a, reply-given r (after (Query q)) (e .some) h)
+  given (Inquire q) e h = rw (inquiry-same q p a, ← e .is, reply-given r (after (Inquire q)) (e .some) h)
+
+  dropped : (d : Deed) → ReplyTo d p (not (empty a)) r → length a < mostAnswer → mostAnswer ≤ length (answeredWith r a)
+      → perform d (boxIn p a) ≡ refused 430
+  unfolding perform _>>=_
+  dropped (Change x) e k h = absurd (silent r a e k h)
+  dropped Complete e k h = absurd (silent r a e k h)
+  dropped Clear e k h = absurd (silent r a e k h)
+  dropped (Query q) e k h =
+      let t = registersOf (p .status) in
+      rw (apart q .unseen (p .settings) t a, ← e .is, apart q .left (p .settings) t a, reply-refused r (after (Query q)) (e .some) h)
+  dropped (Inquire q) e k h = rw (inquiry-same q p a, ← e .is, reply-refused r (after (Inquire q)) (e .some) h)
+
+-- the deed as the code answers it: its reply r stands after the answers so far and ends at a place
+module _ (d : Deed) (p : Present) {r : Reply} {out left-of : Text} {end : ℕ} (room : p .answered < mostAnswer) (size : length out ≡ mostAnswer)
+    (says : ReplyTo d p (not (eqb (p .answered) 0)) r) (answers : GivenTo r (p .answered) out end left-of) where
+  abbrev so-far : Text
+  so-far = take (p .answered) out
+
+  replies : ReplyTo d p (not (empty so-far)) r
+  replies = rw (some-answer out (p .answered) (omega arith)) says
+
+  pub told-until : end < mostAnswer → Answered d p out (Until end) left-of
+  told-until h =
+      let e = answers .stands h in
+      (h, λ q k a. rw (a .settings, a .status .registers (p .settings) k, a .status .trouble, e .1) (given p so-far r d replies (e .0)))
+
+  -- check 9 drops the whole answer, so that it doesn't matter what was written
+  pub told-refused : mostAnswer ≤ end → Answered d p out (Refused QueryDeadlocked) left-of
+  unfolding refuse if_then_else_
+  told-refused h =
+      let short : length so-far < mostAnswer = rw length-take (omega arith) in
+      (dropped p so-far r d replies short (answers .falls h), refl)

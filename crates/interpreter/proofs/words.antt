@@ -1,0 +1,4 @@
+pub mod Forms
+pub mod Letters
+pub mod Spelling
+pub mod Taken

@@ -1,0 +1,71 @@
+-- What the functions say that perform a deed. Nothing of 01 is defined here: see Deeds.antt.
+use mathlib.Core.Path.{_≡_}
+use Prim.Native.Nat.{_≤_}
+use Rattle.registers.specs.Settings.{withValue, atReset}
+use Rattle.registers.specs.Status.{Registers, Trouble, most, registersOf, troubleOf, noTrouble, completed, storedIn, setRead, allRead}
+use Rattle.registers.specs.declared.settings.Settings.{Settings}
+use Rattle.registers.specs.declared.status.Status.{Status}
+use Rattle.interpreter.specs.UnitParts.{Allowed}
+use Rattle.interpreter.specs.Deeds.{afterInquiry}
+use Rattle.interpreter.specs.declared.deed.Deed.{Deed}
+use Rattle.interpreter.specs.declared.deed.Deed.the-variants.{Change, Complete, Clear, Query, Inquire}
+use Rattle.interpreter.specs.declared.deed.Change as changes
+use Rattle.interpreter.specs.declared.deed.Change.the-variants.{Nothing as noChange, Put, Reset, Store}
+use Rattle.interpreter.specs.declared.deed.Query as queries
+use Rattle.interpreter.specs.declared.deed.Query.the-variants.{Identity as identity, SelfTest, Completed, Limit, Value, Stored, Condition, SetEvents}
+use Rattle.interpreter.specs.declared.present.Present.{Present}
+
+-- ---- what a deed leaves of settings, registers and trouble
+
+abbrev pub settingsChanged : changes.Change → Settings → Settings
+settingsChanged noChange s = s
+settingsChanged (Put i v side) s = withValue i v s
+settingsChanged Reset s = atReset
+settingsChanged (Store x n side) s = s
+
+abbrev pub settingsLeft : Deed → Settings → Settings
+settingsLeft (Change x) s = settingsChanged x s
+settingsLeft Complete s = s
+settingsLeft Clear s = s
+settingsLeft (Query q) s = s
+settingsLeft (Inquire q) s = s
+
+abbrev pub registersChanged : changes.Change → Registers → Registers
+registersChanged noChange r = r
+registersChanged (Put i v side) r = r
+registersChanged Reset r = r
+registersChanged (Store x n side) r = storedIn x n r
+
+abbrev pub registersAsked : queries.Query → Registers → Registers
+registersAsked identity r = r
+registersAsked SelfTest r = r
+registersAsked Completed r = r
+registersAsked (Limit i v) r = r
+registersAsked (Value i) r = r
+registersAsked (Stored x) r = r
+registersAsked (Condition x) r = r
+registersAsked (SetEvents x) r = setRead x r
+
+abbrev pub registersLeft : Deed → Registers → Registers
+registersLeft (Change x) r = registersChanged x r
+registersLeft Complete r = r
+registersLeft Clear r = allRead r
+registersLeft (Query q) r = registersAsked q r
+registersLeft (Inquire q) r = r
+
+abbrev pub troubleLeft : Deed → Trouble → Trouble
+troubleLeft (Change x) t = t
+troubleLeft Complete t = completed t
+troubleLeft Clear t = noTrouble
+troubleLeft (Query q) t = t
+troubleLeft (Inquire q) t = afterInquiry q t
+
+pub record StatusLeft (d : Deed) (s r : Status) : Type 0 where
+  pub registers : (c : Settings) → Allowed c d → registersOf r ≡ registersLeft d (registersOf s)
+  pub trouble : troubleOf r ≡ troubleLeft d (troubleOf s)
+  pub queued : r .queued ≤ most
+
+-- what a deed leaves, the answer apart
+pub record After (d : Deed) (p r : Present) : Type 0 where
+  pub settings : r .settings ≡ settingsLeft d (p .settings)
+  pub status : StatusLeft d (p .status) (r .status)

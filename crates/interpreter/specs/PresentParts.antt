@@ -1,0 +1,46 @@
+-- What the functions say that raise an error, refuse a unit and discard an answer. Nothing of 01 is defined here: see Line.antt.
+use mathlib.Core.Path.{_≡_}
+use mathlib.Core.Bool.{false}
+use mathlib.Core.List.{[]}
+use Prim.Native.Nat.{_≤_, _<_}
+use lib.ListN.{length, take}
+use Rattle.registers.specs.Text.{Text}
+use Rattle.registers.specs.Errors.{numberOf}
+use Rattle.registers.specs.Status.{Registers, most, registersOf, troubleOf, raisedIn}
+use Rattle.registers.specs.declared.error.Error.{Error}
+use Rattle.registers.specs.declared.settings.Settings.{Settings}
+use Rattle.registers.specs.declared.status.Status.{Status}
+use Rattle.interpreter.specs.Box.{Core, Box, box}
+use Rattle.interpreter.specs.Line.{refuse, interrupted}
+use Rattle.interpreter.specs.declared.present.Present.{Present}
+
+-- ---- what settings and status mean while a line runs: its bytes are taken, and a is what its units answered so far
+
+abbrev pub coreOf : Settings → Registers → Text → Core
+coreOf s r a = record { settings = s; registers = r; line = []; overlong = false; answer = a }
+
+abbrev pub coreIn : Settings → Status → Core
+coreIn s t = coreOf s (registersOf t) []
+
+abbrev pub boxIn : Present → Text → Box
+boxIn p a = box (coreOf (p .settings) (registersOf (p .status)) a) (troubleOf (p .status))
+
+-- with the answer's buffer
+abbrev pub boxAt : Present → Text → Box
+boxAt p out = boxIn p (take (p .answered) out)
+
+-- ---- what each function leaves
+
+unfoldable pub raisedWith : Error → Present → Present
+raisedWith e p = record { settings = p .settings; status = raisedIn (numberOf e) (p .status); answered = p .answered }
+
+pub record RefusedWith (e : Error) (p r : Present) : Type 0 where
+  pub box : (out : Text) → boxAt r out ≡ refuse (numberOf e) (boxAt p out)
+  pub queued : p .status .queued ≤ most → r .status .queued ≤ most
+  pub room : r .answered ≤ p .answered
+
+-- an answer is discarded, if one waits
+pub record Discarded (p r : Present) : Type 0 where
+  pub queued : p .status .queued ≤ most → r .status .queued ≤ most
+  pub gone : r .answered ≡ 0
+  pub box : (out : Text) → 0 < length out → boxIn r [] ≡ interrupted (boxAt p out)

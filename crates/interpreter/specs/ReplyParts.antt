@@ -1,0 +1,93 @@
+-- What the functions say that answer a deed. Nothing of 01 is defined here: see Deeds.antt.
+use mathlib.Core.Path.{_≡_}
+use mathlib.Core.Bool.{Bool, true, false}
+use mathlib.Core.List.{[]}
+use Prim.Native.Nat.{ℕ, _≤_, _<_}
+use lib.ListN.{length, take}
+use lib.IntN.{ℤ}
+use Rattle.registers.specs.Text.{Text, if_then_else_, bytes, first}
+use Rattle.registers.specs.Words.{shortForm}
+use Rattle.registers.specs.Check.{refused, passed}
+use Rattle.registers.specs.Answer.{decimal, tenths, signedText}
+use Rattle.registers.specs.Errors.{numberOf, errorText}
+use Rattle.registers.specs.Settings.{kindOf, wordText}
+use Rattle.registers.specs.Status.{registersOf, troubleOf, statusByte}
+use Rattle.registers.specs.declared.status.Status.{Status}
+use Rattle.interpreter.specs.Parameter.{wordsOf}
+use Rattle.interpreter.specs.WordsParts.{wordAt}
+use Rattle.interpreter.specs.UnitParts.{Allowed}
+use Rattle.interpreter.specs.Box.{mostAnswer}
+use Rattle.interpreter.specs.Deeds.{replyTo, joined, perform}
+use Rattle.interpreter.specs.Line.{refuse}
+use Rattle.interpreter.specs.PresentParts.{coreIn, boxIn, boxAt}
+use Rattle.interpreter.specs.PerformParts.{After}
+use Rattle.interpreter.specs.declared.deed.Deed.{Deed}
+use Rattle.interpreter.specs.declared.deed.Deed.the-variants.{Change, Complete, Clear, Query, Inquire}
+use Rattle.interpreter.specs.declared.deed.Inquiry as inquiries
+use Rattle.interpreter.specs.declared.deed.Inquiry.the-variants.{StandardEvents, StatusByte, NextError}
+use Rattle.interpreter.specs.declared.present.Present.{Present}
+use Rattle.interpreter.specs.declared.reply.Reply.{Reply}
+use Rattle.interpreter.specs.declared.reply.Reply.the-variants.{Nothing, Identity, Word, Tenths, Whole, Number, Error}
+use Rattle.interpreter.specs.declared.reply.Told.{Told}
+use Rattle.interpreter.specs.declared.reply.Told.the-variants.{Until, Refused}
+
+-- ---- texts
+
+-- a setting's word by its place
+abbrev pub placeText : ℕ → ℤ → Text
+placeText row v = wordText (wordsOf (kindOf row)) v
+
+abbrev pub inquiryText : inquiries.Inquiry → Status → Bool → Text
+inquiryText StandardEvents s answers = decimal (s .events)
+inquiryText StatusByte s answers = decimal (statusByte (registersOf s) (troubleOf s) answers)
+inquiryText NextError s answers = errorText (first (troubleOf s .queue))
+
+-- what is said is written
+unfoldable pub textOf : Reply → Text
+textOf Nothing = []
+textOf Identity = bytes "COURSE,BENCH24,0,4.00"
+textOf (Word n) = shortForm (wordAt n)
+textOf (Tenths v) = signedText tenths v
+textOf (Whole v) = signedText decimal v
+textOf (Number n) = decimal n
+textOf (Error n) = errorText n
+
+abbrev pub said : Reply → Bool
+said Nothing = false
+said Identity = true
+said (Word n) = true
+said (Tenths v) = true
+said (Whole v) = true
+said (Number n) = true
+said (Error n) = true
+
+pub record RepliesWith (t : Text) (r : Reply) : Type 0 where
+  pub is : textOf r ≡ t
+  pub some : said r ≡ true
+
+-- what a deed answers
+abbrev pub ReplyTo : Deed → Present → Bool → Reply → Type 0
+ReplyTo (Change x) p answers r = r ≡ Nothing
+ReplyTo Complete p answers r = r ≡ Nothing
+ReplyTo Clear p answers r = r ≡ Nothing
+ReplyTo (Query q) p answers r = RepliesWith (replyTo q (coreIn (p .settings) (p .status))) r
+ReplyTo (Inquire q) p answers r = RepliesWith (inquiryText q (p .status) answers) r
+
+-- the answers so far with a reply behind them
+unfoldable pub answeredWith : Reply → Text → Text
+answeredWith r a = if said r then joined a (textOf r) else a
+
+-- check 9 on a reply behind the answers that stand in out: they end at r then, and r is the end of out if it leaves no room
+pub record GivenTo (reply : Reply) (answered : ℕ) (out : Text) (r : ℕ) (left : Text) : Type 0 where
+  pub stands : r < mostAnswer
+      → (length (answeredWith reply (take answered out)) < mostAnswer) × (take r left ≡ answeredWith reply (take answered out))
+  pub falls : mostAnswer ≤ r → mostAnswer ≤ length (answeredWith reply (take answered out))
+
+-- a deed that is answered does what it does, and its answer ends there; or it is refused, and of the answers so far is left what the
+-- refusal leaves of them
+abbrev pub Answered : Deed → Present → Text → Told → Text → Type 0
+Answered d p out (Until end) left =
+    (end < mostAnswer)
+    × ((r : Present) → Allowed (p .settings) d → After d p r → perform d (boxAt p out) ≡ passed (boxIn r (take end left)))
+Answered d p out (Refused e) left =
+    (perform d (boxAt p out) ≡ refused (numberOf e)) × (refuse (numberOf e) (boxAt p left) ≡ refuse (numberOf e) (boxAt p out))

@@ -1,0 +1,115 @@
+// The words of the parameters: how a text spells one, which of them a setting takes, and how one is answered.
+use registers::answer;
+use registers::settings::Settings;
+use registers::text;
+ghost use mathlib.Core.Path.{_≡_};
+ghost use Prim.Native.Nat.{_<_};
+ghost use Rattle.registers.specs.Answer.{Laid};
+ghost use Rattle.registers.specs.Settings.{count, kindOf};
+ghost use Rattle.registers.specs.Words.{shortForm, longForm, matches};
+ghost use Rattle.interpreter.specs.Parameter.{wordsOf, takesNumbers};
+ghost use Rattle.interpreter.specs.RowsParts.{commandTable};
+ghost use Rattle.interpreter.specs.WordsParts.{wordCount, wordAt, agreed, formLength, wordCell, TakenOf, withNumbers};
+
+// Words that stand together in the table: where they begin, and how many there are.
+pub(crate) struct Words {
+    pub(crate) first: usize,
+    pub(crate) count: usize,
+}
+
+// Where each setting's words begin, and how many there are, row by row as the settings stand:
+// OUTPut, PON, RELay, MONitor:MODE, VOLTage, RANGe, FREQuency, RMS, RMS:MODE, PEAK:MODE, RMS:TIME, PEAK:TIME, HIGH, LOW,
+// BRIGhtness, KLOCk, EXAM.
+const FIRST_WORDS: [u8; Settings::COUNT] = [6, 6, 6, 0, 8, 3, 8, 8, 5, 5, 8, 8, 8, 8, 8, 6, 6];
+
+const WORD_COUNTS: [u8; Settings::COUNT] = [2, 2, 2, 3, 2, 2, 2, 2, 2, 2, 2, 2, 2, 2, 2, 2, 2];
+
+// The words before this one are those of the settings that take no numbers.
+const FIRST_WITH_NUMBERS: usize = 6;
+
+fn word_cell(table: &[u8], word: usize, i: usize) -> u8
+    requires { ⌜ (now table ≡ commandTable) × (word < wordCount) × (i < 16) ⌝ }
+    ensures { λ r. ⌜ r ≡ wordCell word i ⌝ }
+{
+    table[word * 16 + i]
+}
+
+// Whether a word's short or its long form has so many letters.
+fn has_length(table: &[u8], word: usize, n: usize) -> bool
+    requires { ⌜ (now table ≡ commandTable) × (word < wordCount) ⌝ }
+    ensures { λ r. ⌜ r ≡ formLength word n ⌝ }
+{
+    let short = word_cell(table, word, 0) as usize;
+    let long = word_cell(table, word, 1) as usize;
+    (n == short) | (n == long)
+}
+
+// How many first bytes of a text are a word's letters, in any letter case.
+fn agreed_letters(table: &[u8], text: &[u8], word: usize) -> usize
+    requires { ⌜ (now table ≡ commandTable) × (word < wordCount) ⌝ }
+    ensures { λ r. ⌜ r ≡ agreed (now (text .entry)) (longForm (wordAt word)) ⌝ }
+{
+    let long = word_cell(table, word, 1) as usize;
+    let mut n: usize = 0;
+    while n < text.len() {
+        if long <= n {
+            return n;
+        }
+        if text::in_capitals(text[n]) != word_cell(table, word, n + 2) {
+            return n;
+        }
+        n += 1;
+    }
+    n
+}
+
+// Whether a text spells a word, in its short or its long form. The short form is a start of the long one, so one walk over the letters
+// decides both: all bytes of the text were letters of the word, and one of the two forms has that many.
+pub(crate) fn is_word(table: &[u8], name: &[u8], word: usize) -> bool
+    requires { ⌜ (now table ≡ commandTable) × (word < wordCount) ⌝ }
+    ensures { λ r. ⌜ r ≡ matches (wordAt word) (now (name .entry)) ⌝ }
+{
+    let n = agreed_letters(table, name, word);
+    (n == name.len()) & has_length(table, word, n)
+}
+
+// Tells which words a setting takes.
+pub(crate) fn of_setting(row: usize) -> Words
+    requires { ⌜ row < count ⌝ }
+    ensures { λ r. ⌜ TakenOf (wordsOf (kindOf row)) (takesNumbers (kindOf row)) r ⌝ }
+{
+    let firsts = FIRST_WORDS;
+    let counts = WORD_COUNTS;
+    Words {
+        first: firsts[row] as usize,
+        count: counts[row] as usize,
+    }
+}
+
+impl Words {
+    // Whether a setting that takes these words takes numbers too.
+    pub(crate) fn with_numbers(self) -> bool
+        ensures { λ r. ⌜ r ≡ withNumbers self ⌝ }
+    {
+        FIRST_WITH_NUMBERS <= self.first
+    }
+}
+
+// Writes a word in its short form, and nothing where there is no such word.
+pub(crate) fn write_short(word: usize, tail: &mut [u8]) -> usize
+    ensures { λ r. ⌜ Laid (shortForm (wordAt word)) (now (tail .entry)) r (now (tail .exit)) ⌝ }
+{
+    match word {
+        0 => answer::write_text(b"CURR", tail),
+        1 => answer::write_text(b"SCUR", tail),
+        2 => answer::write_text(b"VOLT", tail),
+        3 => answer::write_text(b"R12V", tail),
+        4 => answer::write_text(b"R24V", tail),
+        5 => answer::write_text(b"CONT", tail),
+        6 => answer::write_text(b"OFF", tail),
+        7 => answer::write_text(b"ON", tail),
+        8 => answer::write_text(b"MIN", tail),
+        9 => answer::write_text(b"MAX", tail),
+        _ => 0,
+    }
+}
