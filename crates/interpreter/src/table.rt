@@ -22,6 +22,71 @@ pub(crate) const FIRST_START: usize = FIRST_CODE + 256;
 
 const SIZE: usize = FIRST_START + 256;
 
+// What stands in the table, by its numbers, as tests/print-table prints it.
+//
+// Words of parameters:
+//      0 CURRent       1 SCURrent      2 VOLTage       3 R12V          4 R24V          5 CONTinuous    6 OFF
+//      7 ON            8 MINimum       9 MAXimum
+//
+// Rows, with ? where one is only asked, and "no query" where it is only ordered:
+//  0  OUTPut[:STATe]
+//  1  OUTPut:PON
+//  2  OUTPut:RELay
+//  3  OUTPut:MONitor:MODE
+//  4  [SOURce:]VOLTage[:LEVel][:IMMediate][:AMPLitude]
+//  5  [SOURce:]VOLTage:RANGe
+//  6  [SOURce:]FREQuency
+//  7  [SOURce:]CURRent:LIMit:RMS[:AMPLitude]
+//  8  [SOURce:]CURRent:LIMit:RMS:MODE
+//  9  [SOURce:]CURRent:LIMit:PEAK:MODE
+// 10  [SOURce:]CURRent:LIMit:RMS:TIME
+// 11  [SOURce:]CURRent:LIMit:PEAK:TIME
+// 12  [SOURce:]CURRent:LIMit:PEAK:HIGH
+// 13  [SOURce:]CURRent:LIMit:PEAK:LOW
+// 14  DISPlay:BRIGhtness
+// 15  SYSTem:KLOCk
+// 16  SYSTem:EXAM
+// 17  *IDN?
+// 18  *TST?
+// 19  *OPC?
+// 20  *WAI, no query
+// 21  *OPC, no query
+// 22  *RST, no query
+// 23  *CLS, no query
+// 24  *ESE
+// 25  *SRE
+// 26  *ESR?
+// 27  *STB?
+// 28  SYSTem:ERRor?
+// 29  STATus:OPERation:CONDition?
+// 30  STATus:OPERation[:EVENt]?
+// 31  STATus:OPERation:ENABle
+// 32  STATus:OPERation:NTRansition
+// 33  STATus:OPERation:PTRansition
+// 34  STATus:LOCK:CONDition?
+// 35  STATus:LOCK[:EVENt]?
+// 36  STATus:LOCK:ENABle
+// 37  STATus:LOCK:NTRansition
+// 38  STATus:LOCK:PTRansition
+// 39  STATus:WARNing:CONDition?
+// 40  STATus:WARNing[:EVENt]?
+// 41  STATus:WARNing:ENABle
+// 42  STATus:WARNing:NTRansition
+// 43  STATus:WARNing:PTRansition
+//
+// Words of the rows' nodes, by the bytes that stand for them in a row:
+//       \0 OUTPut        \x01 STATe         \x02 PON           \x03 RELay         \x04 MONitor       \x05 MODE
+//     \x06 SOURce        \x07 VOLTage       \x08 LEVel         \x09 IMMediate     \x0a AMPLitude     \x0b RANGe
+//     \x0c FREQuency     \x0d CURRent       \x0e LIMit         \x0f RMS           \x10 PEAK          \x11 TIME
+//     \x12 HIGH          \x13 LOW           \x14 DISPlay       \x15 BRIGhtness    \x16 SYSTem        \x17 KLOCk
+//     \x18 IDN           \x19 TST           \x1a OPC           \x1b WAI           \x1c RST           \x1d CLS
+//     \x1e ESE           \x1f SRE           \x20 ESR           \x21 STB           \x22 STATus        \x23 OPERation
+//     \x24 CONDition     \x25 EVENt         \x26 ENABle        \x27 NTRansition   \x28 PTRansition   \x29 ERRor
+//     \x2a EXAM          \x2b LOCK          \x2c WARNing
+//
+// So \x03\x03\x86\x07\x0b\0\0\0, row 5, has the forms 1 + 2, set and asked, and 3 nodes. They are \x86, SOURce (\x06) with 128
+// more, so that it may be left out; \x07, VOLTage; \x0b, RANGe: the header is [SOURce:]VOLTage:RANGe.
+
 // 16 bytes to a word of a parameter: the lengths of its short and its long form, then its letters. 8 bytes to a row: its forms
 // as bits, the number of its nodes, and each node's word, with 128 more where the node may be left out. 16 bytes to a word of a
 // node: its short and its long form as numbers, low byte first. Then the code that each byte has in a name, and for each mark of
