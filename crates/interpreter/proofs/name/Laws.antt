@@ -1,4 +1,5 @@
--- Laws of reading a name: its bytes one by one, and its first letter.
+-- Reading a name. The loop's invariant, `Spelled`: the number of the bytes before i, with the rest of the name's bytes put to it, is the
+-- whole name's; a code of 0 ends the name. The first byte, a letter, is put to it last.
 use mathlib.Core.Path.{_≡_, refl, sym, _∙_, ap}
 use mathlib.Core.Bool.{Bool, true, false}
 use mathlib.Core.List.{_∷_}

@@ -1,4 +1,5 @@
--- Which bytes a header has: letters, digits, underscores, colons and a star; so it is in one piece, and parts no units.
+-- Which bytes a header has: letters, digits, underscores, colons and a star. So it is in one piece and parts no units, by one computed
+-- test over the bytes below 128.
 use mathlib.Core.Path.{_≡_, refl, sym, _∙_, ap}
 use mathlib.Core.Bool.{Bool, true, false, not, _&&_, _||_, false≢true}
 use mathlib.Core.List.{List, [], _∷_}

@@ -1,4 +1,5 @@
--- A line that is white space, a header, white space, one parameter and white space: it is one unit, and what the checks see of it.
+-- A line that is white space, a header, white space, one parameter and white space: it is one unit, and its header and its parameter are
+-- read as they stand there. Both are solid, without white space or `;`, so every cut of the definitions falls between them.
 use mathlib.Core.Path.{_≡_, refl, sym, _∙_, ap}
 use mathlib.Core.Bool.{Bool, true, false, not, _&&_, _||_, false≢true}
 use mathlib.Core.List.{[], _∷_, _++_, append-nil}
@@ -34,7 +35,7 @@ unfolding if_then_else_
 skip-white [] t h = refl
 skip-white (b ∷ l) t h = let e = and-both (white b) (every white l) h in rw (e .0) (skip-white l t (e .1))
 
--- behind white space a solid text stands as it is
+-- a solid text has no white space at its start to pass over
 solid-stays : (h t : Text) → empty h ≡ false → every solid h ≡ true → after white (h ++ t) ≡ h ++ t
 unfolding if_then_else_
 solid-stays [] t n h = absurd (false≢true (sym n))

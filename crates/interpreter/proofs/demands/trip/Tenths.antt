@@ -1,5 +1,5 @@
 -- "one decimal for step 0.1": a value answered so is read as that value. A law of all values, since thousands are too many to try
--- one by one.
+-- one by one; its digits by induction over the places that they may have.
 use mathlib.Core.Path.{_≡_, refl, _∙_}
 use mathlib.Core.Bool.{Bool, true, false, not, _||_}
 use mathlib.Core.List.{List, [], _∷_, _++_}

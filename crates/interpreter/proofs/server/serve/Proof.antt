@@ -1,3 +1,5 @@
+-- A chunk on a state: refused with nothing changed where the state couldn't be the box's; otherwise its parts are lent to a flow, the lines
+-- are served, and the flow is a state again (server/Chunks).
 use native.Mathlib.Omega.{arith}
 use mathlib.Core.Path.{refl}
 use Rattle.interpreter.proofs.state.Records.{flow-fits}

@@ -1,5 +1,5 @@
 -- Check 1 of a unit that starts with a header is check 1 of the parameters' text: white space is allowed, and so is every byte of a
--- header.
+-- header, which is a name's byte, a colon, a star or a `?`.
 use mathlib.Core.Path.{_≡_, refl, sym, _∙_, ap}
 use mathlib.Core.Bool.{Bool, true, false, not, _&&_, false≢true}
 use mathlib.Core.List.{List, [], _∷_}
