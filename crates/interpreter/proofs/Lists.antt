@@ -56,6 +56,11 @@ every-at p [] k d e h = absurd (omega arith)
 every-at p (x ∷ l) zero d e h = and-both (p x) (every p l) e .0
 every-at p (x ∷ l) (suc k) d e h = every-at p l k d (and-both (p x) (every p l) e .1) (omega arith)
 
+-- what passes one test passes another
+pub every-map : (p q : ℕ → Bool) → ((b : ℕ) → p b ≡ true → q b ≡ true) → (t : Text) → every p t ≡ true → every q t ≡ true
+every-map p q f [] h = refl
+every-map p q f (b ∷ bs) h = let e = and-both (p b) (every p bs) h in and-true (f b (e .0)) (every-map p q f bs (e .1))
+
 pub getD-map {ℓ κ} : {A : Type ℓ} {B : Type κ} (f : A → B) (l : List A) (k : ℕ) (d : A) (e : B) → k < length l
     → getD (map f l) k e ≡ f (getD l k d)
 getD-map f [] k d e h = absurd (omega arith)

@@ -89,11 +89,11 @@ body-first p z (b ∷ t) e = go (dark b) (start dark t)
 
 -- ---- cut at colons: parts of which the first goes on a name
 
-unfoldable pub firstWord : List Text → Bool
+unfoldable firstWord : List Text → Bool
 firstWord [] = true
 firstWord (u ∷ us) = every wordByte u && every name us
 
-pub join-word : (b : ℕ) (c : List Text) → firstWord (joinFirst b c) ≡ (wordByte b && firstWord c)
+join-word : (b : ℕ) (c : List Text) → firstWord (joinFirst b c) ≡ (wordByte b && firstWord c)
 unfolding firstWord
 join-word b [] = and-assoc (wordByte b) true true
 join-word b (u ∷ us) = and-assoc (wordByte b) (every wordByte u) (every name us)

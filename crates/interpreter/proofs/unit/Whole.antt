@@ -29,6 +29,7 @@ use Rattle.interpreter.specs.declared.parameter.Decision.{Decision}
 use Rattle.interpreter.specs.declared.parameter.Decision.the-variants.{Refused as noDeed, Obey as someDeed}
 use Rattle.interpreter.proofs.Lists.{rest-is}
 use Rattle.interpreter.proofs.header.Laws.{found-most}
+use Rattle.interpreter.proofs.Checks.{apart}
 use Rattle.interpreter.proofs.unit.Bytes.{allowed}
 use Rattle.interpreter.proofs.unit.HeaderAllowed.{allowed-behind}
 use Rattle.interpreter.proofs.unit.Found.{role-found}
@@ -155,12 +156,12 @@ module _ (s : Settings) (path : List Text) (u : Text) where
 -- only a header that has a row has a deed
 none-passes : {A B : Type 0} (x : Checked (Unit {0})) (n : ℕ) (k : A → Checked B) (d : B) → (x >> refused n >>= k) ≡ passed d → ⊥
 unfolding _>>_ _>>=_
-none-passes (refused m) n k d e = let z : _≡_ {A = ℕ} 0 1 = cc in omega arith
-none-passes (passed _) n k d e = let z : _≡_ {A = ℕ} 0 1 = cc in omega arith
+none-passes (refused m) n k d e = apart m d e
+none-passes (passed _) n k d e = apart n d e
 
 second-passes : {A : Type 0} (x : Checked (Unit {0})) (m : Checked A) (a : A) → (x >> m) ≡ passed a → m ≡ passed a
 unfolding _>>_
-second-passes (refused n) m a e = let z : _≡_ {A = ℕ} 0 1 = cc in absurd (omega arith)
+second-passes (refused n) m a e = absurd (apart n a e)
 second-passes (passed _) m a e = e
 
 found-deed : (s : Settings) (row : ℕ) (asked : Bool) (t : Text) (d : Deed) → decidedText s row asked t ≡ passed d → row < rowCount

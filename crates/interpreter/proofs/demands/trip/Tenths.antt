@@ -29,7 +29,7 @@ use Rattle.registers.proofs.rounding.Sides.{side-on}
 use Rattle.interpreter.specs.Parameter.{Figure, parameter}
 use Rattle.interpreter.proofs.Choices.{if-elim}
 use Rattle.interpreter.proofs.unit.Trims.{some-behind}
-use Rattle.interpreter.proofs.demands.trip.HeaderBytes.{every-map}
+use Rattle.interpreter.proofs.Lists.{every-map}
 
 -- ---- a number in decimal
 
