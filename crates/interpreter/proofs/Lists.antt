@@ -1,5 +1,5 @@
 -- Laws of lists by the place: what a test of all members, or an equation of two lists, says of one member, and a table of bytes
--- whose rows stand one behind the other.
+-- whose rows stand one after the other.
 use mathlib.Core.Path.{_≡_, refl, sym, _∙_, ap, ap₂}
 use mathlib.Core.Bool.{Bool, true, false≢true}
 use mathlib.Core.List.{List, [], _∷_, _++_, map}
@@ -41,7 +41,7 @@ same-refl x y e = rw e (go y)
 pub fewer : {k n : ℕ} → k < n → n - (k + 1) < n - k
 fewer h = omega arith
 
--- what is lent of a text from a place on
+-- what is lent of a text, from a place to its end
 pub rest-is : (l : Text) (at : ℕ) → at ≤ length l → take (length l - at) (drop at l) ≡ drop at l
 rest-is l at h = take-all (length l - at) (drop at l) (rw length-drop (omega arith))
 

@@ -22,7 +22,7 @@ use Rattle.interpreter.proofs.header.Path.{path-row, path-left, counted
 
 -- ---- what leads a header
 
--- no header has no bytes
+-- an empty text is no header
 pub header-none : header [] ≡ refused 102
 unfolding header placed name cutAt letter small if_then_else_ _>>_ check
 header-none = refl

@@ -51,7 +51,7 @@ earlier = text "FREQ 70\n" ∷ []
 abbrev atThird : List Event
 atThird = text "VOLT 5;VOLT?;FREQ 1;FREQ 60" ∷ []
 
--- overlong: n = 0
+-- overlong by one byte, so that nothing of it is kept
 abbrev tooLong : List Event
 tooLong = received (replicate 513 (code "X")) ∷ []
 

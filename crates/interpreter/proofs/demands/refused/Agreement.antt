@@ -1,5 +1,6 @@
 -- Demand 3, after the refused line: two boxes that differ in the trouble alone agree until a unit asks for it, and are equal after an
--- obeyed *CLS. By induction over units, bytes and events: `Agree` says what is left to show once the watch has seen so much.
+-- obeyed *CLS. By induction over units, bytes and events: `Agree` says what has to agree by what the
+-- watch has found so far: neither, asked or cleared.
 use mathlib.Core.Path.{_≡_, refl, ap, ap₂, subst}
 use mathlib.Core.Bool.{Bool, true, false}
 use mathlib.Core.List.{List, [], _∷_}
