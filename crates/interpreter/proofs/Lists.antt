@@ -1,5 +1,5 @@
 -- Laws of lists by the place: what a test of all members, or an equation of two lists, says of one member, and a table of bytes
--- whose rows stand one behind the other.
+-- whose rows stand one after the other.
 use mathlib.Core.Path.{_≡_, refl, sym, _∙_, ap, ap₂}
 use mathlib.Core.Bool.{Bool, true, false≢true}
 use mathlib.Core.List.{List, [], _∷_, _++_, map}
@@ -41,7 +41,7 @@ same-refl x y e = rw e (go y)
 pub fewer : {k n : ℕ} → k < n → n - (k + 1) < n - k
 fewer h = omega arith
 
--- what is lent of a text from a place on
+-- what is lent of a text, from a place to its end
 pub rest-is : (l : Text) (at : ℕ) → at ≤ length l → take (length l - at) (drop at l) ≡ drop at l
 rest-is l at h = take-all (length l - at) (drop at l) (rw length-drop (omega arith))
 
@@ -55,6 +55,11 @@ pub every-at {ℓ} : {A : Type ℓ} (p : A → Bool) (l : List A) (k : ℕ) (d :
 every-at p [] k d e h = absurd (omega arith)
 every-at p (x ∷ l) zero d e h = and-both (p x) (every p l) e .0
 every-at p (x ∷ l) (suc k) d e h = every-at p l k d (and-both (p x) (every p l) e .1) (omega arith)
+
+-- what passes one test passes another
+pub every-map : (p q : ℕ → Bool) → ((b : ℕ) → p b ≡ true → q b ≡ true) → (t : Text) → every p t ≡ true → every q t ≡ true
+every-map p q f [] h = refl
+every-map p q f (b ∷ bs) h = let e = and-both (p b) (every p bs) h in and-true (f b (e .0)) (every-map p q f bs (e .1))
 
 pub getD-map {ℓ κ} : {A : Type ℓ} {B : Type κ} (f : A → B) (l : List A) (k : ℕ) (d : A) (e : B) → k < length l
     → getD (map f l) k e ≡ f (getD l k d)

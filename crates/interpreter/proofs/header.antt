@@ -4,3 +4,4 @@ pub mod Tail
 pub mod Entering
 pub mod Path
 pub mod Whole
+pub mod Bytes

@@ -1,6 +1,6 @@
 pub mod Bytes
 pub mod Trims
-pub mod Behind
+pub mod HeaderAllowed
 pub mod Found
 pub mod Laws
 pub mod Whole

@@ -1,4 +1,4 @@
--- Demand 2, proved; its parts are in Limits, Pieces and RoundTrip.
+-- Demand 2, proved; its parts are in Limits, histories, and trip.
 use mathlib.Core.Path.{refl}
 use Rattle.interpreter.specs.Deeds.{changed, perform}
 use Rattle.interpreter.specs.Histories.{noPiece}

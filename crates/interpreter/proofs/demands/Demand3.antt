@@ -1,4 +1,6 @@
--- Demand 3, proved, for any cutting of both histories.
+-- Demand 3, proved, for any cutting of both histories. While the line comes in, the box with the cut line is the box with its line cut
+-- (refused/Keeping); at the newline both leave the same core (Cutting); and afterwards boxes with one core agree event by event
+-- (Agreement).
 use mathlib.Core.Path.{_≡_, refl, sym, _∙_, ap, ap₂, subst₂}
 use mathlib.Core.Bool.{Bool, false}
 use mathlib.Core.List.{List, [], _∷_, _++_, append-assoc, append-nil}
@@ -121,7 +123,7 @@ module _ (before during : List Event) (line : ALine before during) where
         behind asked x a b e = tt
         behind cleared x a b e = ap (λ (rs : List Result). x ++ rs) e
 
--- the results of a history in any pieces, behind those of a first part
+-- the results of a history in any pieces, after those of a first part
 behind-first : (h first onward : List Event) (n : ℕ) → Recut h (first ++ onward) → others first ≡ n
     → drop n (replies powerUp h) ≡ replies (after powerUp first) onward
 behind-first h first onward n e m =

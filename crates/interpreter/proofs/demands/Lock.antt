@@ -61,7 +61,7 @@ off-set (x ∷ l) = refl
 let-pass : (d : Deed) (c : Core) → Lets d c → locked (c .registers) ≡ true → blocked d ≡ false
 let-pass d c l h = sym (and-true (blocked d)) ∙ (rw h at (l .free))
 
--- ---- what is held from settings s on
+-- ---- what is held of settings s
 
 module _ (s : Settings) where
   abbrev HeldCore : Core → Type 0

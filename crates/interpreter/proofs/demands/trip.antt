@@ -1,4 +1,3 @@
-pub mod HeaderBytes
 pub mod Tenths
 pub mod ReadBack
 pub mod SentUnit

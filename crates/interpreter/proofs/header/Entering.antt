@@ -1,4 +1,6 @@
--- Laws of the loop over a header's names: each is entered behind the path, and what is left of the header tells the rest.
+-- The loop over a header's names. Its invariant, `Naming`: the names before place i stand after the path, as many as seven places hold, and
+-- the text at i tells the other names, whether it asks and where it ends, as the whole text does. A name is read at i, entered, and a
+-- colon leads to the next i.
 use mathlib.Core.Path.{_≡_, refl, sym, _∙_, ap, subst}
 use mathlib.Core.Bool.{Bool, true, false, _&&_, false≢true}
 use mathlib.Core.List.{List, [], _∷_, _++_, map, append-assoc}
@@ -50,7 +52,7 @@ start-after p (b ∷ t) = go (p b) (start-after p t)
     go true ih = ap (λ (l : Text). b ∷ l) ih
     go false ih = refl
 
--- what stands behind a longest start doesn't pass
+-- the byte after a longest start doesn't pass
 after-first : (p : ℕ → Bool) → p 0 ≡ false → (u : Text) → p (first (after p u)) ≡ false
 unfolding if_then_else_
 after-first p z [] = z
@@ -112,7 +114,7 @@ take-twice zero l m = refl
 take-twice (suc n) [] m = refl
 take-twice (suc n) (x ∷ l) m = ap (λ (k : List ℕ). x ∷ k) (take-twice n l m)
 
--- the names before a place are entered, and those from there on are still to be read
+-- the names before i are entered, and those of the text at i are still to be read
 pub record Naming (joined : Bool) (t : Text) (at : ℕ) (path keys : List ℕ) (count i : ℕ) : Type 0 where
   pub few : count ≤ mostNames
   pub long : length keys ≡ mostNames

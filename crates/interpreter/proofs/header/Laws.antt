@@ -1,4 +1,5 @@
--- For the callers of the header reader: check 3 by the number of the row that was found.
+-- For the callers of the header reader: check 3 by the number of the row that was found. By induction over the rows: the first that fits
+-- has the role that check 3 finds, and with none it refuses by -113.
 use mathlib.Core.Path.{_≡_, refl, sym, subst}
 use mathlib.Core.Bool.{Bool, true, false, _&&_}
 use mathlib.Core.List.{List, [], _∷_, map}

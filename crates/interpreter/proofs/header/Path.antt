@@ -1,4 +1,5 @@
--- Laws of the path as numbers: the row that a header's names have behind it, and the path that they leave.
+-- The path as numbers: the row that a header's names have after the path, and the path that they leave. Seven numbers are held, which is
+-- enough: no row has more than five nodes, so a longer list of names has no row, cut to seven or not.
 use mathlib.Core.Path.{_≡_, refl, sym, _∙_, ap, subst}
 use mathlib.Core.Bool.{Bool, true, false}
 use mathlib.Core.List.{List, [], _∷_, _++_, map, map-append}
@@ -45,7 +46,7 @@ or-zero-small false n = omega arith
 held-length : (keys : List ℕ) (count : ℕ) → length keys ≡ mostNames → count ≤ mostNames → length (take count keys) ≡ count
 held-length keys count l h = let t = length-take count keys in omega arith
 
--- the names of a header behind those of a path
+-- the names of a header after those of a path
 module _ (path names : List Text) (known : every name path ≡ true) (good : every name names ≡ true)
     (keys : List ℕ) (long : length keys ≡ mostNames) (count : ℕ) (few : count ≤ mostNames)
     (held : take count keys ≡ take mostNames (map keyOf path ++ map keyOf names)) where
@@ -74,7 +75,7 @@ module _ (path names : List Text) (known : every name path ≡ true) (good : eve
         few = omega arith;
       }
 
--- a common command's name stands behind the path, which stays
+-- a common command's name stands after the path, which stays
 module _ (before : List ℕ) (used : ℕ) (room : used < mostNames) (was : length before ≡ mostNames) (n : Text)
     (keys : List ℕ) (long : length keys ≡ mostNames) (count : ℕ) (few : count ≤ mostNames)
     (held : take count keys ≡ take mostNames (take used before ++ keyOf n ∷ [])) where

@@ -1,5 +1,5 @@
--- Laws of the scan over a header: how a name at its start, what joins it to the next, and what ends it tell the names that the
--- definitions cut at colons, whether it asks, and where it ends.
+-- The scan over a header against the definitions, which cut it at colons. A name at the text's start is their first; a colon after it
+-- leads to the rest of their names (`scan-on`), nothing or a `?` ends them (`scan-last`), and any other byte spoils them (`scan-bad`).
 use mathlib.Core.Path.{_≡_, refl, sym, _∙_, ap}
 use mathlib.Core.Bool.{Bool, true, false, not, _&&_, false≢true}
 use mathlib.Core.List.{List, [], _∷_, _++_}
@@ -89,11 +89,11 @@ body-first p z (b ∷ t) e = go (dark b) (start dark t)
 
 -- ---- cut at colons: parts of which the first goes on a name
 
-unfoldable pub firstWord : List Text → Bool
+unfoldable firstWord : List Text → Bool
 firstWord [] = true
 firstWord (u ∷ us) = every wordByte u && every name us
 
-pub join-word : (b : ℕ) (c : List Text) → firstWord (joinFirst b c) ≡ (wordByte b && firstWord c)
+join-word : (b : ℕ) (c : List Text) → firstWord (joinFirst b c) ≡ (wordByte b && firstWord c)
 unfolding firstWord
 join-word b [] = and-assoc (wordByte b) true true
 join-word b (u ∷ us) = and-assoc (wordByte b) (every wordByte u) (every name us)

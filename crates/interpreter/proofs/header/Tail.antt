@@ -1,4 +1,5 @@
--- Laws of what stands behind a header's last name, and of the tests that look for it.
+-- What comes after a header's last name: a `?` or none, and then white space or the text's end. What the tests that look for it say of the
+-- text.
 use mathlib.Core.Path.{_≡_, refl, sym, _∙_, ap}
 use mathlib.Core.Bool.{Bool, true, false, not, _||_, false≢true}
 use Prim.Native.Nat.{ℕ, _+_, _≤_, _<_}

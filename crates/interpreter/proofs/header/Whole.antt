@@ -1,4 +1,4 @@
--- A whole header: its grammar by what leads it, the row that it has, and the path that it leaves.
+-- A whole header: its grammar by what leads it, a star, a colon or neither (`Led`), the row that it has, and the path that it leaves.
 use mathlib.Core.Path.{_≡_, refl, sym, _∙_, ap}
 use mathlib.Core.Bool.{Bool, true, false, not, _||_, false≢true}
 use mathlib.Core.List.{List, [], _∷_}
@@ -22,7 +22,7 @@ use Rattle.interpreter.proofs.header.Path.{path-row, path-left, counted
 
 -- ---- what leads a header
 
--- no header has no bytes
+-- an empty text is no header
 pub header-none : header [] ≡ refused 102
 unfolding header placed name cutAt letter small if_then_else_ _>>_ check
 header-none = refl
@@ -42,7 +42,7 @@ pub header-body : (t : Text) → header t ≡ byFirst (bodyOf t) (asks t)
 unfolding header byFirst bodyOf
 header-body t = refl
 
--- the header that a text starts with, and its length, by what stands behind its lead
+-- the header that a text starts with, and its length, by what comes after its lead
 pub record Led (t : Text) (s r : Bool) : Type 0 where
   pub one : s ≡ true → r ≡ false
   pub is : header (start dark t) ≡ placed (placeOf s r) (namesIn (not s) (drop (boolByte (s || r)) t)) (asksIn (drop (boolByte (s || r)) t))
@@ -127,7 +127,7 @@ module _ (t : Text) (before : List ℕ) (used : ℕ) (room : used < mostNames) (
       → x .good ≡ true → orZero (eqb b 42) used ≤ x .count
   first-fits b is m good = first-at (eqb b 42) (eqb b 58) (led t b is (eqb b 42) (eqb b 58) refl refl) (m .found good)
 
--- entered behind the path, or at the root
+-- entered after the path, or at the root
 module _ (t : Text) (path : List Text) (before : List ℕ) (used : ℕ) (p : Holds path before used) (was : length before ≡ mostNames)
     (keys : List ℕ) (long : length keys ≡ mostNames) (x : Names) (row : ℕ) where
   look-at : (s r : Bool) → Led t s r → every name (namesIn (not s) (drop (boolByte (s || r)) t)) ≡ true

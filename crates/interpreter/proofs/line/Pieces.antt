@@ -6,8 +6,8 @@ use mathlib.Core.List.{[], _∷_, _++_}
 use Prim.Native.Nat.{ℕ, suc, _+_}
 use native.Mathlib.Omega.{arith}
 use lib.Dec.{eqb}
-use Rattle.registers.specs.Text.{Text, if_then_else_}
 use borrow.Author.Tests.{not-true}
+use Rattle.registers.specs.Text.{Text, if_then_else_}
 use Rattle.interpreter.specs.Box.{Box, box}
 use Rattle.interpreter.specs.Line.{held, byte, piece, newlines}
 

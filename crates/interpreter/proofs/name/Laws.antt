@@ -1,4 +1,5 @@
--- Laws of reading a name: its bytes one by one, and its first letter.
+-- Reading a name. The loop's invariant, `Spelled`: the number of the bytes before i, continued over the rest of the name, is the
+-- name's; a code of 0 ends it. The name's first byte, a letter, is added last, as the lowest place.
 use mathlib.Core.Path.{_≡_, refl, sym, _∙_, ap}
 use mathlib.Core.Bool.{Bool, true, false}
 use mathlib.Core.List.{_∷_}
@@ -29,7 +30,7 @@ uncoded b e = go (wordByte b) refl
 
 -- ---- the loop over a name's bytes
 
--- the number of the bytes before i, which go on the name that starts at a place
+-- i is on the way through the name that starts at `at`, and key is the number of the bytes before i
 pub record Spelled (t : Text) (at key i : ℕ) : Type 0 where
   pub on : keyFrom key (start wordByte (drop i t)) ≡ keyFrom 0 (start wordByte (drop at t))
   pub way : OnWay wordByte t at i

@@ -1,4 +1,5 @@
--- Laws of a chunk's lines: their bytes are the chunk's, and the first of them are those of its first bytes.
+-- A chunk's lines: their bytes are the chunk's, and its first lines are the lines of its first bytes. By induction over the bytes, of which
+-- each joins the first line or ends it.
 use mathlib.Core.Path.{_≡_, refl, sym, _∙_, ap}
 use mathlib.Core.Bool.{Bool, true, false}
 use mathlib.Core.List.{List, [], _∷_, _++_, append-assoc, flatten, nil≢cons, head-eq-of-cons-eq, tail-eq-of-cons-eq}
@@ -50,7 +51,7 @@ lines-whole (x ∷ xs) =
 pub lines-total : (t : Text) → total (linesOf t) ≡ length t
 lines-total t = sym (flatten-total (linesOf t)) ∙ ap length (lines-whole t)
 
--- ---- its first lines, and those behind them
+-- ---- its first lines, and those after them
 
 no-more : (ks ls : List Text) → [] ≡ ks ++ ls → ks ≡ []
 no-more [] ls e = refl

@@ -1,5 +1,6 @@
 -- A chunk served: its first lines were heard, by pieces and takes that were not refused. Lines heard are a history, and however the
--- bytes are cut into chunks they lead to the same box.
+-- bytes are cut into chunks they lead to the same box. By induction over the lines (`Goes`): each is served as it is heard, as long as the
+-- output has room for an answer.
 use mathlib.Core.Path.{_≡_, refl, sym, _∙_, ap, subst}
 use mathlib.Core.Bool.{Bool, true, false}
 use mathlib.Core.List.{List, [], _∷_, _++_, append-assoc, append-nil, flatten}
@@ -82,7 +83,7 @@ module _ (v : Service) (l : Text) (f : Fit mostAnswer (v .box)) (room : mostAnsw
       if-elim (λ (u : Service). u .box ≡ heardLine (v .box) l) (empty (now .core .answer))
       (λ e. sym (no-answer now (is-empty (now .core .answer) e))) (λ e. ap (λ (h : Happened). h .box) (whole (v .box) l (v .rest) f room e))
 
-  -- what the line's take copied stands behind the answers before it
+  -- what the line's take copied comes after the answers before it
   line-answers : (es : List Event) (said : Text) → Follows (servedLine v l) es said → Follows v (received l ∷ takingFirst now (v .rest) es) said
   unfolding servedLine happens resultsOf copied if_then_else_
   line-answers es said = go (empty (now .core .answer)) refl

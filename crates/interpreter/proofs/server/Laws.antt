@@ -1,4 +1,5 @@
--- Laws of a chunk: its first line, one line served, and the loop over its lines.
+-- The loop over a chunk's lines. Its invariant, `Serving`: the service that the flow and the output stand for, given the lines not yet read,
+-- comes to what the chunk's service comes to from its beginning. One turn takes in the first line that is left and lays its answer down.
 use mathlib.Core.Path.{_≡_, refl, sym, _∙_}
 use mathlib.Core.Bool.{Bool, true, false, _&&_}
 use mathlib.Core.List.{List, [], _∷_, _++_, append-nil}
@@ -102,7 +103,7 @@ module _ (begun : Service) (room : ℕ) (input line out output : Text) (f : Flow
         let wrote = g .wrote in
         omega arith
 
-    -- the next line was taken in, and its answer laid behind those before it
+    -- the next line was taken in, and its answer laid after those before it
     module _ (r : Flow) (line′ out′ : Text) (w : FlowFed f line out first r line′ out′) where
       pub serve-further : f .read < r .read
       serve-further =

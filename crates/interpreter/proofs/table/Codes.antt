@@ -1,4 +1,5 @@
--- Laws of a byte's code in a name: it is the same for a letter in either case, and tells letters apart from all other bytes.
+-- Laws of a byte's code in a name: a letter's is its five lowest bits, the same in either case, that of a digit or an underscore is 31, and
+-- that of any other byte 0. So a code tells a letter apart from all other bytes.
 use mathlib.Core.Path.{_≡_, refl, sym, _∙_}
 use mathlib.Core.Bool.{Bool, true, false, _||_, false≢true}
 use Prim.Native.Nat.{ℕ, _+_, _-_, _%_, _≤_, _<_}

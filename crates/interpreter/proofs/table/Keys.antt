@@ -98,7 +98,7 @@ same-codes : (l m : List ℕ) → every code l ≡ true → every code m ≡ tru
 unfolding modulus
 same-codes l m e f h q = same-places 12 l m e f (omega arith) (sym (wraps l e) ∙ q ∙ wraps m f)
 
--- ---- a name's codes as places: the first lowest, and then from the last on
+-- ---- a name's codes as places: the first lowest, then the last, and so on back to the second
 
 turned : Text → List ℕ
 turned [] = []

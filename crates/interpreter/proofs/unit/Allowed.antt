@@ -1,4 +1,5 @@
--- Checks 1 to 7 refuse only by numbers that a unit can raise, and what they accept is allowed.
+-- Checks 1 to 7 refuse only by numbers that a unit can raise, and what they accept is allowed. Check by check along the chain (proofs/Checks);
+-- that each row's own deed is allowed is computed over the rows.
 use mathlib.Core.Path.{_≡_, refl}
 use mathlib.Core.Bool.{Bool, true, false, _&&_, false≢true}
 use mathlib.Core.List.{List, [], _∷_}

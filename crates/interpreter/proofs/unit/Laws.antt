@@ -1,4 +1,4 @@
--- The checks behind the header, by the one that ends them.
+-- The checks after the header, by the one that ends them.
 use mathlib.Core.Path.{_≡_, sym, _∙_}
 use mathlib.Core.Bool.{Bool, true, false}
 use mathlib.Core.List.{List}

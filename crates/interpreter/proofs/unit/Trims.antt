@@ -1,4 +1,4 @@
--- White space around a text: at its end, byte by byte, and that a trimmed text stays as it is.
+-- White space around a text: at its end, byte by byte from the last, and that a trimmed text stays as it is.
 use mathlib.Core.Path.{_≡_, refl, ap, _∙_}
 use mathlib.Core.Bool.{Bool, true, false, _&&_}
 use mathlib.Core.List.{[], _∷_, _++_}

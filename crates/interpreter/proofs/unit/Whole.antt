@@ -1,4 +1,5 @@
--- The whole unit: where its header and its parameters stand, and its checks by what the header comes to.
+-- The whole unit: where its header and its parameters stand, and its checks by what the header comes to. The code reads the header before
+-- it tests the bytes; that is the order of 01 all the same, since every byte of a header is allowed (unit/HeaderAllowed).
 use mathlib.Core.Path.{_≡_, refl, ap, sym, _∙_}
 use mathlib.Core.Bool.{Bool, true, false, not}
 use mathlib.Core.List.{List}
@@ -28,11 +29,12 @@ use Rattle.interpreter.specs.declared.parameter.Decision.{Decision}
 use Rattle.interpreter.specs.declared.parameter.Decision.the-variants.{Refused as noDeed, Obey as someDeed}
 use Rattle.interpreter.proofs.Lists.{rest-is}
 use Rattle.interpreter.proofs.header.Laws.{found-most}
+use Rattle.interpreter.proofs.Checks.{apart}
 use Rattle.interpreter.proofs.unit.Bytes.{allowed}
-use Rattle.interpreter.proofs.unit.Behind.{allowed-behind}
+use Rattle.interpreter.proofs.unit.HeaderAllowed.{allowed-behind}
 use Rattle.interpreter.proofs.unit.Found.{role-found}
 
--- ---- the header starts at s, and the parameters' text stands behind it
+-- ---- the header starts at s, and the parameters' text comes after it
 
 abbrev behind : Text → ℕ → Text
 behind u s = take (length u - s) (drop s u)
@@ -46,7 +48,7 @@ runs u s at =
     let w = end-within white u 0 s at (omega arith) in
     record { within = w; is = rest-is u s w ∙ end-drop white u 0 s at }
 
--- it ends so far behind s
+-- it ends so far after s
 module _ {u : Text} {s : ℕ} (r : Runs u s) (e : ℕ) (is : e ≡ length (start dark (behind u s))) where
   from : drop s u ≡ after white u
   from = sym (rest-is u s (r .within)) ∙ r .is
@@ -85,7 +87,7 @@ module _ (s : Settings) (asked : Bool) (ps : List Text) where
   abbrev enough : Role → Checked (Unit {0})
   enough r = check 109 (leb (least r asked) (length ps))
 
-  -- the checks behind the header, with what is made of the deed
+  -- the checks after the header, with what is made of the deed
   abbrev behindWith : Checked Role → (Deed → Checked Read) → Checked Read
   behindWith m k = full >> m >>= λ r. few r >> enough r >> deedOf s r asked ps >>= k
 
@@ -101,7 +103,7 @@ decided-then s row asked t k =
     let ps = parameters t in
     joined (full s asked ps) (roleFound row) (few s asked ps) (enough s asked ps) (λ r. deedOf s r asked ps) k
 
--- what the checks behind the header leave of a unit
+-- what the checks after the header leave of a unit
 pub record Headed (s : Settings) (path : List Text) (u : Text) (st row used : ℕ) (asked : Bool) (end : ℕ) (keys : List ℕ) : Type 0 where
   pub within : row ≤ rowCount
   pub left : List Text
@@ -154,12 +156,12 @@ module _ (s : Settings) (path : List Text) (u : Text) where
 -- only a header that has a row has a deed
 none-passes : {A B : Type 0} (x : Checked (Unit {0})) (n : ℕ) (k : A → Checked B) (d : B) → (x >> refused n >>= k) ≡ passed d → ⊥
 unfolding _>>_ _>>=_
-none-passes (refused m) n k d e = let z : _≡_ {A = ℕ} 0 1 = cc in omega arith
-none-passes (passed _) n k d e = let z : _≡_ {A = ℕ} 0 1 = cc in omega arith
+none-passes (refused m) n k d e = apart m d e
+none-passes (passed _) n k d e = apart n d e
 
 second-passes : {A : Type 0} (x : Checked (Unit {0})) (m : Checked A) (a : A) → (x >> m) ≡ passed a → m ≡ passed a
 unfolding _>>_
-second-passes (refused n) m a e = let z : _≡_ {A = ℕ} 0 1 = cc in absurd (omega arith)
+second-passes (refused n) m a e = absurd (apart n a e)
 second-passes (passed _) m a e = e
 
 found-deed : (s : Settings) (row : ℕ) (asked : Bool) (t : Text) (d : Deed) → decidedText s row asked t ≡ passed d → row < rowCount

@@ -1,4 +1,5 @@
--- Calls of the public functions make a history of the definition: what the demands say of histories they say of the code.
+-- Calls of the public functions make a history of the definition: what the demands say of histories they say of the code. By induction
+-- over the calls, each known by its promise alone; a chunk makes the pieces and takes of its lines.
 use mathlib.Core.Path.{_≡_, refl, sym, ap, ap₂, _∙_}
 use mathlib.Core.Bool.{Bool, true, false, true≢false}
 use mathlib.Core.List.{List, [], _∷_, _++_}
@@ -82,7 +83,7 @@ call-history s t _ _ p (event {e = e} {r = r} h) = event-history s t e r (admits
 call-history s t _ _ p (chunk {input = input} {output = output} {left = left} {number = number} {read = read} {written = written} w) =
     record { possible = w .possible p .0; box = chunk-after s t input output left number read written w p; results = refl }
 
--- one history behind another
+-- one history and then another
 then-history : (s u t : State) (es fs : List Event) (rs qs : List Result) → History s u es rs → History u t fs qs → History s t (es ++ fs) (rs ++ qs)
 then-history s u t es fs rs qs p q =
     record {

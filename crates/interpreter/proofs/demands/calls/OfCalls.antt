@@ -1,4 +1,5 @@
--- Demands 2 and 3 of calls, proved: calls make a history of the definition, and of histories the demands hold.
+-- Demands 2 and 3 of calls, proved: calls make a history of the definition, with the same results and a last state that means the same box
+-- (calls/AsHistory), and of histories the demands hold.
 use mathlib.Core.Path.{_≡_, refl, sym, _∙_, ap, subst, subst₂}
 use mathlib.Core.Bool.{Bool, true, false}
 use mathlib.Core.List.{List, [], _∷_, _++_, append-assoc, head-eq-of-cons-eq}
@@ -71,7 +72,7 @@ answered s t i before h rs ran e asks =
     ap (λ (b : Box). b .core .answer) (history s t h rs ran .box ∙ recut-state (boxOf s) h (queried before) e)
     ∙ demand2 .answered (boxOf s) (own s t h rs ran) i before asks
 
--- the take that comes behind these events, in a history in any pieces
+-- the take that comes after these events, in a history in any pieces
 take-behind : (b : Box) (h first late : List Event) (buffer : Text) → Recut h (first ++ take buffer ∷ late)
     → drop (howMany isTake first) (resultsOf isTake b h) ≡ happens (after b first) (take buffer) .result ∷ resultsOf isTake (happens (after b first) (take buffer) .box) late
 unfolding resultsOf if_then_else_

@@ -1,5 +1,5 @@
--- Each of the programs in specs/Dummies is the dummy that it stands for. The refuser by an invariant of its memory (no answer waits), the
--- fixed answer by what a take finds; the others by what one piece does.
+-- Each of the programs in specs/Dummies is the dummy that it stands for. The refuser and the fixed answer by an invariant of their memory
+-- (no answer waits; no answer but the one), the others by what a piece does to theirs.
 use mathlib.Core.Path.{_≡_, refl, sym, _∙_, ap, subst}
 use mathlib.Core.Bool.{Bool, true, false}
 use mathlib.Core.List.{List, [], _∷_, _++_}
@@ -111,14 +111,14 @@ module _ (a : Text) where
       one-alike (reached p powerUp es) buffer
       (reached-so p One (λ b e _. answering-one (happens b e .box)) es powerUp (nothing (ap empty start-answerless)))
 
--- ---- the first-liner obeys the first line, and drops what comes behind it
+-- ---- the first-liner obeys the first line, and drops what comes after it
 
 dropped : (b : Box) (xs : Text) → firstPiece (b, true) xs ≡ (b, true)
 unfolding firstPiece firstByte if_then_else_
 dropped b [] = refl
 dropped b (x ∷ xs) = dropped b xs
 
--- behind a newline the first line is over
+-- after a newline the first line is over
 over : (m : Box × Bool) (l : Text) → firstPiece m (l ++ 10 ∷ []) .1 ≡ true
 unfolding firstPiece firstByte if_then_else_
 over m [] = go (m .1) refl

@@ -85,7 +85,7 @@ next-is p m es e =
     (sym (last-told p es e) ∙ ap (drop (length es)) (m (es ++ e ∷ []) ∙ sym (box-meets (es ++ e ∷ []))) ∙ last-told theBox es e)
     ∙ ap (λ (b : Box). happens b e .result) (reached-after powerUp es)
 
--- ---- computed: what the definition tells of a take behind these lines
+-- ---- computed: what the definition tells of a take after these lines
 
 abbrev line : String → Event
 line s = received (bytes s ++ 10 ∷ [])

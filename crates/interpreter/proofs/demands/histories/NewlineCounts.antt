@@ -1,4 +1,5 @@
--- The sum of the pieces' own counts of newlines: it goes by the bytes, whatever their pieces are, and a line cut short keeps it.
+-- The sum of the pieces' own counts of newlines: it goes by the bytes alone (`ends`), whatever their pieces are, and a line cut short
+-- keeps it, since the bytes that are cut have no newline.
 use mathlib.Core.Path.{_≡_, refl, sym, _∙_, ap}
 use mathlib.Core.Bool.{true, false≢true}
 use mathlib.Core.List.{List, [], _∷_, _++_, map}

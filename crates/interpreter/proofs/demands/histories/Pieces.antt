@@ -1,5 +1,5 @@
 -- "A piece behaves as its bytes one at a time": histories with the same bytes leave the same state and the same results, in
--- whatever pieces the bytes come.
+-- whatever pieces the bytes come. By induction over the events each leaves what its single bytes (`moments`) leave, and those are the same.
 use mathlib.Core.Path.{_≡_, refl, sym, _∙_, ap}
 use mathlib.Core.Bool.{Bool, true, false}
 use mathlib.Core.List.{List, [], _∷_, _++_, map}

@@ -1,4 +1,4 @@
--- How many results a history has of a kind of events: as many as it has such events.
+-- How many results a history has of a kind of events: as many as it has such events, and so the same where only bytes are cut.
 use mathlib.Core.Path.{_≡_, refl, ap}
 use mathlib.Core.Bool.{Bool, true, false}
 use mathlib.Core.List.{List, [], _∷_, _++_}

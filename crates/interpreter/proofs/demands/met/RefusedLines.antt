@@ -44,14 +44,14 @@ pub record Cut (before during : List Event) (n : ℕ) (left : Text) : Type 0 whe
 abbrev during : List Event
 during = text "VOLT 5;VO" ∷ take [] ∷ text "LTA 6" ∷ []
 
--- behind another line, refused at the third of its four units, with an answer made before
+-- after another line, refused at the third of its four units, with an answer made before
 abbrev earlier : List Event
 earlier = text "FREQ 70\n" ∷ []
 
 abbrev atThird : List Event
 atThird = text "VOLT 5;VOLT?;FREQ 1;FREQ 60" ∷ []
 
--- overlong: n = 0
+-- overlong by one byte, so that nothing of it is kept
 abbrev tooLong : List Event
 tooLong = received (replicate 513 (code "X")) ∷ []
 
@@ -68,7 +68,7 @@ pub record Met3 : Type 0 where
   pub thirdAnswers : after powerUp (asSent earlier atThird) .core .answer ≡ bytes "5.0\n"
   pub overlong : Cut [] tooLong 363 []
   pub comesFirst : map watched ("VOLT?\n" ∷ "VOLT 1;*CLS;*ESR?\n" ∷ "SYST:ERR?;*CLS\n" ∷ []) ≡ neither ∷ cleared ∷ asked ∷ []
-  -- the history, and the one with the line cut, each in pieces of its own that go on behind the line's end
+  -- the history, and the one with the line cut, each in pieces of its own that go on past the line's end
   pub inPieces : Recut (text "VOLT 5;VO" ∷ take [] ∷ text "LTA 6\n*C" ∷ text "LS\nVOLT?\n" ∷ take [] ∷ []) (asSent [] during ++ later)
   pub cutInPieces : Recut (text "VOL" ∷ text "T 5" ∷ take [] ∷ text "\n*CLS\nVOLT?\n" ∷ take [] ∷ []) (asCut [] during ++ later)
 

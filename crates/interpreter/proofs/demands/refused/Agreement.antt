@@ -1,5 +1,6 @@
--- Demand 3, after the refused line: two boxes that differ in the trouble alone agree until a unit asks for it, and are equal
--- from an obeyed *CLS on.
+-- Demand 3, after the refused line: two boxes that differ in the trouble alone agree until a unit asks for it, and are equal after an
+-- obeyed *CLS. By induction over units, bytes and events: `Agree` says what has to agree by what the
+-- watch has found so far: neither, asked or cleared.
 use mathlib.Core.Path.{_≡_, refl, ap, ap₂, subst}
 use mathlib.Core.Bool.{Bool, true, false}
 use mathlib.Core.List.{List, [], _∷_}
@@ -110,7 +111,7 @@ unfolding watchLine runLine if_then_else_
 line-agree line true c t t′ = refl
 line-agree line false c t t′ = finished-agree (watchUnits (unitsOf line) [] (box c t)) _ _ (units-agree (unitsOf line) [] c t t′)
 
--- a line run behind the -410 of a waiting answer
+-- a line run after the -410 of a waiting answer
 interrupted-agree : (line : Text) (overlong : Bool) (c : Core) (t t′ : Trouble)
     → Agree (watchLine line overlong (interrupted (box c t))) (runLine line overlong (interrupted (box c t))) (runLine line overlong (interrupted (box c t′)))
 unfolding interrupted

@@ -1,4 +1,5 @@
--- Demand 3: the line cut to its obeyed units is a start of the line as it was sent.
+-- Demand 3: the line cut to its obeyed units is a start of the line as it was sent. The obeyed units are the line's first ones, and joined
+-- by `;` they are a start of all units joined, which are the line.
 use mathlib.Core.Path.{_≡_, refl, sym, _∙_, ap, ap₂}
 use mathlib.Core.Bool.{false}
 use mathlib.Core.List.{List, [], _∷_, _++_, append-assoc, append-nil}

@@ -1,5 +1,6 @@
--- Demand 3, at the newline: a line that is refused by a number other than -430, and the same line cut to the units that were
--- obeyed, leave the same core.
+-- Demand 3, at the newline: a line that is refused by a number other than -430, and the same line cut to the units that were obeyed,
+-- leave the same core. The cut line's units are the obeyed ones, since none of them has a `;` and the first is not blank; and the refusal
+-- changes no core.
 use mathlib.Core.Path.{_≡_, refl, sym, _∙_, ap}
 use mathlib.Core.Bool.{Bool, true, false, not, _||_, false≢true}
 use mathlib.Core.List.{List, [], _∷_, _++_}
@@ -22,7 +23,7 @@ use Rattle.interpreter.proofs.header.Whole.{header-none}
 use Rattle.interpreter.proofs.demands.Separators.{free, cut-free, cut-more, cut-one}
 use Rattle.interpreter.proofs.demands.refused.Agreement.{over-cores, finished-core}
 
--- the same box, its waiting line cut to the first n units
+-- the same box, its waiting line cut to the units that will be obeyed
 abbrev pub cut : Box → Box
 cut b = box (withLine (cutLine b) false (b .core)) (b .trouble)
 
@@ -143,7 +144,7 @@ blank-line : (b : Box) → b .core .answer ≡ [] → runLine [] false b .core �
 unfolding runLine unitsOf runUnits finished if_then_else_
 blank-line b e = rw e refl
 
--- behind the -410 no answer waits
+-- after the -410 no answer waits
 pub none-waits : (b : Box) → interrupted b .core .answer ≡ []
 unfolding interrupted
 none-waits b = if-elim (λ (c : Box). c .core .answer ≡ []) (empty (b .core .answer)) (λ q. is-empty (b .core .answer) q) (λ _. refl)

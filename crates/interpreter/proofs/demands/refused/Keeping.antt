@@ -1,4 +1,5 @@
--- Demand 3, while the line comes in: cutting its bytes to the first k cuts the waiting line to its first k bytes, and nothing else.
+-- Demand 3, while the line comes in: cutting its bytes to the first k cuts the waiting line to its first k bytes, and nothing else. The
+-- invariant over bytes and events (`Kept`, `DuringKept`): the box with its line cut, and how many of the k bytes are still to come.
 use mathlib.Core.Path.{_≡_, refl, sym, _∙_, ap, ap₂}
 use mathlib.Core.Bool.{Bool, true, false, false≢true}
 use mathlib.Core.List.{List, [], _∷_, _++_}
@@ -55,7 +56,7 @@ module _ (k : ℕ) (most : k ≤ mostLine) where
       ∙ ap (λ (y : Text). box (withLine y false (b .core)) (b .trouble)) (ap (λ (y : Text). y ++ x ∷ []) e ∙ sym f)
       ∙ sym (ap (cutTo k) (byte-plain b x t ∙ ap (λ (c : Core). box c (b .trouble)) (held-room x (b .core) (omega arith))))
 
-  -- no room: the byte is behind the first k
+  -- no room: the byte comes after the first k
   full-held : (x : ℕ) (c : Core) (t : Trouble) → k ≤ length (c .line) → (e : Bool) → ltb (length (c .line)) mostLine ≡ e
       → (k ≤ length (held x c .line)) × (cutTo k (box (held x c) t) ≡ cutTo k (box c t))
   unfolding cutTo

@@ -1,4 +1,5 @@
--- Demand 3: behind a newline no byte of a line waits, so the next line of any history begins there.
+-- Demand 3: after a newline no byte of a line waits, so the next line of any history begins there. The newline empties the line first, and
+-- no unit of it, obeyed or refused, touches the line again (`FreshBox`, by induction over the units).
 use mathlib.Core.Path.{refl, subst, sym}
 use mathlib.Core.List.{List, [], _∷_}
 use Prim.Native.Nat.{ℕ}

@@ -1,4 +1,5 @@
--- Demand 3: whether a unit asks, or a *CLS is obeyed first, is the same in both histories.
+-- Demand 3: whether a unit asks, or a *CLS is obeyed first, is the same in both histories. It goes by the core alone until then, so the
+-- induction is that of refused/Agreement, which says that the cores agree.
 use mathlib.Core.Path.{_≡_, refl, sym}
 use mathlib.Core.Bool.{Bool, false}
 use mathlib.Core.List.{List, [], _∷_}
@@ -72,7 +73,7 @@ byte-watch x c t t′ =
     (line-watch l o d t t′) (line-watch l o (withAnswer [] d) (raised 410 t) (raised 410 t′)))
     refl
 
--- the first that is not neither, where the boxes behind it agree
+-- the first that is not neither, where the boxes that are left agree
 then-watch : (w w′ : Watch) → w ≡ w′ → (a b : Box) → Agree w a b → (f : Box → Watch) → ((c : Core) (t t′ : Trouble) → f (box c t) ≡ f (box c t′))
     → thenWatch w (f a) ≡ thenWatch w′ (f b)
 then-watch w w′ e a b g f h = rw (sym e) (go w g)

@@ -1,4 +1,5 @@
--- While a line comes in, settings stay as they are, and a waiting answer stays until it is taken.
+-- While a line comes in, settings stay as they are, and a waiting answer stays until it is taken. Every event but a power-up and a newline
+-- leaves them so (`Quiet`), and so do any number of them, by induction.
 use mathlib.Core.Path.{_≡_, refl, _∙_}
 use mathlib.Core.Bool.{true, false, false≢true}
 use mathlib.Core.List.{List, [], _∷_}

@@ -1,5 +1,5 @@
--- Demand 2, the round trip: every answer is read back as the value that it stands for. For tenths that is a law, for all other
--- settings one computed test over every value.
+-- Demand 2, the round trip: every answer is read back as the value that it stands for, and has no byte that parts units or parameters.
+-- For tenths that is a law, for all other settings one computed test over every value.
 use mathlib.Core.Path.{_≡_, refl, ap}
 use mathlib.Core.Bool.{Bool, true, false, not, _&&_, false≢true}
 use Prim.Native.Nat.{ℕ, suc, _+_, _≤_, _<_}

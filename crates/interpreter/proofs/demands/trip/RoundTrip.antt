@@ -1,4 +1,5 @@
--- Demand 2, the round trip, proved.
+-- Demand 2, the round trip. The query's newline leaves the setting's answer; it waits until it is taken (trip/AnswerWaits); sent back it is
+-- read as the value that the setting has (trip/SentUnit, trip/ReadBack), and giving a setting that value changes nothing.
 use mathlib.Core.Path.{_≡_, refl, sym, _∙_, ap, subst}
 use mathlib.Core.Bool.{true, false, not, and-false, false≢true}
 use mathlib.Core.List.{List, [], _∷_, _++_}
@@ -40,7 +41,7 @@ use Rattle.interpreter.proofs.demands.trip.AnswerWaits.{Left, waits, go
 
 -- ---- the query's newline
 
--- the core behind the -410 of a waiting answer
+-- the core after the -410 of a waiting answer
 interrupted-core : (b : Box) → interrupted b .core ≡ withAnswer [] (b .core)
 unfolding interrupted
 interrupted-core b =
@@ -178,7 +179,7 @@ module _ (b : Box) (own : Own b) (i : ℕ) (a buffer : Text) (before early late 
   fit : (es : List Event) → Fit mostAnswer (after b es)
   fit es = history-fit b es (own-fit b own)
 
-  -- behind the query's newline
+  -- after the query's newline
   behind : after b (queried before)
       ≡ box (withAnswer (answer-of (asking .core .settings) i ++ 10 ∷ []) (withLine [] false (asking .core))) (atNewline asking .trouble)
   behind = newline-after b before ∙ query-line i asking (fit before) asks

@@ -1,6 +1,7 @@
--- A line that is white space, a header, white space, one parameter and white space: it is one unit, and what the checks see of it.
+-- A line that is white space, a header, white space, one parameter and white space: it is one unit, and its header and its parameter are
+-- read as they stand there. Both are solid, without white space or `;`, so every cut of the definitions falls between them.
 use mathlib.Core.Path.{_≡_, refl, sym, _∙_, ap}
-use mathlib.Core.Bool.{Bool, true, false, not, _&&_, _||_, false≢true}
+use mathlib.Core.Bool.{Bool, true, false, not, _&&_, false≢true}
 use mathlib.Core.List.{[], _∷_, _++_, append-nil}
 use Prim.Native.Nat.{ℕ}
 use Prim.Native.Char.{code}
@@ -21,7 +22,11 @@ use Rattle.interpreter.specs.declared.deed.Deed.{Deed}
 use Rattle.interpreter.proofs.header.Whole.{header-none}
 use Rattle.interpreter.proofs.demands.Separators.{other, free, cut-one}
 use Rattle.interpreter.proofs.demands.trip.ReadBack.{plainByte, plainText}
-use Rattle.interpreter.proofs.demands.trip.HeaderBytes.{every-map, solid, apart, header-is-solid}
+use Rattle.interpreter.proofs.Checks.{apart}
+use Rattle.interpreter.proofs.Lists.{every-map}
+use Rattle.interpreter.proofs.header.Bytes.{solid, header-is-solid}
+use Rattle.interpreter.proofs.unit.Bytes.{allowed}
+use Rattle.interpreter.proofs.unit.HeaderAllowed.{white-allowed, solid-allowed}
 
 -- ---- white space and solid bytes
 
@@ -34,7 +39,7 @@ unfolding if_then_else_
 skip-white [] t h = refl
 skip-white (b ∷ l) t h = let e = and-both (white b) (every white l) h in rw (e .0) (skip-white l t (e .1))
 
--- behind white space a solid text stands as it is
+-- a solid text has no white space at its start to pass over
 solid-stays : (h t : Text) → empty h ≡ false → every solid h ≡ true → after white (h ++ t) ≡ h ++ t
 unfolding if_then_else_
 solid-stays [] t n h = absurd (false≢true (sym n))
@@ -73,17 +78,6 @@ unfolding trim
 solid-trim g a r v n e w = ap trimEnd (skip-white g (a ++ r) v ∙ solid-stays a r n e) ∙ solid-end a r e w
 
 -- ---- bytes by what they may be
-
-abbrev allowed : ℕ → Bool
-allowed b = white b || printable b
-
-white-allowed : (b : ℕ) → white b ≡ true → allowed b ≡ true
-white-allowed b e = rw e
-
-solid-allowed : (b : ℕ) → solid b ≡ true → allowed b ≡ true
-unfolding solid
-solid-allowed b e =
-    let p = and-both (not (white b)) _ e in rw (not-true (white b) (p .0)) (and-both (printable b) _ (p .1) .0)
 
 white-joins : (b : ℕ) → white b ≡ true → other (code ";") b ≡ true
 unfolding white

@@ -1,5 +1,5 @@
 -- "one decimal for step 0.1": a value answered so is read as that value. A law of all values, since thousands are too many to try
--- one by one.
+-- one by one; its digits by induction over the places that they may have.
 use mathlib.Core.Path.{_≡_, refl, _∙_}
 use mathlib.Core.Bool.{Bool, true, false, not, _||_}
 use mathlib.Core.List.{List, [], _∷_, _++_}
@@ -29,7 +29,7 @@ use Rattle.registers.proofs.rounding.Sides.{side-on}
 use Rattle.interpreter.specs.Parameter.{Figure, parameter}
 use Rattle.interpreter.proofs.Choices.{if-elim}
 use Rattle.interpreter.proofs.unit.Trims.{some-behind}
-use Rattle.interpreter.proofs.demands.trip.HeaderBytes.{every-map}
+use Rattle.interpreter.proofs.Lists.{every-map}
 
 -- ---- a number in decimal
 

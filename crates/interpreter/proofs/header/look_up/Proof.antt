@@ -1,5 +1,9 @@
+-- The first byte tells what leads the header; the names after it are read onto the path, and the row is searched by their numbers.
+-- `entered` says what was read and `kept` that the path keeps its length; what that means of a header is in header/Whole.
 use mathlib.Core.Path.{_≡_, refl, sym, _∙_}
-use mathlib.Core.Bool.{not, _||_}
+use mathlib.Core.Bool.{true, not, _||_}
+use mathlib.Core.List.{List}
+use Prim.Native.Nat.{ℕ}
 use lib.Dec.{eqb}
 use lib.ListN.{length, take}
 use borrow.Author.Tests.{not-true, not-false}
@@ -12,16 +16,36 @@ use borrow.Author.Needs.{needs}
 use Rattle.interpreter.proofs.header.look_up.Statement.{statement}
 use Rattle.interpreter.proofs.header.look_up.Tie as tie
 
--- the names that were read, entered behind the path or at the root
-entered : (c : tie.After-read-names)
-    → let s = c .before .before .before .before .before .before .before .args in
-    let y = c .before .before .before .byte-at .result in
-    NamesRead (not (eqb y 42)) (s .text .now) (boolByte (eqb y 42 || eqb y 58)) (take (orZero (not (eqb y 58)) (s .used)) (s .path .now)) (c .read-names .result)
-    (c .read-names .last .1 .1 .1 .1 .0)
-entered c = rw (c .before .before .or-zero .ensures) at (c .read-names .ensures)
+-- once the first byte is read
+abbrev start-of : tie.After-byte-at → tie.Start
+start-of y = y .before .before .before .before
 
-kept : (c : tie.After-read-names) → length (c .read-names .last .1 .1 .1 .1 .0) ≡ mostNames
-kept c = c .read-names .kept .1 .1 .1 .1 .0 ∙ c .before .before .before .before .before .before .before .pre .2
+-- once the names are read: the first byte, the start, and the path with the names after it
+abbrev first-of : tie.After-read-names → tie.After-byte-at
+first-of p = p .before .before .before
+
+abbrev entry : tie.After-read-names → tie.Start
+entry p = start-of (first-of p)
+
+abbrev keys : tie.After-read-names → List ℕ
+keys p = p .read-names .last .1 .1 .1 .1 .0
+
+-- what was read, entered after the path or at the root
+entered : (p : tie.After-read-names)
+    → let s = entry p .args in
+    let y = first-of p .byte-at .result in
+    NamesRead (not (eqb y 42)) (s .text .now) (boolByte (eqb y 42 || eqb y 58)) (take (orZero (not (eqb y 58)) (s .used)) (s .path .now)) (p .read-names .result) (keys p)
+entered p = rw (p .before .before .or-zero .ensures) at (p .read-names .ensures)
+
+kept : (p : tie.After-read-names) → length (keys p) ≡ mostNames
+kept p = p .read-names .kept .1 .1 .1 .1 .0 ∙ entry p .pre .2
+
+-- once they are known to be good
+abbrev read-of : tie.Else1 → tie.After-read-names
+read-of e = e .before .before .before .before
+
+is-good : (e : tie.Else1) → read-of e .read-names .result .good ≡ true
+is-good e = not-false _ (e .if1 .left)
 
 byte-at-requires : tie.Need-byte-at-requires
 byte-at-requires c κs = search needs
@@ -34,8 +58,9 @@ cast-read-names c = search needs
 
 read-names-requires : tie.Need-read-names-requires
 read-names-requires c κs =
-    let s = c .before .before .before .before .before .before in
-    let small = or-zero-small (not (eqb (c .before .before .byte-at .result) 58)) (s .args .used) in
+    let y = c .before .before in
+    let s = start-of y in
+    let small = or-zero-small (not (eqb (y .byte-at .result) 58)) (s .args .used) in
     let e = c .before .or-zero .ensures in
     let p = s .pre in
     (p .0, omega arith, p .2)
@@ -45,40 +70,44 @@ same-length c = search needs
 
 returns : tie.Need-returns
 returns c =
-    let s = c .before .before .before .before .before .before .before .before .before .before .before in
-    let y = c .before .before .before .before .before .before .before .byte-at in
-    let m = c .before .before .before .before .read-names .ensures in
-    λ names h. look-bad (s .args .text .now) (eqb (y .result) 42) (eqb (y .result) 58) (led (s .args .text .now) (y .result) (y .ensures) (eqb (y .result) 42) (eqb (y .result) 58) refl refl)
-    (sym (m .good) ∙ not-true _ (c .if1 .taken))
+    let p = c .before .before .before .before in
+    let u = entry p .args .text .now in
+    let y = first-of p .byte-at in
+    λ names h. look-bad u (eqb (y .result) 42) (eqb (y .result) 58) (led u (y .result) (y .ensures) (eqb (y .result) 42) (eqb (y .result) 58) refl refl)
+    (sym (p .read-names .ensures .good) ∙ not-true _ (c .if1 .taken))
 
 or-zero-requires-2 : tie.Need-or-zero-requires-2
 or-zero-requires-2 c κs = search needs
 
 find-requires : tie.Need-find-requires
 find-requires c κs =
-    let s = c .before .before .before .before .before .before .before .before .before .before .before .before .before in
-    let y = c .before .before .before .before .before .before .before .before .before .byte-at in
-    let r = c .before .before .before .before .before .before .read-names in
-    let m = entered (c .before .before .before .before .before .before) in
-    let good = not-false _ (c .before .before .if1 .left) in
-    let g = m .found good in
-    let few = g .few in
-    let k = kept (c .before .before .before .before .before .before) in
-    (s .pre .0, rw (c .before .or-zero2 .ensures) (first-fits (s .args .text .now) (s .args .path .now) (s .args .used) (s .pre .1) (s .pre .2) (r .last .1 .1 .1 .1 .0) k (r .result) (y .result) (y .ensures) m good), omega arith)
+    let e = c .before .before in
+    let p = read-of e in
+    let s = entry p in
+    let y = first-of p .byte-at in
+    let m = entered p in
+    let few = m .found (is-good e) .few in
+    let k = kept p in
+    let fits = first-fits (s .args .text .now) (s .args .path .now) (s .args .used) (s .pre .1) (s .pre .2) (keys p) k (p .read-names .result) (y .result) (y .ensures) m (is-good e) in
+    (s .pre .0, rw (c .before .or-zero2 .ensures) fits, omega arith)
 
 sub-t18 : tie.Need-sub-t18
-sub-t18 c = let g = c .before .before .before .before .before .before .before .before .read-names .ensures .found (not-false _ (c .before .before .before .before .if1 .left)) in let some = g .some in omega arith
+sub-t18 c =
+    let e = c .before .before .before .before in
+    let some = read-of e .read-names .ensures .found (is-good e) .some in
+    omega arith
 
 same-length-2 : tie.Need-same-length-2
 same-length-2 c = search needs
 
 returns-2 : tie.Need-returns-2
 returns-2 c =
-    let s = c .before .before .before .before .before .before .before .before .before .before .before .before .before .before .before in
-    let y = c .before .before .before .before .before .before .before .before .before .before .before .byte-at in
-    let r = c .before .before .before .before .before .before .before .before .read-names in
-    λ names h. look-found (s .args .text .now) names (s .args .path .now) (s .args .used) h (s .pre .2) (r .last .1 .1 .1 .1 .0) (kept (c .before .before .before .before .before .before .before .before)) (r .result) (c .before .find .result)
-    (y .result) (y .ensures) (entered (c .before .before .before .before .before .before .before .before)) (not-false _ (c .before .before .before .before .if1 .left)) (rw (c .before .before .before .or-zero2 .ensures) at (c .before .find .ensures))
+    let e = c .before .before .before .before in
+    let p = read-of e in
+    let s = entry p in
+    let y = first-of p .byte-at in
+    λ names h. look-found (s .args .text .now) names (s .args .path .now) (s .args .used) h (s .pre .2) (keys p) (kept p) (p .read-names .result) (c .before .find .result)
+    (y .result) (y .ensures) (entered p) (is-good e) (rw (c .before .before .before .or-zero2 .ensures) at (c .before .find .ensures))
 
 pub look-up-spec : {M : Type 1} → statement M
 look-up-spec =

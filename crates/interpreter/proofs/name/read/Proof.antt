@@ -35,10 +35,12 @@ with-code-requires c κs = rw (c .code .ensures) (code-small _)
 
 returns-2 : tie.Need-returns-2
 returns-2 c =
-    let a = c .before .before .before .before .before .before .before .before .args in
-    let l = sym (c .before .before .before .before .is-letter .ensures) ∙ not-false _ (c .before .before .before .if1 .left) in
+    let r = c .before .before in
+    let e = r .before in
+    let a = e .before .before .before .before .before .args in
+    let l = sym (e .before .is-letter .ensures) ∙ not-false _ (e .if1 .left) in
     rw (c .with-code .ensures, c .before .code .ensures)
-    (whole-name (a .text .now) (a .at) _ (c .before .before .before .before .before .byte-at .ensures) l (c .before .before .read-rest .result) (c .before .before .read-rest .ensures))
+    (whole-name (a .text .now) (a .at) _ (e .before .before .byte-at .ensures) l (r .read-rest .result) (r .read-rest .ensures))
 
 pub read-spec : {M : Type 1} → statement M
 read-spec =

@@ -1,9 +1,22 @@
+-- A chunk on a state: refused with nothing changed where the state couldn't be the box's; otherwise its parts are lent to a flow, the lines
+-- are served, and the flow is a state again (server/Chunks).
 use native.Mathlib.Omega.{arith}
 use mathlib.Core.Path.{refl}
 use Rattle.interpreter.proofs.state.Records.{flow-fits}
 use Rattle.interpreter.proofs.server.Chunks.{refused-chunk, served-chunk}
 use Rattle.interpreter.proofs.server.serve.Statement.{statement}
 use Rattle.interpreter.proofs.server.serve.Tie as tie
+
+-- where the state could be the box's
+abbrev entry : tie.Else1 → tie.Start
+entry e = e .before .before .before .before
+
+-- once its lines and answer are lent to a flow, and once the chunk is served
+abbrev admitted : tie.After-flow-of → tie.Else1
+admitted f = f .before .before .before .before .before
+
+abbrev flow-at : tie.After-lines → tie.After-flow-of
+flow-at l = l .before .before .before .before
 
 possible-requires : tie.Need-possible-requires
 possible-requires c κs = tt
@@ -23,7 +36,10 @@ flow-of-requires : tie.Need-flow-of-requires
 flow-of-requires c κs = tt
 
 lines-requires : tie.Need-lines-requires
-lines-requires c κs = (c .before .before .before .before .before .commands .ensures, rw (c .before .before .before .flow-of .ensures) (flow-fits _ _ (c .before .before .before .before .before .before .before .before .before .possible .ensures) (c .before .before .before .before .before .before .before .before .if1 .left)), rw (c .before .before .before .flow-of .ensures) refl)
+lines-requires c κs =
+    let f = c .before .before .before in
+    let e = admitted f in
+    (f .before .before .commands .ensures, rw (f .flow-of .ensures) (flow-fits _ _ (e .before .possible .ensures) (e .if1 .left)), rw (f .flow-of .ensures) refl)
 
 state-of-requires : tie.Need-state-of-requires
 state-of-requires c κs = tt
@@ -33,10 +49,12 @@ same-length c = omega arith
 
 returns-2 : tie.Need-returns-2
 returns-2 c =
-    let a = c .before .before .before .before .before .before .before .before .before .before .before .before .before .before .before .before .args in
-    let served = c .before .before .before .lines in
+    let l = c .before .before .before in
+    let f = flow-at l in
+    let e = admitted f in
+    let a = entry e .args in
     rw (c .state-of .ensures)
-    (served-chunk (a .state) _ (c .before .before .before .before .before .before .before .before .before .before .before .before .before .possible .ensures) (a .input .now) (a .output .now) (c .before .before .before .before .before .before .before .before .before .before .before .before .if1 .left) (served .result) _ _ _ (rw (c .before .before .before .before .before .before .before .flow-of .ensures) at (served .ensures)))
+    (served-chunk (a .state) _ (e .before .possible .ensures) (a .input .now) (a .output .now) (e .if1 .left) (l .lines .result) _ _ _ (rw (f .flow-of .ensures) at (l .lines .ensures)))
 
 pub serve-spec : {M : Type 1} → statement M
 serve-spec =

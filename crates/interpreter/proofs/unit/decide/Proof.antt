@@ -1,3 +1,5 @@
+-- Checks 2 to 7 of a unit whose header is read, in the order of 01: no empty parameter, a row, its number of parameters, and then what the
+-- row's own checks say of them (`passes`). `says` is what is left of the chain once the role is known.
 use mathlib.Core.Path.{_≡_, refl, sym, _∙_, subst}
 use Prim.Native.Nat.{ℕ, _≤_}
 use native.Mathlib.Omega.{arith}
@@ -18,11 +20,14 @@ use Rattle.interpreter.proofs.unit.decide.Statement.{statement}
 use Rattle.interpreter.proofs.unit.decide.Tie as tie
 
 -- once the role is known: the entry, how many parameters there are, and the fewest and the most that there may be
+abbrev count-of : tie.After-role-of → tie.After-count
+count-of p = p .before .before .before .before
+
 abbrev entry : tie.After-role-of → tie.Start
-entry p = p .before .before .before .before .before .before .before
+entry p = count-of p .before .before .before
 
 abbrev parts-of : tie.After-role-of → ℕ
-parts-of p = p .before .before .before .before .count .result .parts
+parts-of p = count-of p .count .result .parts
 
 abbrev most-of : tie.After-role-of → ℕ
 most-of p = greatest (p .role-of .result) (entry p .args .asked)
@@ -37,7 +42,7 @@ says : (p : tie.After-role-of)
     ≡ checked (a .settings) (p .role-of .result) (a .asked) (parts-of p) (parameters (a .text .now))
 says p =
     let a = entry p .args in
-    let n = p .before .before .before .before .count in
+    let n = count-of p .count in
     let pre = entry p .pre in
     let full = not-false _ (p .before .before .if1 .left) in
     let r = p .role-of in
@@ -47,9 +52,13 @@ says p =
 most-let : (c : tie.Else3) → let p = c .before .before .before in parts-of p ≤ most-of p
 most-let c = let m = c .before .before .most .ensures in omega arith
 
-least-let : (c : tie.Else4) → let p = c .before .before .before .before .before in fewest-of p ≤ parts-of p
+-- once both tests of it are passed
+abbrev role-at : tie.Else4 → tie.After-role-of
+role-at e = e .before .before .before .before .before
+
+least-let : (c : tie.Else4) → let p = role-at c in fewest-of p ≤ parts-of p
 least-let c =
-    let p = c .before .before .before .before .before in
+    let p = role-at c in
     enough (p .role-of .result) (parts-of p) (entry p .args .asked) (rw (c .before .before .before .before .most .ensures) at (c .if4 .left))
 
 count-requires : tie.Need-count-requires
@@ -63,8 +72,9 @@ returns c =
 
 returns-2 : tie.Need-returns-2
 returns-2 c =
-    let a = c .before .before .before .before .before .before .args in
-    let n = c .before .before .before .count in
+    let k = c .before .before .before in
+    let a = k .before .before .before .args in
+    let n = k .count in
     let full = not-false _ (c .before .if1 .left) in
     sym (not-found (a .settings) (a .row) (a .asked) (a .text .now) (n .result) (n .ensures) full (omega arith))
 
@@ -90,15 +100,15 @@ returns-4 c =
     sym (says p ∙ rw (le-leb (parts-of p) (most-of p) (most-let (c .before .before)), lt-leb (fewest-of p) (parts-of p) few))
 
 -- what is left is what the row's own checks say
-passes : (c : tie.Else4) (r : Role) → let p = c .before .before .before .before .before in
+passes : (c : tie.Else4) (r : Role) → let p = role-at c in
     let a = entry p .args in
     p .role-of .result ≡ r → (d : Decision) → meantDeed d ≡ deedOf (a .settings) r (a .asked) (partsOf (parts-of p) (a .text .now))
     → meantDeed d ≡ decided (a .settings) (a .row) (a .asked) (a .text .now)
 unfolding check _>>_
 passes c r q d is =
-    let p = c .before .before .before .before .before in
+    let p = role-at c in
     let a = entry p .args in
-    let n = p .before .before .before .before .count in
+    let n = count-of p .count in
     let m = most-let (c .before .before) in
     let one = parts-are (a .text .now) (entry p .pre .2) (n .result) (n .ensures) (omega (arith, greatest-one (p .role-of .result) (a .asked))) in
     let said = subst (λ (r : Role). meantDeed d ≡ deedOf (a .settings) r (a .asked) (partsOf (parts-of p) (a .text .now))) (sym q) is in
@@ -110,7 +120,7 @@ enum-known-role c = c .match .keys1
 decide-setting-requires : tie.Need-decide-setting-requires
 decide-setting-requires c κs =
     let e = c .before .before .before in
-    let p = e .before .before .before .before .before in
+    let p = role-at e in
     let a = entry p .args in
     let pre = entry p .pre in
     let role = c .before .role .given in
@@ -126,12 +136,12 @@ enum-known-role-2 : tie.Need-enum-known-role-2
 enum-known-role-2 c = c .match .keys2
 
 decide-register-requires : tie.Need-decide-register-requires
-decide-register-requires c κs = entry (c .before .before .before .before .before .before .before .before) .pre .0
+decide-register-requires c κs = entry (role-at (c .before .before .before)) .pre .0
 
 returns-6 : tie.Need-returns-6
 returns-6 c =
     let e = c .before .before .before .before in
-    let p = e .before .before .before .before .before in
+    let p = role-at e in
     let a = entry p .args in
     let role = c .before .before .role2 .given in
     let few = subst (λ (r : Role). least r (a .asked) ≤ parts-of p) (role .1) (least-let e) in

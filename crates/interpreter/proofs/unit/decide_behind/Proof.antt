@@ -1,3 +1,5 @@
+-- What comes after the header, trimmed, is the parameters' text (`handed`): white space is passed over at its start and dropped at its
+-- end, and the rest is handed on.
 use mathlib.Core.Path.{_≡_, ap, _∙_}
 use Prim.Native.Nat.{_-_, zero-le}
 use native.Mathlib.Nat.{le-refl}
@@ -14,7 +16,7 @@ use Rattle.interpreter.proofs.unit.decide_behind.Tie as tie
 abbrev entry : tie.After-trimmed-end → tie.Start
 entry c = c .before .before .before .before .before
 
--- what stands behind the header
+-- what comes after the header
 abbrev behind-of : tie.After-trimmed-end → Text
 behind-of c = drop (entry c .args .at) (entry c .args .unit .now)
 
@@ -59,7 +61,7 @@ part-decide-text-end c = omega arith
 
 decide-text-requires : tie.Need-decide-text-requires
 decide-text-requires c κs =
-    let p = c .before .before .before .before .before .before .pre in
+    let p = entry (c .before) .pre in
     (p .0, p .1, rw (handed (c .before)) (trim-twice (behind-of (c .before))))
 
 returns : tie.Need-returns

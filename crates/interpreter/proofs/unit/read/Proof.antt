@@ -1,3 +1,5 @@
+-- A unit, in the order in which the code reads it: where the header starts (`ran`), what the search finds of it (`row-found`, for any path
+-- that the numbers hold), and the checks of what comes after it. That this is the order of 01 is in unit/Whole.
 use mathlib.Core.List.{List}
 use Rattle.registers.specs.Text.{Text}
 use Rattle.interpreter.specs.HeaderParts.{Holds}
@@ -14,9 +16,13 @@ entry p = p .before .before .before
 ran : (p : tie.After-white-end) → Runs (entry p .args .unit .now) (p .white-end .result)
 ran p = runs (entry p .args .unit .now) (p .white-end .result) (p .white-end .ensures)
 
+-- once it is looked up
+abbrev white-of : tie.After-look-up → tie.After-white-end
+white-of k = k .before .before .before
+
 -- once its row is found
 abbrev white-at : tie.After-looked → tie.After-white-end
-white-at p = p .before .before .before .before .before
+white-at p = white-of (p .before .before)
 
 row-found : (p : tie.After-looked)
     → let w = white-at p in
@@ -53,9 +59,10 @@ header-error-requires c κs = search needs
 
 returns : tie.Need-returns
 returns c =
-    let w = c .before .before .before .before .before .before in
+    let p = c .before .before .before in
+    let w = white-of p in
     let a = entry w .args in
-    let k = c .before .before .before .look-up in
+    let k = p .look-up in
     λ names h. bad-header (a .settings) names (a .unit .now) (ran w) (k .result) (k .last .1 .0) (k .ensures names h) (c .before .enum-told .given .1) _ (c .header-error .ensures)
 
 enum-known-looked : tie.Need-enum-known-looked

@@ -1,3 +1,5 @@
+-- Where a text ends without the white space at its end. Invariant: the text up to e, trimmed, is the whole text, trimmed. Measure: e,
+-- which goes down by one at each white byte.
 use mathlib.Core.Path.{_≡_, sym, _∙_}
 use Prim.Native.Nat.{_≤_}
 use native.Mathlib.Omega.{arith}
@@ -30,8 +32,9 @@ is-white-requires c κs = tt
 
 returns : tie.Need-returns Inv-loop μ-loop
 returns c =
-    let l = c .before .before .before .before .before .before .args .text .now in
-    let w = c .before .before .before .before .loop in
+    let p = c .before .before .before .before in
+    let l = p .before .before .args .text .now in
+    let w = p .loop in
     let d = sym (c .before .is-white .ensures) ∙ not-true _ (c .if1 .taken) in
     (sym (end-dark l (w .e) (omega arith) (omega arith) d) ∙ w .inv .1, search needs)
 
@@ -43,8 +46,9 @@ loop-less c = omega arith
 
 loop-again : tie.Need-loop-again Inv-loop μ-loop
 loop-again c =
-    let l = c .before .before .before .before .before .before .args .text .now in
-    let w = c .before .before .before .before .loop in
+    let p = c .before .before .before .before in
+    let l = p .before .before .args .text .now in
+    let w = p .loop in
     let d = sym (c .before .is-white .ensures) ∙ not-false _ (c .if1 .left) in
     (search needs, sym (end-white l (w .e) (omega arith) (omega arith) d) ∙ w .inv .1)
 

@@ -1,4 +1,5 @@
--- Which bytes a header has: letters, digits, underscores, colons and a star; so it is in one piece, and parts no units.
+-- Which bytes a header has before its `?`: letters, digits, underscores, colons and a star, since it is names cut at colons, after what
+-- leads it. None of them is white space or parts units (`solid`), by one computed test over the bytes below 128.
 use mathlib.Core.Path.{_≡_, refl, sym, _∙_, ap}
 use mathlib.Core.Bool.{Bool, true, false, not, _&&_, _||_, false≢true}
 use mathlib.Core.List.{List, [], _∷_}
@@ -10,13 +11,13 @@ use borrow.Author.Tests.{eqb-true, ne-eqb, le-leb, lt-leb, ltb-true, ltb-false}
 use Rattle.registers.specs.Text.{Text, if_then_else_, white, printable, digit, small, letter, wordByte, every, first, rest, below}
 use Rattle.registers.specs.Check.{Checked, refused, passed, check, _>>_}
 use Rattle.registers.proofs.Tests.{and-both, and-true, below-at}
-use Rattle.interpreter.specs.Cuts.{front, joinFirst, cutAt}
-use Rattle.interpreter.specs.Header.{Place, common, root, here, Header, asks, name, placed, header}
+use Rattle.interpreter.specs.Cuts.{joinFirst, cutAt}
+use Rattle.interpreter.specs.HeaderParts.{bodyOf}
+use Rattle.interpreter.specs.Header.{Place, Header, asks, name, placed, header}
 use Rattle.interpreter.proofs.Choices.{if-elim}
-
-pub every-map : (p q : ℕ → Bool) → ((b : ℕ) → p b ≡ true → q b ≡ true) → (t : Text) → every p t ≡ true → every q t ≡ true
-every-map p q f [] h = refl
-every-map p q f (b ∷ bs) h = let e = and-both (p b) (every p bs) h in and-true (f b (e .0)) (every-map p q f bs (e .1))
+use Rattle.interpreter.proofs.Checks.{apart}
+use Rattle.interpreter.proofs.Lists.{every-map}
+use Rattle.interpreter.proofs.header.Whole.{byFirst, header-body}
 
 -- ---- bytes of names
 
@@ -83,9 +84,6 @@ all-words (n ∷ ns) h =
 
 -- ---- the header
 
-pub apart : {A : Type 0} (n : ℕ) (a : A) → refused n ≡ passed a → ⊥
-apart n a e = let z : _≡_ {A = ℕ} 0 1 = cc in omega arith
-
 queryOf : Checked Header → Bool
 queryOf (refused n) = false
 queryOf (passed x) = x .query
@@ -98,50 +96,43 @@ placed-names p names q x e = go (every name names) refl
     go true r = (r, ap queryOf (rw r at e))
     go false r = absurd (apart 102 x (rw r at e))
 
--- a header by its first byte
-abbrev byFirst : Text → Bool → Checked Header
-byFirst body q =
-    if eqb (first body) (code "*") then placed common (rest body ∷ []) q
-    else (if eqb (first body) (code ":") then placed root (cutAt (code ":") (rest body)) q else placed here (cutAt (code ":") body) q)
-
-by-first-asks : (body : Text) (q : Bool) (x : Header) → byFirst body q ≡ passed x → q ≡ x .query
-by-first-asks body q x =
-    if-elim (λ (m : Checked Header). m ≡ passed x → q ≡ x .query) (eqb (first body) (code "*"))
-    (λ _ e. placed-names _ _ q x e .1)
-    (λ _. if-elim (λ (m : Checked Header). m ≡ passed x → q ≡ x .query) (eqb (first body) (code ":"))
-    (λ _ e. placed-names _ _ q x e .1) (λ _ e. placed-names _ _ q x e .1))
-
-colon-header : headerByte (code ":") ≡ true
+colon-header : headerByte 58 ≡ true
 unfolding headerByte wordByte letter small digit
 colon-header = refl
 
-star-header : headerByte (code "*") ≡ true
+star-header : headerByte 42 ≡ true
 unfolding headerByte wordByte letter small digit
 star-header = refl
 
-joined-header : (t : Text) → every name (cutAt (code ":") t) ≡ true → every headerByte t ≡ true
-joined-header t h = cut-bytes wordByte headerByte (code ":") colon-header word-header t (all-words (cutAt (code ":") t) h)
+one-name : (t : Text) → every name (t ∷ []) ≡ true → every headerByte t ≡ true
+one-name t h = every-map wordByte headerByte word-header t (and-both (every wordByte t) true (all-words (t ∷ []) h) .0)
 
-by-first-bytes : (b : ℕ) (bs : Text) (q : Bool) (x : Header) → byFirst (b ∷ bs) q ≡ passed x → every headerByte (b ∷ bs) ≡ true
-by-first-bytes b bs q x =
-    if-elim (λ (m : Checked Header). m ≡ passed x → every headerByte (b ∷ bs) ≡ true) (eqb b (code "*"))
-    (λ r e. and-true (ap headerByte (eqb-true b (code "*") r) ∙ star-header) (one-name (placed-names _ _ q x e .0)))
-    (λ _. if-elim (λ (m : Checked Header). m ≡ passed x → every headerByte (b ∷ bs) ≡ true) (eqb b (code ":"))
-    (λ r e. and-true (ap headerByte (eqb-true b (code ":") r) ∙ colon-header) (joined-header bs (placed-names _ _ q x e .0)))
-    (λ _ e. joined-header (b ∷ bs) (placed-names _ _ q x e .0)))
-  where
-    one-name : every name (bs ∷ []) ≡ true → every headerByte bs ≡ true
-    one-name h = every-map wordByte headerByte word-header bs (and-both (every wordByte bs) true (all-words (bs ∷ []) h) .0)
+joined-names : (t : Text) → every name (cutAt 58 t) ≡ true → every headerByte t ≡ true
+joined-names t h = cut-bytes wordByte headerByte 58 colon-header word-header t (all-words (cutAt 58 t) h)
 
-header-bytes : (b : ℕ) (bs : Text) (x : Header) → header (b ∷ bs) ≡ passed x → x .query ≡ false → every headerByte (b ∷ bs) ≡ true
-unfolding header if_then_else_
-header-bytes b bs x e set = go (asks (b ∷ bs)) e
-  where
-    go : (q : Bool) → byFirst (if q then front (b ∷ bs) else b ∷ bs) q ≡ passed x → every headerByte (b ∷ bs) ≡ true
-    go true k = absurd (false≢true (sym set ∙ sym (by-first-asks (front (b ∷ bs)) true x k)))
-    go false k = by-first-bytes b bs false x k
+led-by : (x : ℕ) → headerByte x ≡ true → (t : Text) → eqb (first t) x ≡ true → every headerByte (rest t) ≡ true → every headerByte t ≡ true
+led-by x a [] e k = refl
+led-by x a (b ∷ t) e k = and-true (ap headerByte (eqb-true b x e) ∙ a) k
 
--- every byte of a header that is no query is solid
+first-bytes : (t : Text) (q : Bool) (x : Header) → byFirst t q ≡ passed x → (every headerByte t ≡ true) × (q ≡ x .query)
+unfolding byFirst
+first-bytes t q x =
+    let P : Checked Header → Type 0 = λ m. m ≡ passed x → (every headerByte t ≡ true) × (q ≡ x .query) in
+    if-elim P (eqb (first t) 42)
+    (λ r e. let n = placed-names _ _ q x e in (led-by 42 star-header t r (one-name (rest t) (n .0)), n .1))
+    (λ _. if-elim P (eqb (first t) 58)
+    (λ r e. let n = placed-names _ _ q x e in (led-by 58 colon-header t r (joined-names (rest t) (n .0)), n .1))
+    (λ _ e. let n = placed-names _ _ q x e in (joined-names t (n .0), n .1)))
+
+-- without the `?` every byte is solid
+pub body-solid : (t : Text) (x : Header) → header t ≡ passed x → (every solid (bodyOf t) ≡ true) × (asks t ≡ x .query)
+body-solid t x e =
+    let r = first-bytes (bodyOf t) (asks t) x (sym (header-body t) ∙ e) in
+    (every-map headerByte solid header-solid (bodyOf t) (r .0), r .1)
+
+-- and so of a header that is no query
 pub header-is-solid : (h : Text) (x : Header) → header h ≡ passed x → x .query ≡ false → every solid h ≡ true
-header-is-solid [] x e s = refl
-header-is-solid (b ∷ bs) x e s = every-map headerByte solid header-solid (b ∷ bs) (header-bytes b bs x e s)
+unfolding bodyOf if_then_else_
+header-is-solid h x e set =
+    let r = body-solid h x e in
+    rw (r .1 ∙ set) at (r .0)
