@@ -1,14 +1,14 @@
 -- Laws of lists by the place: what a test of all members, or an equation of two lists, says of one member, and a table of bytes
 -- whose rows stand one after the other.
 use mathlib.Core.Path.{_≡_, refl, sym, _∙_, ap, ap₂}
-use mathlib.Core.Bool.{Bool, true, false≢true}
+use mathlib.Core.Bool.{Bool, true, false, false≢true}
 use mathlib.Core.List.{List, [], _∷_, _++_, map}
 use Prim.Native.Nat.{ℕ, zero, suc, _+_, _-_, _*_, _≤_, _<_}
 use native.Mathlib.Omega.{arith}
 use lib.Dec.{eqb}
 use lib.ListN.{length, getD, take, drop, length-append, length-drop}
 use lib.Seq.{drop-nil, drop-cons, drop-append-add, getD-drop, take-all}
-use borrow.Author.Tests.{eqb-true, eq-eqb}
+use borrow.Author.Tests.{eqb-true, eqb-false, eq-eqb}
 use Rattle.registers.specs.Text.{Text, every, empty, rest, same}
 use Rattle.registers.proofs.Tests.{and-both, and-true}
 
@@ -71,6 +71,20 @@ getD-map f (x ∷ l) (suc k) d e h = getD-map f l k d e (omega arith)
 pub map-at {ℓ κ} : {A : Type ℓ} {B : Type κ} (f g : A → B) (l : List A) → map f l ≡ map g l → (k : ℕ) (d : A) → k < length l
     → f (getD l k d) ≡ g (getD l k d)
 map-at {B = B} f g l e k d h = sym (getD-map f l k d (f d) h) ∙ ap (λ (m : List B). getD m k (f d)) e ∙ getD-map g l k d (f d) h
+
+-- ---- two functions agree on the numbers below n, where their lists do
+unfoldable pub listed : {A : Type 0} → ℕ → (ℕ → A) → List A
+listed zero f = []
+listed (suc n) f = f n ∷ listed n f
+
+pub agree : {A : Type 0} (n : ℕ) (f g : ℕ → A) → listed n f ≡ listed n g → (i : ℕ) → i < n → f i ≡ g i
+unfolding listed
+agree zero f g e i h = absurd (omega arith)
+agree (suc n) f g e i h = go (eqb i n) refl (agree n f g (cc) i)
+  where
+    go : (t : Bool) → eqb i n ≡ t → (i < n → f i ≡ g i) → f i ≡ g i
+    go true q ih = rw (eqb-true i n q) cc
+    go false q ih = ih (omega (arith, eqb-false i n q))
 
 -- ---- a table of rows, all of one width
 

@@ -22,7 +22,8 @@ use Rattle.registers.proofs.status.Possible.{raised-good, completed-good, event
 use Rattle.interpreter.specs.Box.{Core, Box, box, withSettings, withRegisters, withLine, withAnswer, answerIs, raise, powerUp, mostLine, mostAnswer}
 use Rattle.interpreter.specs.Unit.{raisable, Read, readUnit}
 use Rattle.interpreter.specs.UnitParts.{Allowed, AllowedChange}
-use Rattle.interpreter.specs.Deeds.{conflictingChange, conflicting, changed, setCleared, allCleared, afterQuery, afterInquiry, joined, fitsAnswer, reply, perform}
+use Rattle.interpreter.specs.Perform.{conflictingChange, conflicting, changed, setCleared, allCleared, afterQuery, afterInquiry, perform}
+use Rattle.interpreter.specs.Reply.{joined, fitsAnswer, reply}
 use Rattle.interpreter.specs.Line.{Obeyed, attempt, refuse, next, runUnits, unitsOf, interrupted, finished, runLine, endLine, held, byte, piece}
 use Rattle.interpreter.specs.Events.{Event, started, received, take, condition, look, Happened, taken, reported, happens, possibleCore, possible, Own, after}
 use Rattle.interpreter.specs.declared.deed.Deed.{Deed}

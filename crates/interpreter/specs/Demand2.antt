@@ -14,7 +14,7 @@ use Rattle.interpreter.specs.Header.{Header, header, isCommon, fullNames
 use Rattle.interpreter.specs.Rows.{rows, findRow}
 use Rattle.interpreter.specs.Box.{Box, box, withSettings, withRegisters, withLine}
 use Rattle.interpreter.specs.Unit.{readUnit}
-use Rattle.interpreter.specs.Deeds.{perform}
+use Rattle.interpreter.specs.Perform.{perform}
 use Rattle.interpreter.specs.Line.{unitsOf, piece, newlines}
 use Rattle.interpreter.specs.Events.{Event, take, Result, happens, Own, after}
 use Rattle.interpreter.specs.Histories.{newline, Recut, replies, counted}

@@ -12,7 +12,8 @@ pub mod ParameterParts
 pub mod Unit
 pub mod UnitParts
 pub mod Box
-pub mod Deeds
+pub mod Reply
+pub mod Perform
 pub mod Line
 pub mod Events
 pub mod PresentParts

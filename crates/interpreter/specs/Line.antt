@@ -10,7 +10,7 @@ use Rattle.registers.specs.Check.{Checked, refused, passed, _>>=_, _>>_}
 use Rattle.interpreter.specs.Cuts.{cutAt}
 use Rattle.interpreter.specs.Box.{Core, Box, box, raise, withLine, answerIs, mostLine}
 use Rattle.interpreter.specs.Unit.{readUnit}
-use Rattle.interpreter.specs.Deeds.{permitted, perform}
+use Rattle.interpreter.specs.Perform.{permitted, perform}
 
 -- ---- one unit: checks 1 to 7, the lock and check 8, and what it does with check 9
 

@@ -1,4 +1,4 @@
--- What the functions say that perform a deed. Nothing of 01 is defined here: see Deeds.antt.
+-- What the functions say that perform a deed. Nothing of 01 is defined here: see Perform.antt.
 use mathlib.Core.Path.{_≡_}
 use Prim.Native.Nat.{_≤_}
 use Rattle.registers.specs.Settings.{withValue, atReset}
@@ -6,7 +6,7 @@ use Rattle.registers.specs.Status.{Registers, Trouble, most, registersOf, troub
 use Rattle.registers.specs.declared.settings.Settings.{Settings}
 use Rattle.registers.specs.declared.status.Status.{Status}
 use Rattle.interpreter.specs.UnitParts.{Allowed}
-use Rattle.interpreter.specs.Deeds.{afterInquiry}
+use Rattle.interpreter.specs.Perform.{afterInquiry}
 use Rattle.interpreter.specs.declared.deed.Deed.{Deed}
 use Rattle.interpreter.specs.declared.deed.Deed.the-variants.{Change, Complete, Clear, Query, Inquire}
 use Rattle.interpreter.specs.declared.deed.Change as changes

@@ -1,4 +1,4 @@
--- What the functions say that answer a deed. Nothing of 01 is defined here: see Deeds.antt.
+-- What the functions say that answer a deed. Nothing of 01 is defined here: see Reply.antt.
 use mathlib.Core.Path.{_≡_}
 use mathlib.Core.Bool.{Bool, true, false}
 use mathlib.Core.List.{[]}
@@ -17,7 +17,8 @@ use Rattle.interpreter.specs.Parameter.{wordsOf}
 use Rattle.interpreter.specs.WordsParts.{wordAt}
 use Rattle.interpreter.specs.UnitParts.{Allowed}
 use Rattle.interpreter.specs.Box.{mostAnswer}
-use Rattle.interpreter.specs.Deeds.{replyTo, joined, perform}
+use Rattle.interpreter.specs.Reply.{replyTo, joined}
+use Rattle.interpreter.specs.Perform.{perform}
 use Rattle.interpreter.specs.Line.{refuse}
 use Rattle.interpreter.specs.PresentParts.{coreIn, boxIn, boxAt}
 use Rattle.interpreter.specs.PerformParts.{After}

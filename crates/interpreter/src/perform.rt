@@ -11,7 +11,7 @@ ghost use mathlib.Core.Bool.{false};
 ghost use Prim.Native.Nat.{_≤_};
 ghost use Rattle.registers.specs.Check.{check};
 ghost use Rattle.registers.specs.Status.{most};
-ghost use Rattle.interpreter.specs.Deeds.{conflicting, permitted};
+ghost use Rattle.interpreter.specs.Perform.{conflicting, permitted};
 ghost use Rattle.interpreter.specs.PresentParts.{coreIn};
 ghost use Rattle.interpreter.specs.PerformParts.{settingsLeft, StatusLeft, After};
 ghost use Rattle.interpreter.specs.UnitParts.{Allowed};

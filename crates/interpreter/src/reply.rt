@@ -17,7 +17,7 @@ ghost use lib.ListN.{length};
 ghost use Rattle.registers.specs.Answer.{Laid};
 ghost use Rattle.registers.specs.Settings.{count, kindOf, answerOf};
 ghost use Rattle.interpreter.specs.Box.{mostAnswer};
-ghost use Rattle.interpreter.specs.Deeds.{replyTo};
+ghost use Rattle.interpreter.specs.Reply.{replyTo};
 ghost use mathlib.Core.Bool.{not};
 ghost use lib.Dec.{eqb};
 ghost use Rattle.interpreter.specs.PresentParts.{coreIn};

@@ -2,7 +2,9 @@
 use crate::table::FIRST_KEY;
 use crate::table::FIRST_ROW;
 use crate::table::FIRST_START;
+use crate::table::KEYS_SIZE;
 use crate::table::ROWS;
+use crate::table::ROW_SIZE;
 ghost use mathlib.Core.Path.{_≡_};
 ghost use Prim.Native.Nat.{_+_, _≤_, _<_};
 ghost use lib.ListN.{length, take, drop};
@@ -18,7 +20,7 @@ fn row_cell(table: &[u8], row: usize, i: usize) -> u8
     requires { ⌜ (now table ≡ commandTable) × (row < rowCount) × (i < 8) ⌝ }
     ensures { λ r. ⌜ r ≡ rowCell row i ⌝ }
 {
-    table[FIRST_ROW + row * 8 + i]
+    table[FIRST_ROW + row * ROW_SIZE + i]
 }
 
 // Two bytes as a number, low byte first.
@@ -42,7 +44,7 @@ fn key_cell(table: &[u8], word: usize, i: usize) -> u64
     requires { ⌜ (now table ≡ commandTable) × (word < nodeCount) × (i < 2) ⌝ }
     ensures { λ r. ⌜ r ≡ keyCell word i ⌝ }
 {
-    let at = FIRST_KEY + word * 16 + i * 8;
+    let at = FIRST_KEY + word * KEYS_SIZE + i * 8;
     quad(table, at) + quad(table, at + 4) * 4294967296
 }
 

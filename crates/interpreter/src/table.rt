@@ -10,13 +10,20 @@ pub(crate) const ROWS: usize = 44;
 
 const NODES: usize = 45;
 
+// How many bytes a word of a parameter has in the table, a row, and the two numbers of a node's word.
+pub(crate) const WORD_SIZE: usize = 16;
+
+pub(crate) const ROW_SIZE: usize = 8;
+
+pub(crate) const KEYS_SIZE: usize = 16;
+
 // Where the rows begin, behind the parameters' words; then the numbers of the nodes' words, the codes of all bytes, and the
 // rows where a search starts.
-pub(crate) const FIRST_ROW: usize = WORDS * 16;
+pub(crate) const FIRST_ROW: usize = WORDS * WORD_SIZE;
 
-pub(crate) const FIRST_KEY: usize = FIRST_ROW + ROWS * 8;
+pub(crate) const FIRST_KEY: usize = FIRST_ROW + ROWS * ROW_SIZE;
 
-pub(crate) const FIRST_CODE: usize = FIRST_KEY + NODES * 16;
+pub(crate) const FIRST_CODE: usize = FIRST_KEY + NODES * KEYS_SIZE;
 
 pub(crate) const FIRST_START: usize = FIRST_CODE + 256;
 

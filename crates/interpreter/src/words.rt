@@ -1,4 +1,5 @@
 // The words of the parameters: how a text spells one, which of them a setting takes, and how one is answered.
+use crate::table::WORD_SIZE;
 use registers::answer;
 use registers::settings::Settings;
 use registers::text;
@@ -31,7 +32,7 @@ fn word_cell(table: &[u8], word: usize, i: usize) -> u8
     requires { ⌜ (now table ≡ commandTable) × (word < wordCount) × (i < 16) ⌝ }
     ensures { λ r. ⌜ r ≡ wordCell word i ⌝ }
 {
-    table[word * 16 + i]
+    table[word * WORD_SIZE + i]
 }
 
 // Whether a word's short or its long form has so many letters.

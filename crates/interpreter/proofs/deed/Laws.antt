@@ -1,11 +1,8 @@
 -- Laws of the rows' roles, by computing them for all rows.
 use mathlib.Core.Path.{_≡_, refl}
-use mathlib.Core.Bool.{Bool, true, false}
-use mathlib.Core.List.{List, [], _∷_}
-use Prim.Native.Nat.{ℕ, zero, suc, _+_, _-_, _/_, _%_, _<_}
+use Prim.Native.Nat.{ℕ, _+_, _-_, _/_, _%_, _<_}
 use native.Mathlib.Omega.{arith}
 use lib.Dec.{leb, eqb}
-use borrow.Author.Tests.{eqb-true, eqb-false}
 use Rattle.registers.specs.Text.{if_then_else_}
 use Rattle.registers.specs.Settings.{count, table}
 use Rattle.registers.specs.declared.status.Register.the-variants.{Ese, Sre}
@@ -17,20 +14,7 @@ use Rattle.interpreter.specs.declared.deed.Query.the-variants.{Identity,
 use Rattle.interpreter.specs.declared.deed.Inquiry.the-variants.{StandardEvents, StatusByte, NextError}
 use Rattle.interpreter.specs.declared.deed.Role.{Role}
 use Rattle.interpreter.specs.declared.deed.Role.the-variants.{Setting, Register, Order, Question}
-
--- two functions agree on the numbers below n, where their lists do
-unfoldable pub listed : {A : Type 0} → ℕ → (ℕ → A) → List A
-listed zero f = []
-listed (suc n) f = f n ∷ listed n f
-
-pub agree : {A : Type 0} (n : ℕ) (f g : ℕ → A) → listed n f ≡ listed n g → (i : ℕ) → i < n → f i ≡ g i
-unfolding listed
-agree zero f g e i h = absurd (omega arith)
-agree (suc n) f g e i h = go (eqb i n) refl (agree n f g (cc) i)
-  where
-    go : (t : Bool) → eqb i n ≡ t → (i < n → f i ≡ g i) → f i ≡ g i
-    go true q ih = rw (eqb-true i n q) cc
-    go false q ih = ih (omega (arith, eqb-false i n q))
+use Rattle.interpreter.proofs.Lists.{listed, agree}
 
 -- the code's table, by a row's place behind the settings
 

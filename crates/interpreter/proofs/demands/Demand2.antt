@@ -1,6 +1,6 @@
 -- Demand 2, proved; its parts are in Limits, histories, and trip.
 use mathlib.Core.Path.{refl}
-use Rattle.interpreter.specs.Deeds.{changed, perform}
+use Rattle.interpreter.specs.Perform.{changed, perform}
 use Rattle.interpreter.specs.Histories.{noPiece}
 use Rattle.interpreter.specs.Demand2.{ResetsOnly, ClearsOnly, Demand2}
 use Rattle.interpreter.proofs.line.Pieces.{piece-append, newlines-append}

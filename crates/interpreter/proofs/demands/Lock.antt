@@ -26,7 +26,8 @@ use Rattle.registers.proofs.status.Conditions.{conditionIn, stored-kept, event-
 use Rattle.interpreter.specs.Box.{Core, Box, withRegisters, mostLine}
 use Rattle.interpreter.specs.Unit.{Read, readUnit}
 use Rattle.interpreter.specs.UnitParts.{Allowed, AllowedChange}
-use Rattle.interpreter.specs.Deeds.{blockedChange, blocked, changed, afterQuery, reply, perform}
+use Rattle.interpreter.specs.Perform.{blockedChange, blocked, changed, afterQuery, perform}
+use Rattle.interpreter.specs.Reply.{reply}
 use Rattle.interpreter.specs.Line.{Obeyed, attempt, refuse, next, runUnits, unitsOf, interrupted, finished, runLine, endLine, atNewline, held, byte, piece}
 use Rattle.interpreter.specs.Events.{Event, started, received, take, condition, look, Happened, Result, taken, reported, happens, after}
 use Rattle.interpreter.specs.State.{boxOf, possibleState, admitted, Happens}

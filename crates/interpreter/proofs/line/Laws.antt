@@ -10,7 +10,7 @@ use Rattle.registers.specs.Errors.{numberOf}
 use Rattle.registers.specs.declared.error.Error.{Error}
 use Rattle.interpreter.specs.Box.{Box, mostAnswer}
 use Rattle.interpreter.specs.Unit.{Read, readUnit}
-use Rattle.interpreter.specs.Deeds.{permitted, perform}
+use Rattle.interpreter.specs.Perform.{permitted, perform}
 use Rattle.interpreter.specs.Line.{attempt, refuse}
 use Rattle.interpreter.specs.UnitParts.{UnitRead, Allowed}
 use Rattle.interpreter.specs.PresentParts.{coreIn, boxAt}

@@ -28,7 +28,7 @@ use Rattle.interpreter.specs.Parameter.{Word, Figure, least, greatest, a
 use Rattle.interpreter.specs.ParameterParts.{isNumber}
 use Rattle.interpreter.specs.declared.deed.Role.{Role}
 use Rattle.interpreter.specs.declared.deed.Role.the-variants.{Setting, Register, Order, Question}
-use Rattle.interpreter.proofs.deed.Laws.{listed, agree}
+use Rattle.interpreter.proofs.Lists.{listed, agree}
 use Rattle.interpreter.proofs.deed.Role as roles
 
 -- ---- what two functions say of every row, by computing both for all settings

@@ -16,7 +16,7 @@ use Rattle.registers.specs.Settings.{output, conflict}
 use Rattle.registers.specs.Status.{locked}
 use Rattle.registers.specs.declared.rounding.Side.{Side}
 use Rattle.interpreter.specs.Box.{Core}
-use Rattle.interpreter.specs.Deeds.{blocked, conflicting, permitted}
+use Rattle.interpreter.specs.Perform.{blocked, conflicting, permitted}
 use Rattle.interpreter.specs.declared.deed.Deed.{Deed}
 use Rattle.interpreter.specs.declared.deed.Deed.the-variants.{Change, Complete, Clear, Query, Inquire}
 use Rattle.interpreter.specs.declared.deed.Change as changes

@@ -19,7 +19,7 @@ use Rattle.registers.specs.Text.{Text, if_then_else_}
 use Rattle.registers.specs.Answer.{Laid}
 use Rattle.registers.proofs.answer.Laws.{over-start, over-length}
 use Rattle.interpreter.specs.Box.{mostAnswer}
-use Rattle.interpreter.specs.Deeds.{joined}
+use Rattle.interpreter.specs.Reply.{joined}
 use Rattle.interpreter.specs.ReplyParts.{textOf, said, answeredWith, GivenTo}
 use Rattle.interpreter.specs.declared.reply.Reply.{Reply}
 use Rattle.interpreter.specs.declared.reply.Reply.the-variants.{Nothing, Identity, Word, Tenths, Whole, Number, Error}

@@ -14,7 +14,8 @@ use Rattle.registers.specs.Status.{Registers, registersOf, troubleOf}
 use Rattle.registers.specs.declared.error.Error.the-variants.{QueryDeadlocked}
 use Rattle.registers.specs.declared.settings.Settings.{Settings}
 use Rattle.interpreter.specs.Box.{Core, Box, box, withAnswer, mostAnswer}
-use Rattle.interpreter.specs.Deeds.{changed, replyTo, afterQuery, inquiryReply, joined, fitsAnswer, reply, perform}
+use Rattle.interpreter.specs.Perform.{changed, afterQuery, perform}
+use Rattle.interpreter.specs.Reply.{replyTo, inquiryReply, joined, fitsAnswer, reply}
 use Rattle.interpreter.specs.Line.{refuse}
 use Rattle.interpreter.specs.PresentParts.{coreOf, boxIn}
 use Rattle.interpreter.specs.PerformParts.{settingsChanged, settingsLeft, registersChanged, registersAsked, registersLeft, troubleLeft}

@@ -20,7 +20,7 @@ use Rattle.registers.proofs.answer.Laws.{laid-whole, laid-none}
 use Rattle.interpreter.specs.Parameter.{wordsOf, takesNumbers}
 use Rattle.interpreter.specs.WordsParts.{wordCount, wordList, wordAt, placeIn, firstWords, wordCounts, taken, withNumbers, TakenOf}
 use Rattle.interpreter.specs.declared.words.Words.{Words}
-use Rattle.interpreter.proofs.deed.Laws.{listed, agree}
+use Rattle.interpreter.proofs.Lists.{listed, agree}
 
 -- ---- where each setting's words begin, and how many there are
 

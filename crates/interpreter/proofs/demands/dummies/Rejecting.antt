@@ -24,7 +24,8 @@ use Rattle.interpreter.specs.Rows.{settingRows, otherRows, rows, fitsRow
 use Rattle.interpreter.specs.Parameter.{parameters, least, greatest, findWord, parameter, valueGiven, settingDeed, deedOf}
 use Rattle.interpreter.specs.Unit.{readUnit}
 use Rattle.interpreter.specs.Box.{Box, box, powerUp}
-use Rattle.interpreter.specs.Deeds.{permitted, changed, replyTo, joined, fitsAnswer, reply, perform}
+use Rattle.interpreter.specs.Perform.{permitted, changed, perform}
+use Rattle.interpreter.specs.Reply.{replyTo, joined, fitsAnswer, reply}
 use Rattle.interpreter.specs.Line.{attempt, runUnits, interrupted, finished, unitsOf, runLine, endLine, held, byte, piece}
 use Rattle.interpreter.specs.Events.{Event, received, take, Result, Happened, taken, happens, after, results}
 use Rattle.interpreter.specs.State.{boxOf, possibleState}

@@ -7,7 +7,8 @@ use Rattle.registers.specs.Text.{Text, if_then_else_}
 use Rattle.registers.specs.Errors.{known, queueable}
 use Rattle.interpreter.specs.Box.{Core, Box}
 use Rattle.interpreter.specs.Unit.{readUnit}
-use Rattle.interpreter.specs.Deeds.{reply, perform}
+use Rattle.interpreter.specs.Reply.{reply}
+use Rattle.interpreter.specs.Perform.{perform}
 use Rattle.interpreter.specs.Line.{refuse, attempt, runUnits}
 use Rattle.interpreter.specs.Demand1.{UnitRefusals}
 use Rattle.interpreter.specs.declared.deed.Deed.{Deed}

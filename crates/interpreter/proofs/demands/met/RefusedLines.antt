@@ -25,7 +25,8 @@ use Rattle.interpreter.specs.Rows.{settingRows, otherRows, rows, fitsRow
 use Rattle.interpreter.specs.Parameter.{parameters, least, greatest, findWord, parameter, valueGiven, settingDeed, deedOf}
 use Rattle.interpreter.specs.Unit.{readUnit}
 use Rattle.interpreter.specs.Box.{powerUp}
-use Rattle.interpreter.specs.Deeds.{permitted, changed, replyTo, inquiryReply, joined, fitsAnswer, reply, perform}
+use Rattle.interpreter.specs.Perform.{permitted, changed, perform}
+use Rattle.interpreter.specs.Reply.{replyTo, inquiryReply, joined, fitsAnswer, reply}
 use Rattle.interpreter.specs.Line.{attempt, refuse, runUnits, interrupted, finished, unitsOf, runLine, endLine, held, byte, piece}
 use Rattle.interpreter.specs.Events.{Event, received, take, taken, reported, happens, after}
 use Rattle.interpreter.specs.Histories.{moments, Recut, resultsOf}

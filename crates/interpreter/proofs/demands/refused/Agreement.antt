@@ -14,7 +14,8 @@ use Rattle.registers.specs.Status.{Trouble, raised}
 use Rattle.registers.specs.declared.status.RegisterSet.{RegisterSet}
 use Rattle.interpreter.specs.Box.{Core, Box, box, withLine, withAnswer, raise}
 use Rattle.interpreter.specs.Unit.{Read, readUnit}
-use Rattle.interpreter.specs.Deeds.{permitted, replyTo, afterQuery, reply, perform}
+use Rattle.interpreter.specs.Perform.{permitted, afterQuery, perform}
+use Rattle.interpreter.specs.Reply.{replyTo, reply}
 use Rattle.interpreter.specs.Line.{Obeyed, attempt, refuse, next, runUnits, unitsOf, interrupted, finished, runLine, endLine, atNewline, held, byte, piece}
 use Rattle.interpreter.specs.Events.{Event, started, received, take, condition, look, Happened, Result, taken, reported, happens, after}
 use Rattle.interpreter.specs.Histories.{isTake, resultsOf, answers}

@@ -9,7 +9,8 @@ use Rattle.registers.specs.Check.{Checked, refused, passed}
 use Rattle.registers.specs.Errors.{known, queueable}
 use Rattle.interpreter.specs.Box.{Core, Box, powerUp}
 use Rattle.interpreter.specs.Unit.{readUnit}
-use Rattle.interpreter.specs.Deeds.{changed, afterQuery, reply, perform}
+use Rattle.interpreter.specs.Perform.{changed, afterQuery, perform}
+use Rattle.interpreter.specs.Reply.{reply}
 use Rattle.interpreter.specs.Line.{Obeyed, attempt, refuse, next, runUnits, unitsOf, interrupted, finished, runLine, endLine, atNewline}
 use Rattle.interpreter.specs.Events.{after}
 use Rattle.interpreter.specs.Demand3.{Fresh, LinesBegin}

@@ -10,7 +10,8 @@ use Rattle.registers.specs.Check.{Checked, refused, passed, _>>=_, _>>_, check}
 use Rattle.registers.specs.Status.{Trouble, raised}
 use Rattle.interpreter.specs.Box.{Core, Box, box, withLine, withAnswer}
 use Rattle.interpreter.specs.Unit.{Read, readUnit}
-use Rattle.interpreter.specs.Deeds.{permitted, replyTo, afterQuery, reply, perform}
+use Rattle.interpreter.specs.Perform.{permitted, afterQuery, perform}
+use Rattle.interpreter.specs.Reply.{replyTo, reply}
 use Rattle.interpreter.specs.Line.{attempt, unitsOf, interrupted}
 use Rattle.interpreter.specs.Events.{Event, started, received, take, condition, look}
 use Rattle.interpreter.specs.Demand3.{Watch, neither, asked, cleared, thenWatch, watchDeed, watchRead, watchNext, watchUnits, watchLine, watchByte, watchPiece, watchEvent, watch, Agree}

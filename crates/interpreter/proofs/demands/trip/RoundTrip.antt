@@ -20,7 +20,8 @@ use Rattle.registers.proofs.Tests.{and-both}
 use Rattle.interpreter.specs.Cuts.{front}
 use Rattle.interpreter.specs.Box.{Core, Box, box, withSettings, withLine, withAnswer, mostAnswer}
 use Rattle.interpreter.specs.Unit.{readUnit}
-use Rattle.interpreter.specs.Deeds.{blocked, permitted, changed, replyTo, joined, fitsAnswer, reply, perform}
+use Rattle.interpreter.specs.Perform.{blocked, permitted, changed, perform}
+use Rattle.interpreter.specs.Reply.{replyTo, joined, fitsAnswer, reply}
 use Rattle.interpreter.specs.Line.{attempt, runUnits, interrupted, finished, runLine, endLine, atNewline}
 use Rattle.interpreter.specs.Events.{Event, take, happens, Own, after}
 use Rattle.interpreter.specs.Histories.{newline}

@@ -5,7 +5,7 @@ use mir.Facts.{toZ-ofZ}
 use borrow.Author.Needs.{needs}
 use Rattle.registers.specs.Text.{if_then_else_, bytes}
 use Rattle.registers.specs.Answer.{inPlaces, decimal}
-use Rattle.interpreter.specs.Deeds.{replyTo}
+use Rattle.interpreter.specs.Reply.{replyTo}
 use Rattle.interpreter.specs.ReplyParts.{textOf}
 use Rattle.interpreter.proofs.reply.to_query.Statement.{statement}
 use Rattle.interpreter.proofs.reply.to_query.Tie as tie

@@ -1,21 +1,16 @@
 -- The seventeen settings and "Registers and queue": what a unit that passed checks 1 to 7 does to the box, with the lock and check 8
--- before it and check 9.
+-- before it. Check 9 is in Reply.antt.
 use mathlib.Core.Bool.{Bool, true, false, not, _&&_}
-use mathlib.Core.List.{_∷_, _++_}
-use Prim.Native.Char.{code}
-use lib.Dec.{ltb, eqb}
+use lib.Dec.{eqb}
 use lib.IntN.{pos}
 use lib.Signed.{leZ}
-use lib.ListN.{length}
-use Rattle.registers.specs.Text.{Text, if_then_else_, bytes, empty, first}
 use Rattle.registers.specs.Check.{Checked, passed, _>>=_, _>>_, check}
-use Rattle.registers.specs.Answer.{decimal}
-use Rattle.registers.specs.Errors.{errorText}
-use Rattle.registers.specs.Settings.{output, kindOf, valueAt, withValue, atReset, conflict, answerOf}
-use Rattle.registers.specs.Status.{locked, Trouble, noTrouble, completed, eventsRead, oldestRead, groupIn, setRead, allRead, storedIn, registerIn, statusByte}
+use Rattle.registers.specs.Settings.{output, withValue, atReset, conflict}
+use Rattle.registers.specs.Status.{locked, Trouble, noTrouble, completed, eventsRead, oldestRead, setRead, allRead, storedIn}
 use Rattle.registers.specs.declared.settings.Settings.{Settings}
 use Rattle.registers.specs.declared.status.RegisterSet.{RegisterSet}
-use Rattle.interpreter.specs.Box.{Core, Box, box, withSettings, withRegisters, withAnswer, mostAnswer}
+use Rattle.interpreter.specs.Box.{Core, Box, box, withSettings, withRegisters}
+use Rattle.interpreter.specs.Reply.{replyTo, inquiryReply, reply}
 use Rattle.interpreter.specs.declared.deed.Deed.{Deed}
 use Rattle.interpreter.specs.declared.deed.Deed.the-variants.{Change, Complete, Clear, Query, Inquire}
 use Rattle.interpreter.specs.declared.deed.Change as changes
@@ -69,19 +64,8 @@ conflicting (Inquire q) s = false
 unfoldable pub permitted : Deed → Core → Checked (Unit {0})
 permitted d c = check 221 (not (blocked d && locked (c .registers))) >> check 221 (not (conflicting d (c .settings)))
 
--- ---- queries that see the core alone: "*IDN? answers `COURSE,BENCH24,0,4.00`; *TST? `0`; *OPC? `1`", "Register answers are decimal"
+-- ---- what a query leaves: "Reading .. the event register clears it"
 
-unfoldable pub replyTo : queries.Query → Core → Text
-replyTo Identity c = bytes "COURSE,BENCH24,0,4.00"
-replyTo SelfTest c = bytes "0"
-replyTo Completed c = bytes "1"
-replyTo (Limit i v) c = answerOf (kindOf i) v
-replyTo (Value i) c = answerOf (kindOf i) (valueAt (c .settings) i)
-replyTo (Stored r) c = decimal (registerIn r (c .registers))
-replyTo (Condition x) c = decimal (groupIn x (c .registers) .condition)
-replyTo (SetEvents x) c = decimal (groupIn x (c .registers) .event)
-
--- "Reading .. the event register clears it"
 abbrev pub setCleared : RegisterSet → Core → Core
 setCleared x c = withRegisters (setRead x (c .registers)) c
 
@@ -99,31 +83,11 @@ afterQuery (Stored r) c = c
 afterQuery (Condition x) c = c
 afterQuery (SetEvents x) c = setCleared x c
 
--- ---- the three that see the trouble: *ESR? clears what it reads, *STB? changes nothing, SYSTem:ERRor? "removes the oldest"
-
-unfoldable pub inquiryReply : inquiries.Inquiry → Box → Text
-inquiryReply StandardEvents b = decimal (b .trouble .events)
-inquiryReply StatusByte b = decimal (statusByte (b .core .registers) (b .trouble) (not (empty (b .core .answer))))
-inquiryReply NextError b = errorText (first (b .trouble .queue))
-
+-- *ESR? clears what it reads, *STB? changes nothing, SYSTem:ERRor? "removes the oldest"
 abbrev pub afterInquiry : inquiries.Inquiry → Trouble → Trouble
 afterInquiry StandardEvents t = eventsRead t
 afterInquiry StatusByte t = t
 afterInquiry NextError t = oldestRead t
-
--- ---- check 9
-
--- "Answers of one line are joined by `;`"
-unfoldable pub joined : Text → Text → Text
-joined a t = if empty a then t else a ++ code ";" ∷ t
-
--- -430 where "the answer with its separator and the final newline would pass 1,024 bytes"
-unfoldable pub fitsAnswer : Text → Text → Bool
-fitsAnswer a t = ltb (length (joined a t)) mostAnswer
-
--- refused, "the query isn't performed": Line.refuse then drops the whole answer
-unfoldable pub reply : Text → Core → Checked Core
-reply t c = check 430 (fitsAnswer (c .answer) t) >> passed (withAnswer (joined (c .answer) t) c)
 
 -- ---- the deed: "*OPC sets event bit 0"; "*CLS clears the event status register, the operation event register and the queue, nothing
 -- else", by 02 "all three event registers"
