@@ -151,9 +151,12 @@ raisable-known n e = and-both (known n) _ e .0
 pub raise-fit : (n k : ℕ) (b : Box) → known n ≡ true → Fit k b → Fit k (raise n b)
 raise-fit n k b e f = fit k _ _ (f .core) (raised-good (b .trouble) (f .trouble) n e)
 
--- the answer dropped
+-- another answer, and none
+pub answered-fit : (k m : ℕ) (b : Box) → Fit k b → {a : Text} → length a ≤ m → Fit m (answerIs a b)
+answered-fit k m b f {a} l = fit m _ _ (fit-answer k (b .core) (f .core) m a l) (f .trouble)
+
 pub dropped-fit : (k m : ℕ) (b : Box) → Fit k b → Fit m (answerIs [] b)
-dropped-fit k m b f = fit m _ _ (fit-answer k (b .core) (f .core) m [] zero-le) (f .trouble)
+dropped-fit k m b f = answered-fit k m b f zero-le
 
 pub refuse-fit : (n : ℕ) (b : Box) → known n ≡ true → Fit running b → Fit running (refuse n b)
 unfolding refuse
@@ -251,7 +254,8 @@ event-fit b started f = power-up-fit
 event-fit b (received xs) f = piece-fit b xs f
 event-fit b (take buffer) f =
     if-elim FitHappened (empty (b .core .answer)) (λ _. raise-fit 420 mostAnswer b refl f)
-    (λ _. if-elim FitHappened (leb (length (b .core .answer)) (length buffer)) (λ _. dropped-fit mostAnswer mostAnswer b f) (λ _. f))
+    (λ _. if-elim FitHappened (leb (length (b .core .answer)) (length buffer)) (λ _. answered-fit mostAnswer mostAnswer b f (omega arith))
+    (λ _. answered-fit mostAnswer mostAnswer b f (omega arith)))
 event-fit b (condition x n) f =
     if-elim FitHappened (leb n widestGroup)
     (λ e. fit mostAnswer _ _
