@@ -26,8 +26,8 @@ unfoldable pub firstLine : Text → Text
 firstLine l = take (indexOf 10 l + 1) l
 
 -- bytes were taken in
-pub record FlowFed (f : Flow) (line out bytes : Text) (r : Flow) (lines left : Text) : Type 0 where
+pub record FlowFed (f : Flow) (line out bytes : Text) (r : Flow) (line′ out′ : Text) : Type 0 where
   pub fits : FlowFits r
-  pub box : flowBox r lines left ≡ piece (flowBox f line out) bytes
+  pub box : flowBox r line′ out′ ≡ piece (flowBox f line out) bytes
   pub read : r .read ≡ f .read + length bytes
   pub count : r .count ≡ f .count + newlines bytes

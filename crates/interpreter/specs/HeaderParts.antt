@@ -56,8 +56,8 @@ orZero true n = n
 orZero false n = 0
 
 -- a number is entered behind others, as long as so many are held
-pub record Entered (keys : List ℕ) (count key r : ℕ) (left : List ℕ) : Type 0 where
-  pub is : take r left ≡ take mostNames (take count keys ++ key ∷ [])
+pub record Entered (keys : List ℕ) (count key r : ℕ) (keys′ : List ℕ) : Type 0 where
+  pub is : take r keys′ ≡ take mostNames (take count keys ++ key ∷ [])
   pub few : r ≤ mostNames
   pub some : 0 < r
 

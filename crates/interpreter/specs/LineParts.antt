@@ -23,27 +23,27 @@ pub record StoppedWith (e : Error) (p : Present) (r : Done) : Type 0 where
   pub left : RefusedWith e p (r .present)
 
 -- a unit was obeyed, or refused
-pub record UnitRan (d : Done) (path : List Text) (unit out : Text) (r : Done) (keys : List ℕ) (left : Text) : Type 0 where
+pub record UnitRan (d : Done) (path : List Text) (unit out : Text) (r : Done) (keys : List ℕ) (out′ : Text) : Type 0 where
   pub queued : r .present .status .queued ≤ most
   pub room : r .present .answered < mostAnswer
   pub goes : r .obeyed ≡ true
       → (names : List Text)
-      × (attempt path (boxAt (d .present) out) unit ≡ passed (record { path = names; box = boxAt (r .present) left }))
+      × (attempt path (boxAt (d .present) out) unit ≡ passed (record { path = names; box = boxAt (r .present) out′ }))
       × Holds names keys (r .used)
   pub stops : r .obeyed ≡ false
       → (n : ℕ)
       × (attempt path (boxAt (d .present) out) unit ≡ refused n)
-      × (boxAt (r .present) left ≡ refuse n (boxAt (d .present) out))
+      × (boxAt (r .present) out′ ≡ refuse n (boxAt (d .present) out))
 
-pub record UnitsRan (p : Present) (line : Text) (r : Present) (left : Text) : Type 0 where
+pub record UnitsRan (p : Present) (line : Text) (r : Present) (out′ : Text) : Type 0 where
   pub queued : r .status .queued ≤ most
   pub room : r .answered < mostAnswer
-  pub box : boxAt r left ≡ runUnits (cutAt (code ";") line) [] (boxIn p [])
+  pub box : boxAt r out′ ≡ runUnits (cutAt (code ";") line) [] (boxIn p [])
 
-pub record LineRan (p : Present) (line : Text) (overlong : Bool) (r : Present) (left : Text) : Type 0 where
+pub record LineRan (p : Present) (line : Text) (overlong : Bool) (r : Present) (out′ : Text) : Type 0 where
   pub queued : r .status .queued ≤ most
   pub room : r .answered ≤ mostAnswer
-  pub box : boxAt r left ≡ runLine line overlong (boxIn p [])
+  pub box : boxAt r out′ ≡ runLine line overlong (boxIn p [])
 
 -- a box with a line in it
 abbrev pub boxHolding : Present → Text → Bool → Text → Box

@@ -79,16 +79,16 @@ unfoldable pub answeredWith : Reply → Text → Text
 answeredWith r a = if said r then joined a (textOf r) else a
 
 -- check 9 on a reply behind the answers that stand in out: they end at r then, and r is the end of out if it leaves no room
-pub record GivenTo (reply : Reply) (answered : ℕ) (out : Text) (r : ℕ) (left : Text) : Type 0 where
+pub record GivenTo (reply : Reply) (answered : ℕ) (out : Text) (r : ℕ) (out′ : Text) : Type 0 where
   pub stands : r < mostAnswer
-      → (length (answeredWith reply (take answered out)) < mostAnswer) × (take r left ≡ answeredWith reply (take answered out))
+      → (length (answeredWith reply (take answered out)) < mostAnswer) × (take r out′ ≡ answeredWith reply (take answered out))
   pub falls : mostAnswer ≤ r → mostAnswer ≤ length (answeredWith reply (take answered out))
 
 -- a deed that is answered does what it does, and its answer ends there; or it is refused, and of the answers so far is left what the
 -- refusal leaves of them
 abbrev pub Answered : Deed → Present → Text → Told → Text → Type 0
-Answered d p out (Until end) left =
+Answered d p out (Until end) out′ =
     (end < mostAnswer)
-    × ((r : Present) → Allowed (p .settings) d → After d p r → perform d (boxAt p out) ≡ passed (boxIn r (take end left)))
-Answered d p out (Refused e) left =
-    (perform d (boxAt p out) ≡ refused (numberOf e)) × (refuse (numberOf e) (boxAt p left) ≡ refuse (numberOf e) (boxAt p out))
+    × ((r : Present) → Allowed (p .settings) d → After d p r → perform d (boxAt p out) ≡ passed (boxIn r (take end out′)))
+Answered d p out (Refused e) out′ =
+    (perform d (boxAt p out) ≡ refused (numberOf e)) × (refuse (numberOf e) (boxAt p out′) ≡ refuse (numberOf e) (boxAt p out))

@@ -13,7 +13,7 @@ use Rattle.interpreter.specs.Server.{Service, service, serves, linesOf}
 abbrev pub serviceAt : Flow → ℕ → Text → Text → Text → Service
 serviceAt f written line out output = service (flowBox f line out) (f .read) (take written output) (drop written output)
 
-pub record FlowServed (f : Flow) (line out input output : Text) (r : Progress) (lines left outputs : Text) : Type 0 where
+pub record FlowServed (f : Flow) (line out input output : Text) (r : Progress) (line′ out′ output′ : Text) : Type 0 where
   pub fits : FlowFits (r .flow)
-  pub within : r .written ≤ length outputs
-  pub service : serviceAt (r .flow) (r .written) lines left outputs ≡ serves (service (flowBox f line out) 0 [] output) (linesOf input)
+  pub within : r .written ≤ length output′
+  pub service : serviceAt (r .flow) (r .written) line′ out′ output′ ≡ serves (service (flowBox f line out) 0 [] output) (linesOf input)

@@ -202,7 +202,7 @@ fn obey_query(query: Query) -> Decision
 }
 
 // Exam mode on a value of a setting, where the limits let one pass. A query asks for it.
-fn put(settings: Settings, row: usize, asked: bool, fit: Fit, side: Side) -> Decision
+fn decide_value(settings: Settings, row: usize, asked: bool, fit: Fit, side: Side) -> Decision
     ensures { λ r. ⌜ meantDeed r ≡ putFit settings row asked fit side ⌝ }
 {
     match fit {
@@ -220,7 +220,7 @@ fn put(settings: Settings, row: usize, asked: bool, fit: Fit, side: Side) -> Dec
 }
 
 // Check 7 on a number for a register.
-fn store(register: Register, d: Decimal) -> Decision
+fn decide_figure(register: Register, d: Decimal) -> Decision
     ensures { λ r. ⌜ meantDeed r ≡ storeTo register (rounded 1 d) (sideIn 1 d) ⌝ }
 {
     let rounded = rounding::round_in(d, 0, 0, register.widest() as i32);
@@ -257,13 +257,13 @@ pub(crate) fn decide_setting(
         Parameter::Refused(e) => return Decision::Refused(e),
         Parameter::Word(word) => {
             let value = word_value(settings, row, word);
-            return put(settings, row, asked, Fit::Within(value), Side::On);
+            return decide_value(settings, row, asked, Fit::Within(value), Side::On);
         }
         Parameter::Figure(d) => {
             let rounded = figure_value(settings, row, d);
             let fit = rounded.fit;
             let side = rounded.side;
-            return put(settings, row, asked, fit, side);
+            return decide_value(settings, row, asked, fit, side);
         }
     }
 }
@@ -290,6 +290,6 @@ pub(crate) fn decide_register(
     match parameter {
         Parameter::Refused(e) => return Decision::Refused(e),
         Parameter::Word(_) => return Decision::Refused(Error::InvalidCharacterData),
-        Parameter::Figure(d) => return store(register, d),
+        Parameter::Figure(d) => return decide_figure(register, d),
     }
 }

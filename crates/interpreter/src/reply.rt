@@ -41,7 +41,7 @@ pub(crate) enum Told {
 }
 
 // The word of a setting by its place in the setting's list; at a place that has none it is no word of the table either.
-fn to_word(row: usize, value: i32) -> Reply
+fn of_word(row: usize, value: i32) -> Reply
     requires { ⌜ row < count ⌝ }
     ensures { λ r. ⌜ RepliesWith (placeText row value) r ⌝ }
 {
@@ -53,27 +53,27 @@ fn to_word(row: usize, value: i32) -> Reply
 }
 
 // A value of a setting.
-fn to_value(row: usize, value: i32) -> Reply
+fn of_value(row: usize, value: i32) -> Reply
     ensures { λ r. ⌜ RepliesWith (answerOf (kindOf row) value) r ⌝ }
 {
     let values = Settings::values_of(row);
     match values {
-        Values::Word => to_word(row, value),
+        Values::Word => of_word(row, value),
         Values::Tenths => Reply::Tenths(value),
         Values::Whole | Values::Bool => Reply::Whole(value),
     }
 }
 
 // What a query that sees settings and registers alone answers.
-fn to_query(present: Present, query: Query) -> Reply
+fn of_query(present: Present, query: Query) -> Reply
     ensures { λ r. ⌜ RepliesWith (replyTo query (coreIn (present .settings) (present .status))) r ⌝ }
 {
     match query {
         Query::Identity => Reply::Identity,
         Query::SelfTest => Reply::Number(0),
         Query::Completed => Reply::Number(1),
-        Query::Limit { row, value } => to_value(row, value),
-        Query::Value(row) => to_value(row, present.settings.value(row)),
+        Query::Limit { row, value } => of_value(row, value),
+        Query::Value(row) => of_value(row, present.settings.value(row)),
         Query::Stored(register) => Reply::Number(present.status.register(register)),
         Query::Condition(set) => Reply::Number(present.status.group(set).condition),
         Query::SetEvents(set) => Reply::Number(present.status.group(set).event),
@@ -81,7 +81,7 @@ fn to_query(present: Present, query: Query) -> Reply
 }
 
 // What an inquiry answers, which sees the event status register or the error queue.
-fn to_inquiry(status: Status, answers: bool, inquiry: Inquiry) -> Reply
+fn of_inquiry(status: Status, answers: bool, inquiry: Inquiry) -> Reply
     ensures { λ r. ⌜ RepliesWith (inquiryText inquiry status answers) r ⌝ }
 {
     match inquiry {
@@ -92,12 +92,12 @@ fn to_inquiry(status: Status, answers: bool, inquiry: Inquiry) -> Reply
 }
 
 // What a deed answers.
-fn to_deed(present: Present, deed: Deed) -> Reply
+fn of_deed(present: Present, deed: Deed) -> Reply
     ensures { λ r. ⌜ ReplyTo deed present (not (eqb (present .answered) 0)) r ⌝ }
 {
     match deed {
-        Deed::Query(query) => to_query(present, query),
-        Deed::Inquire(inquiry) => to_inquiry(present.status, present.answered != 0, inquiry),
+        Deed::Query(query) => of_query(present, query),
+        Deed::Inquire(inquiry) => of_inquiry(present.status, present.answered != 0, inquiry),
         _ => Reply::Nothing,
     }
 }
@@ -119,7 +119,7 @@ fn write(reply: Reply, tail: &mut [u8]) -> usize
 
 // Check 9: writes a reply after the answers so far and their separator, which the first answer overwrites.
 // Gives where the answers end then; that is the buffer's end where they leave no room for the newline.
-fn give(reply: Reply, out: &mut [u8], answered: usize) -> usize
+fn append(reply: Reply, out: &mut [u8], answered: usize) -> usize
     requires { ⌜ (answered < mostAnswer) × (length (now out) ≡ mostAnswer) ⌝ }
     ensures { λ r. ⌜ GivenTo reply answered (now (out .entry)) r (now (out .exit)) ⌝ }
 {
@@ -140,8 +140,8 @@ pub(crate) fn answer(present: Present, deed: Deed, out: &mut [u8]) -> Told
     requires { ⌜ (present .answered < mostAnswer) × (length (now out) ≡ mostAnswer) ⌝ }
     ensures { λ r. ⌜ Answered deed present (now (out .entry)) r (now (out .exit)) ⌝ }
 {
-    let reply = to_deed(present, deed);
-    let end = give(reply, out, present.answered);
+    let reply = of_deed(present, deed);
+    let end = append(reply, out, present.answered);
     if out.len() <= end {
         return Told::Refused(Error::QueryDeadlocked);
     }

@@ -48,15 +48,15 @@ returns-3 c =
 enum-known-parameter-2 : tie.Need-enum-known-parameter-2
 enum-known-parameter-2 c = c .match .keys3
 
-store-requires : tie.Need-store-requires
-store-requires c κs = tt
+decide-figure-requires : tie.Need-decide-figure-requires
+decide-figure-requires c κs = tt
 
 returns-4 : tie.Need-returns-4
 returns-4 c =
     let p = c .before .before .before .before in
     let a = entry p .args in
     rw (p .before .if1 .left)
-    (c .store .ensures ∙ register-figure (a .register) (a .text .now) (figure-by (read-is p) (c .before .before .parameter2 .given .1)))
+    (c .decide-figure .ensures ∙ register-figure (a .register) (a .text .now) (figure-by (read-is p) (c .before .before .parameter2 .given .1)))
 
 pub decide-register-spec : {M : Type 1} → statement M
 decide-register-spec =
@@ -70,5 +70,5 @@ decide-register-spec =
     enum-told
     returns-3
     enum-known-parameter-2
-    store-requires
+    decide-figure-requires
     returns-4)

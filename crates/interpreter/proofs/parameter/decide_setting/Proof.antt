@@ -92,8 +92,8 @@ word-value-requires c κs =
     let few = words-few row (entry p .pre .0 .1) in
     omega (arith, placed p (c .before .parameter2 .given .1))
 
-put-requires : tie.Need-put-requires
-put-requires c κs = tt
+decide-value-requires : tie.Need-decide-value-requires
+decide-value-requires c κs = tt
 
 returns-3 : tie.Need-returns-3
 returns-3 c =
@@ -101,7 +101,7 @@ returns-3 c =
     let a = entry p .args in
     let told = c .before .before .before .parameter2 .given in
     let value = c .before .word-value in
-    rw (c .put .ensures)
+    rw (c .decide-value .ensures)
     (ap (λ z. putFit (a .settings) (a .row) (a .asked) (Within z) On) (back (value .result) (value .ok) ∙ value .ensures)
     ∙ ap (λ f. putFit (a .settings) (a .row) (a .asked) f On)
     (fit-within (a .settings) (a .row) _ (word-within (a .settings) (a .row) (entry p .pre .0 .1) (told .0 .0) (placed p (told .1))))
@@ -114,14 +114,14 @@ enum-known-parameter-3 c = c .match .keys3
 figure-value-requires : tie.Need-figure-value-requires
 figure-value-requires c κs = tt
 
-put-requires-2 : tie.Need-put-requires-2
-put-requires-2 c κs = tt
+decide-value-requires-2 : tie.Need-decide-value-requires-2
+decide-value-requires-2 c κs = tt
 
 returns-4 : tie.Need-returns-4
 returns-4 c =
     let p = c .before .before .before .before .before in
     let told = c .before .before .before .parameter3 .given in
-    rw (c .put2 .ensures, c .before .figure-value .ensures) (carried p (figure-by (read-is p) (told .1)))
+    rw (c .decide-value2 .ensures, c .before .figure-value .ensures) (carried p (figure-by (read-is p) (told .1)))
 
 pub decide-setting-spec : {M : Type 1} → statement M
 decide-setting-spec =
@@ -135,9 +135,9 @@ decide-setting-spec =
     returns-2
     enum-known-parameter-2
     word-value-requires
-    put-requires
+    decide-value-requires
     returns-3
     enum-known-parameter-3
     figure-value-requires
-    put-requires-2
+    decide-value-requires-2
     returns-4)

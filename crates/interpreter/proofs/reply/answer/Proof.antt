@@ -4,33 +4,33 @@ use Rattle.interpreter.proofs.reply.Performed.{told-until, told-refused
 use Rattle.interpreter.proofs.reply.answer.Statement.{statement}
 use Rattle.interpreter.proofs.reply.answer.Tie as tie
 
-abbrev entry : tie.After-give → tie.Start
+abbrev entry : tie.After-append → tie.Start
 entry g = g .before .before .before .before
 
-to-deed-requires : tie.Need-to-deed-requires
-to-deed-requires c κs = tt
+of-deed-requires : tie.Need-of-deed-requires
+of-deed-requires c κs = tt
 
-give-requires : tie.Need-give-requires
-give-requires c κs = search needs
+append-requires : tie.Need-append-requires
+append-requires c κs = search needs
 
 same-length : tie.Need-same-length
-same-length c = c .before .before .before .give .kept .1 .0
+same-length c = c .before .before .before .append .kept .1 .0
 
 returns : tie.Need-returns
 returns c =
     let g = c .before .before .before in
     let s = entry g in
-    told-refused (s .args .deed) (s .args .present) (s .pre .0) (s .pre .1) (g .before .before .to-deed .ensures) (g .give .ensures) (omega arith)
+    told-refused (s .args .deed) (s .args .present) (s .pre .0) (s .pre .1) (g .before .before .of-deed .ensures) (g .append .ensures) (omega arith)
 
 same-length-2 : tie.Need-same-length-2
-same-length-2 c = c .before .before .before .give .kept .1 .0
+same-length-2 c = c .before .before .before .append .kept .1 .0
 
 returns-2 : tie.Need-returns-2
 returns-2 c =
     let g = c .before .before .before in
     let s = entry g in
-    told-until (s .args .deed) (s .args .present) (s .pre .0) (s .pre .1) (g .before .before .to-deed .ensures) (g .give .ensures) (omega arith)
+    told-until (s .args .deed) (s .args .present) (s .pre .0) (s .pre .1) (g .before .before .of-deed .ensures) (g .append .ensures) (omega arith)
 
 pub answer-spec : {M : Type 1} → statement M
 answer-spec =
-    tie.close (tie.spec to-deed-requires give-requires same-length returns same-length-2 returns-2)
+    tie.close (tie.spec of-deed-requires append-requires same-length returns same-length-2 returns-2)

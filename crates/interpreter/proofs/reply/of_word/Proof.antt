@@ -12,8 +12,8 @@ use Rattle.interpreter.specs.Parameter.{wordsOf}
 use Rattle.interpreter.specs.WordsParts.{wordCount, wordList, wordAt}
 use Rattle.interpreter.specs.ReplyParts.{placeText, textOf}
 use Rattle.interpreter.proofs.words.Taken.{no-word, place-none, place-word, not-minus}
-use Rattle.interpreter.proofs.reply.to_word.Statement.{statement}
-use Rattle.interpreter.proofs.reply.to_word.Tie as tie
+use Rattle.interpreter.proofs.reply.of_word.Statement.{statement}
+use Rattle.interpreter.proofs.reply.of_word.Tie as tie
 
 back : (s : tie.Start) → toZ w32 (ofZ w32 (s .args .value)) ≡ s .args .value
 back s = toZ-ofZ {w = w32} (s .fits .value)
@@ -66,8 +66,8 @@ returns-2 : tie.Need-returns-2
 unfolding textOf
 returns-2 c = let w = at-word (c .before) in record { is = rw (w .1); some = refl }
 
-pub to-word-spec : {M : Type 1} → statement M
-to-word-spec =
+pub of-word-spec : {M : Type 1} → statement M
+of-word-spec =
     tie.close
     (tie.spec
     of-setting-requires

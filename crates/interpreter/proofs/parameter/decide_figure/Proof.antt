@@ -4,8 +4,8 @@ use Rattle.registers.specs.Rounding.{sideIn, RoundedIn}
 use Rattle.registers.specs.Status.{widest}
 use Rattle.registers.proofs.rounding.Meaning.{side-is}
 use Rattle.interpreter.proofs.parameter.Deeds.{back, widest-back, store-natural, store-within, store-outside}
-use Rattle.interpreter.proofs.parameter.store.Statement.{statement}
-use Rattle.interpreter.proofs.parameter.store.Tie as tie
+use Rattle.interpreter.proofs.parameter.decide_figure.Statement.{statement}
+use Rattle.interpreter.proofs.parameter.decide_figure.Tie as tie
 
 rounded-is : (c : tie.After-round-in)
     → RoundedIn 1 (pos 0) (pos (widest (c .before .before .args .register))) (c .before .before .args .d) (c .round-in .result)
@@ -45,8 +45,8 @@ returns-2 c =
     rw (back (fit .0 .0) (c .known-told .given .0 .1), side-is (rounded-is (c .before .before .before)))
     (store-within (a .register) (a .d) (rounded-is (c .before .before .before) .fit) (fit .0 .0) (fit .1) (sideIn 1 (a .d)))
 
-pub store-spec : {M : Type 1} → statement M
-store-spec =
+pub decide-figure-spec : {M : Type 1} → statement M
+decide-figure-spec =
     tie.close
     (tie.spec
     widest-requires

@@ -1,8 +1,8 @@
 use native.Mathlib.Omega.{arith}
 use mathlib.Core.Path.{refl}
 use Rattle.interpreter.specs.ReplyParts.{textOf}
-use Rattle.interpreter.proofs.reply.to_inquiry.Statement.{statement}
-use Rattle.interpreter.proofs.reply.to_inquiry.Tie as tie
+use Rattle.interpreter.proofs.reply.of_inquiry.Statement.{statement}
+use Rattle.interpreter.proofs.reply.of_inquiry.Tie as tie
 
 enum-told : tie.Need-enum-told
 enum-told c = c .match .keys1
@@ -34,8 +34,8 @@ returns-3 : tie.Need-returns-3
 unfolding textOf
 returns-3 c = rw (c .before .enum-told3 .given .1, c .oldest .ensures) (record { is = refl; some = refl })
 
-pub to-inquiry-spec : {M : Type 1} → statement M
-to-inquiry-spec =
+pub of-inquiry-spec : {M : Type 1} → statement M
+of-inquiry-spec =
     tie.close
     (tie.spec
     enum-told

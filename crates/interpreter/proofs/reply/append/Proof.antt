@@ -6,8 +6,8 @@ use native.Mathlib.Omega.{arith}
 use lib.ListN.{length, set, length-set}
 use borrow.Author.Needs.{needs}
 use Rattle.interpreter.proofs.reply.Answers.{start, start-room, says, given-none, given-whole, given-over, end-room}
-use Rattle.interpreter.proofs.reply.give.Statement.{statement}
-use Rattle.interpreter.proofs.reply.give.Tie as tie
+use Rattle.interpreter.proofs.reply.append.Statement.{statement}
+use Rattle.interpreter.proofs.reply.append.Tie as tie
 
 room-at : (s : tie.Start) → start (s .args .answered) ≤ length (set (s .args .out .now) (s .args .answered) (code ";"))
 room-at s = rw length-set (rw (s .pre .1) (start-room (s .args .answered) (s .pre .0)))
@@ -79,8 +79,8 @@ returns-3 c =
     given-whole (a .out .now) (p .0) (p .1) (a .reply) (says (a .reply) (o .before .before .before .match .keys2)) (o .before .write .ensures)
     (o .out .given .1) (c .if1 .left)
 
-pub give-spec : {M : Type 1} → statement M
-give-spec =
+pub append-spec : {M : Type 1} → statement M
+append-spec =
     tie.close
     (tie.spec
     enum-told

@@ -7,8 +7,8 @@ use Rattle.registers.specs.Text.{if_then_else_, bytes}
 use Rattle.registers.specs.Answer.{inPlaces, decimal}
 use Rattle.interpreter.specs.Reply.{replyTo}
 use Rattle.interpreter.specs.ReplyParts.{textOf}
-use Rattle.interpreter.proofs.reply.to_query.Statement.{statement}
-use Rattle.interpreter.proofs.reply.to_query.Tie as tie
+use Rattle.interpreter.proofs.reply.of_query.Statement.{statement}
+use Rattle.interpreter.proofs.reply.of_query.Tie as tie
 
 enum-told : tie.Need-enum-told
 enum-told c = c .match .keys1
@@ -22,8 +22,8 @@ enum-told-3 c = c .match .keys3
 enum-known-query : tie.Need-enum-known-query
 enum-known-query c = c .match .keys4
 
-to-value-requires : tie.Need-to-value-requires
-to-value-requires c κs = tt
+of-value-requires : tie.Need-of-value-requires
+of-value-requires c κs = tt
 
 enum-known-query-2 : tie.Need-enum-known-query-2
 enum-known-query-2 c = c .match .keys5
@@ -31,8 +31,8 @@ enum-known-query-2 c = c .match .keys5
 value-requires : tie.Need-value-requires
 value-requires c κs = tt
 
-to-value-requires-2 : tie.Need-to-value-requires-2
-to-value-requires-2 c κs = tt
+of-value-requires-2 : tie.Need-of-value-requires-2
+of-value-requires-2 c κs = tt
 
 enum-known-query-3 : tie.Need-enum-known-query-3
 enum-known-query-3 c = c .match .keys6
@@ -69,13 +69,13 @@ unfolding replyTo
 returns-4 c =
     let q = c .before .before .query .given in
     let h : SFits w32 (q .0 .1 .0) = record { sfits = c .before .known-told .given .1 .0 .1 } in
-    rw (q .1) (rw (toZ-ofZ {w = w32} h) at (c .to-value .ensures))
+    rw (q .1) (rw (toZ-ofZ {w = w32} h) at (c .of-value .ensures))
 
 returns-5 : tie.Need-returns-5
 unfolding replyTo
 returns-5 c =
     let h : SFits w32 (c .before .value .result) = record { sfits = c .before .value .ok } in
-    rw (c .before .before .before .query2 .given .1) (rw (toZ-ofZ {w = w32} h, c .before .value .ensures) at (c .to-value2 .ensures))
+    rw (c .before .before .before .query2 .given .1) (rw (toZ-ofZ {w = w32} h, c .before .value .ensures) at (c .of-value2 .ensures))
 
 returns-6 : tie.Need-returns-6
 unfolding textOf replyTo
@@ -89,18 +89,18 @@ returns-8 : tie.Need-returns-8
 unfolding textOf replyTo
 returns-8 c = rw (c .before .before .query5 .given .1, c .group2 .ensures) (record { is = refl; some = refl })
 
-pub to-query-spec : {M : Type 1} → statement M
-to-query-spec =
+pub of-query-spec : {M : Type 1} → statement M
+of-query-spec =
     tie.close
     (tie.spec
     enum-told
     enum-told-2
     enum-told-3
     enum-known-query
-    to-value-requires
+    of-value-requires
     enum-known-query-2
     value-requires
-    to-value-requires-2
+    of-value-requires-2
     enum-known-query-3
     register-requires
     enum-known-query-4

@@ -3,8 +3,8 @@ use borrow.Author.Tests.{not-true, not-false}
 use Rattle.registers.specs.Check.{_>>_, check}
 use Rattle.interpreter.specs.ParameterParts.{putFit}
 use Rattle.interpreter.proofs.parameter.Deeds.{back}
-use Rattle.interpreter.proofs.parameter.put.Statement.{statement}
-use Rattle.interpreter.proofs.parameter.put.Tie as tie
+use Rattle.interpreter.proofs.parameter.decide_value.Statement.{statement}
+use Rattle.interpreter.proofs.parameter.decide_value.Tie as tie
 
 enum-told : tie.Need-enum-told
 enum-told c = c .match .keys1
@@ -43,8 +43,8 @@ returns-4 c =
     let accepted = sym (c .before .accepts .ensures) ∙ not-false _ (c .if2 .left) in
     rw (fit .1, c .before .before .if1 .left, accepted, b)
 
-pub put-spec : {M : Type 1} → statement M
-put-spec =
+pub decide-value-spec : {M : Type 1} → statement M
+decide-value-spec =
     tie.close
     (tie.spec
     enum-told
