@@ -1,2 +1,3 @@
 pub mod ErrorLaws
+pub mod Tables
 pub mod Tests

@@ -110,10 +110,12 @@ pub(crate) fn is_known(number: u16) -> bool
     false
 }
 
-// ---- the texts, in a table of 33 bytes a row: the number's two bytes, a length, and what stands
-// behind the number in an answer. The last row is for each number that has no text.
+// ---- the texts, in a table of rows: the number's two bytes, a length, what stands after the number
+// in an answer, and zeros. The last row is for every number that has no text.
 
 const ROWS: usize = 20;
+
+const WIDTH: usize = 33;
 
 // The first row with a number, or the last where none has it.
 fn row_of(table: &[u8], number: u16) -> usize
@@ -122,7 +124,7 @@ fn row_of(table: &[u8], number: u16) -> usize
 {
     let mut row: usize = 0;
     while row < ROWS {
-        let at = row * 33;
+        let at = row * WIDTH;
         if table[at] as u16 * 256 + table[at + 1] as u16 == number {
             return row;
         }
@@ -136,7 +138,7 @@ fn quoted_at(table: &[u8], number: u16, tail: &mut [u8], at: usize) -> usize
     requires { ⌜ (now table ≡ messageTable) × (at ≤ 100) ⌝ }
     ensures { λ r. ⌜ LaidAt at (quoted (messageIn messages number)) (now (tail .entry)) r (now (tail .exit)) ⌝ }
 {
-    let row = row_of(table, number) * 33;
+    let row = row_of(table, number) * WIDTH;
     let start = row + 3;
     let end = start + table[row + 2] as usize;
     answer::text_at(&table[start..end], tail, at)
