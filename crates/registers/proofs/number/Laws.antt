@@ -84,7 +84,7 @@ module _ (t : Text) (at : ℕ) (w : Digits) (h : DigitsRead t at 0 w) where
         value =
             k .value
             ∙ ap (λ (v : ℕ). min held (numeralFrom v fraction)) (h .value)
-            ∙ held-before (numeral whole) fraction
+            ∙ held-before held (numeral whole) fraction
             ∙ ap (min held) (sym (numeral-append 0 whole fraction) ∙ ap numeral (sym all));
         count = count ∙ ap length (sym all);
         places = places ∙ ap length (sym is);

@@ -24,15 +24,15 @@ same-test a b c d f g = go (leb a b) refl
     go true q = sym (le-leb c d (f (leb-true a b q)))
     go false q = sym (lt-leb c d (g (leb-false a b q)))
 
--- a number held before further digits is the same held number
-pub held-before : (n : ℕ) (ds : Text) → min held (numeralFrom (min held n) ds) ≡ min held (numeralFrom n ds)
+-- a number held at a bound before further digits is the same held number
+pub held-before : (bound n : ℕ) (ds : Text) → min bound (numeralFrom (min bound n) ds) ≡ min bound (numeralFrom n ds)
 unfolding numeralFrom
-held-before n [] = omega arith
-held-before n (d ∷ ds) =
-    let next : min held (min held n * 10 + (d - 48)) ≡ min held (n * 10 + (d - 48)) = omega arith in
-    sym (held-before (min held n * 10 + (d - 48)) ds)
-    ∙ ap (λ (m : ℕ). min held (numeralFrom m ds)) next
-    ∙ held-before (n * 10 + (d - 48)) ds
+held-before bound n [] = omega arith
+held-before bound n (d ∷ ds) =
+    let next : min bound (min bound n * 10 + (d - 48)) ≡ min bound (n * 10 + (d - 48)) = omega arith in
+    sym (held-before bound (min bound n * 10 + (d - 48)) ds)
+    ∙ ap (λ (m : ℕ). min bound (numeralFrom m ds)) next
+    ∙ held-before bound (n * 10 + (d - 48)) ds
 
 pub numeral-append : (n : ℕ) (a b : Text) → numeralFrom n (a ++ b) ≡ numeralFrom (numeralFrom n a) b
 unfolding numeralFrom
@@ -122,7 +122,7 @@ module _ {t : Text} {at from value i : ℕ} (g : DigitsLeft t at from value i) w
       record {
         within = omega arith;
         low = omega arith;
-        number = rw e (held-before (value * 10 + (getD t i 0 - 48)) (start digit (drop (i + 1) t)) ∙ number);
+        number = rw e (held-before held (value * 10 + (getD t i 0 - 48)) (start digit (drop (i + 1) t)) ∙ number);
         end = omega arith;
       }
 
