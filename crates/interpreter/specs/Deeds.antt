@@ -10,7 +10,7 @@ use lib.ListN.{length}
 use Rattle.registers.specs.Text.{Text, if_then_else_, bytes, empty, first}
 use Rattle.registers.specs.Check.{Checked, passed, _>>=_, _>>_, check}
 use Rattle.registers.specs.Answer.{decimal}
-use Rattle.registers.specs.Errors.{errorText}
+use Rattle.registers.specs.Error.{errorText}
 use Rattle.registers.specs.Settings.{output, kindOf, valueAt, withValue, atReset, conflict, answerOf}
 use Rattle.registers.specs.Status.{locked, Trouble, noTrouble, completed, eventsRead, oldestRead, groupIn, setRead, allRead, storedIn, registerIn, statusByte}
 use Rattle.registers.specs.declared.settings.Settings.{Settings}

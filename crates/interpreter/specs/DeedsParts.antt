@@ -8,9 +8,10 @@ use lib.IntN.{ℤ}
 use Rattle.registers.specs.Text.{Text, if_then_else_, bytes, first}
 use Rattle.registers.specs.Check.{refused, passed}
 use Rattle.registers.specs.Answer.{decimal, tenths, signedText}
-use Rattle.registers.specs.Errors.{numberOf, errorText}
+use Rattle.registers.specs.Error.{numberOf, errorText}
 use Rattle.registers.specs.Settings.{kindOf, withValue, atReset, wordText}
-use Rattle.registers.specs.Status.{Registers, Trouble, most, registersOf, troubleOf, noTrouble, completed, raisedIn, storedIn, setRead, allRead, statusByte}
+use Rattle.registers.specs.Status.{Registers, Trouble, registersOf, troubleOf, noTrouble, completed, raisedIn, storedIn, setRead, allRead, statusByte}
+use Rattle.registers.specs.Queue.{most}
 use Rattle.registers.specs.declared.error.Error as errors
 use Rattle.registers.specs.declared.settings.Settings.{Settings}
 use Rattle.registers.specs.declared.status.Status.{Status}

@@ -12,7 +12,7 @@ ghost use mathlib.Core.Bool.{false};
 ghost use Prim.Native.Nat.{_≤_, _<_};
 ghost use lib.ListN.{length};
 ghost use Rattle.registers.specs.Check.{check};
-ghost use Rattle.registers.specs.Status.{most};
+ghost use Rattle.registers.specs.Queue.{most};
 ghost use Rattle.interpreter.specs.Deeds.{conflicting, permitted};
 ghost use Rattle.interpreter.specs.Box.{mostAnswer};
 ghost use Rattle.interpreter.specs.RowsParts.{commandTable};

@@ -1,4 +1,4 @@
--- How the code keeps the texts of the errors. Nothing of 01 is defined here: see Errors.antt.
+-- How the code keeps the texts of the errors. Nothing of 01 is defined here: see Error.antt.
 use mathlib.Core.List.{List, [], _∷_, _++_}
 use Prim.Native.Nat.{ℕ, suc, _-_, _/_, _%_}
 use Prim.Native.Char.{code}
@@ -6,7 +6,7 @@ use Prim.Native.String.{String}
 use lib.Dec.{eqb}
 use lib.ListN.{length, getD, replicate}
 use Rattle.registers.specs.Text.{Text, if_then_else_, bytes}
-use Rattle.registers.specs.Errors.{messages}
+use Rattle.registers.specs.Error.{messages}
 
 -- what stands after a number in an answer: its text in quotes
 abbrev pub quoted : String → Text

@@ -11,7 +11,7 @@ use borrow.Author.Tests.{le-leb, lt-leb, ltb-true, ltb-false, eq-eqb, ne-eqb}
 use Rattle.registers.specs.Text.{Text, if_then_else_, every, white, empty}
 use Rattle.registers.specs.Check.{Checked, refused, passed}
 use Rattle.registers.specs.Group.{widestGroup}
-use Rattle.registers.specs.Errors.{known, queueable}
+use Rattle.registers.specs.Queue.{mayBeQueued, queueable}
 use Rattle.interpreter.specs.Cuts.{cutAt}
 use Rattle.interpreter.specs.Box.{Core, Box}
 use Rattle.interpreter.specs.Unit.{raisable, readUnit}
@@ -98,7 +98,7 @@ event-refusals s t e r h = go (admitted s e) refl
 -- ---- refused units
 
 reply-known : (t : Text) (c : Core) → Holds Any (reply t c)
-unfolding reply known queueable
+unfolding reply mayBeQueued queueable
 reply-known t c = hold-check Any 430 _ _ refl (λ _. passes tt)
 
 perform-known : (d : Deed) (b : Box) → Holds Any (perform d b)
@@ -130,7 +130,7 @@ unit-refusals u us path b n e =
 
 -- no unit is refused by 0
 not-zero : (n : ℕ) → raisable n ≡ true → n ≡ 0 → ⊥
-unfolding known queueable
+unfolding mayBeQueued queueable
 not-zero n e z = false≢true (ap raisable (sym z) ∙ e)
 
 abbrev Stopped : ℕ → Box → Box

@@ -8,10 +8,10 @@ use lib.ListN.{length, take}
 use borrow.Author.Tests.{eq-eqb, ne-eqb}
 use Rattle.registers.specs.Text.{Text, if_then_else_}
 use Rattle.registers.specs.Check.{Checked, refused, passed, _>>=_, _>>_}
-use Rattle.registers.specs.Errors.{numberOf}
+use Rattle.registers.specs.Error.{numberOf}
 use Rattle.registers.specs.declared.error.Error.{Error}
 use Rattle.registers.specs.declared.error.Error.the-variants.{SettingsConflict}
-use Rattle.registers.proofs.status.Means.{raised-trouble, raised-registers, raised-queued}
+use Rattle.registers.proofs.status.Meaning.{raised-trouble, raised-registers, raised-queued}
 use Rattle.interpreter.specs.Box.{Box, raise, mostAnswer}
 use Rattle.interpreter.specs.Unit.{Read, readUnit}
 use Rattle.interpreter.specs.Deeds.{permitted, perform}

@@ -11,13 +11,14 @@ use denote.Enum.Declared.{tagOf}
 use borrow.Author.Tests.{ne-eqb, lt-ltb, le-ltb, leb-true, leb-false}
 use Rattle.registers.specs.Text.{Text, if_then_else_, empty}
 use Rattle.registers.specs.Check.{refused, passed, _>>=_, _>>_, check}
-use Rattle.registers.specs.Status.{Registers, most, registersOf, troubleOf, raisedIn, registerSet, widest}
+use Rattle.registers.specs.Status.{Registers, registersOf, troubleOf, raisedIn, registerSet, widest}
+use Rattle.registers.specs.Queue.{most}
 use Rattle.registers.specs.declared.rounding.Side.{Side}
 use Rattle.registers.specs.declared.settings.Settings.{Settings}
 use Rattle.registers.specs.declared.status.Status.{Status}
 use Rattle.registers.specs.declared.status.Register.{Register}
 use Rattle.registers.proofs.status.Laws.{set-yes, set-no}
-use Rattle.registers.proofs.status.Means.{raised-trouble, raised-registers, raised-queued}
+use Rattle.registers.proofs.status.Meaning.{raised-trouble, raised-registers, raised-queued}
 use Rattle.interpreter.specs.Box.{Core, Box, box, withAnswer, mostAnswer}
 use Rattle.interpreter.specs.Deeds.{changed, replyTo, afterQuery, inquiryReply, joined, fitsAnswer, reply, perform}
 use Rattle.interpreter.specs.Line.{refuse}

@@ -7,7 +7,7 @@ use Prim.Native.Nat.{ℕ}
 use native.Mathlib.Omega.{arith}
 use lib.Dec.{eqb, ltb}
 use borrow.Author.Tests.{eqb-true, ne-eqb, ltb-false, le-leb, lt-leb}
-use Rattle.registers.specs.Text.{Text, if_then_else_, white, dark, printable, letter, small, digit, wordByte, every, empty, first, rest, start, after}
+use Rattle.registers.specs.Text.{Text, if_then_else_, white, visible, printable, letter, small, digit, wordByte, every, empty, first, rest, start, after}
 use Rattle.registers.specs.Check.{Checked, refused, passed, check, _>>_}
 use Rattle.registers.proofs.Tests.{and-both, and-true, and-assoc}
 use Rattle.interpreter.specs.Cuts.{front, joinFirst, cutAt, trimEnd, trim}
@@ -45,15 +45,15 @@ trim-white (b ∷ bs) = go (white b) refl (trimEnd bs) (trim-white bs)
     go true q (x ∷ m) ih = ap (λ (e : Bool). allowed b && e) ih
     go false q m ih = ap (λ (e : Bool). allowed b && e) ih
 
-parts : (t : Text) → every allowed t ≡ (every allowed (start dark t) && every allowed (after dark t))
+parts : (t : Text) → every allowed t ≡ (every allowed (start visible t) && every allowed (after visible t))
 unfolding if_then_else_
 parts [] = refl
-parts (b ∷ bs) = go (dark b) (parts bs)
+parts (b ∷ bs) = go (visible b) (parts bs)
   where
-    go : (d : Bool) → every allowed bs ≡ (every allowed (start dark bs) && every allowed (after dark bs))
+    go : (d : Bool) → every allowed bs ≡ (every allowed (start visible bs) && every allowed (after visible bs))
         → (allowed b && every allowed bs)
-        ≡ (every allowed (if d then b ∷ start dark bs else []) && every allowed (if d then after dark bs else b ∷ bs))
-    go true ih = ap (λ (e : Bool). allowed b && e) ih ∙ sym (and-assoc (allowed b) (every allowed (start dark bs)) (every allowed (after dark bs)))
+        ≡ (every allowed (if d then b ∷ start visible bs else []) && every allowed (if d then after visible bs else b ∷ bs))
+    go true ih = ap (λ (e : Bool). allowed b && e) ih ∙ sym (and-assoc (allowed b) (every allowed (start visible bs)) (every allowed (after visible bs)))
     go false ih = refl
 
 -- ---- a header's bytes
@@ -150,4 +150,4 @@ pub allowed-behind : (u : Text) (h : Header) → header (headerText u) ≡ passe
 unfolding trim
 allowed-behind u h e =
     let v = after white u in
-    skip-white u ∙ parts v ∙ rw (header-allowed (start dark v) h e) (skip-white (after dark v) ∙ sym (trim-white (after white (after dark v))))
+    skip-white u ∙ parts v ∙ rw (header-allowed (start visible v) h e) (skip-white (after visible v) ∙ sym (trim-white (after white (after visible v))))

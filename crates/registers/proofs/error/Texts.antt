@@ -1,5 +1,5 @@
 -- The table of error texts holds the messages row by row, and a search over its rows finds a number's message.
-use mathlib.Core.Path.{_≡_, refl, sym, ap, _∙_}
+use mathlib.Core.Path.{_≡_, refl, ap, _∙_}
 use mathlib.Core.Bool.{Bool, true, false}
 use mathlib.Core.List.{List, [], _∷_, _++_, append-assoc}
 use Prim.Native.Nat.{ℕ, zero, suc, _+_, _-_, _*_, _≤_, _<_}
@@ -16,7 +16,7 @@ use mir.Val.{Fits}
 use borrow.Author.Tests.{eq-eqb, ne-eqb}
 use Rattle.registers.specs.Text.{Text, if_then_else_, bytes, every}
 use Rattle.registers.specs.Answer.{decimal, signedText}
-use Rattle.registers.specs.Errors.{messages, messageIn, errorText}
+use Rattle.registers.specs.Error.{messages, messageIn, errorText}
 use Rattle.registers.specs.ErrorParts.{quoted, rowWidth, rowCount, messageRow, tableOf, messageRows, messageTable, messageAt, rowIn}
 use Rattle.registers.proofs.Tables.{table-at, cell-at, table-length}
 
@@ -43,7 +43,7 @@ front : (t zeros rest : Text) → take (length t) ((t ++ zeros) ++ rest) ≡ t
 front t zeros rest = rw (append-assoc t zeros rest) (take-append-seam t (zeros ++ rest))
 
 module _ (row : ℕ) (h : row < rowCount + 1) where
-  -- the table from a row on starts with its message
+  -- from where a row starts the table has its message, and then the other rows
   row-at : drop (row * rowWidth) messageTable ≡ messageRow (messageAt row) ++ tableOf (drop (suc row) messageRows)
   unfolding messageTable messageAt tableOf
   row-at = let l = all-rows in table-at messageRow rowWidth tableOf refl (λ x xs. refl) messageRows all-wide row (0, "") (omega arith)

@@ -1,4 +1,5 @@
--- Digits as a number, held at a bound, and how many digits a number has.
+-- Digits as a number, held at a bound, and how many digits a number has. That thirteen digits make 10 to the power 12 or more, and
+-- twelve less, is by induction over the digits: each multiplies by ten what stands before it.
 use mathlib.Core.Path.{_≡_, refl, ap, sym, _∙_}
 use mathlib.Core.Bool.{Bool, true, false}
 use mathlib.Core.List.{[], _∷_, _++_}
@@ -45,7 +46,7 @@ one-more : (n x p r : ℕ) → x ≤ 9 → (n * 10 + x) * p ≤ r → r < (n * 1
     → (n * (p * 10) ≤ r) × (r < (n + 1) * (p * 10))
 one-more n x p r h low high = let a = mul-le-mul-right p h in (omega arith, omega arith)
 
--- so many digits behind n make a number from n to n + 1, times 10 to the power of their count
+-- so many digits after n make a number from n to n + 1, times 10 to the power of their count
 numeral-bounds : (n : ℕ) (ds : Text) → T (every digit ds)
     → (n * 10 ^ length ds ≤ numeralFrom n ds) × (numeralFrom n ds < (n + 1) * 10 ^ length ds)
 unfolding numeralFrom

@@ -6,7 +6,7 @@ use mathlib.Core.List.{List, [], _∷_}
 use Prim.Native.Nat.{ℕ, zero, suc, _≤_, _<_}
 use native.Mathlib.Omega.{arith}
 use lib.ListN.{length, getD, List·getD-map, List·getD-eq-default}
-use lib.IntN.{ℤ, pos, negsuc}
+use lib.IntN.{ℤ, pos}
 use lib.Signed.{ltZ, mag}
 use lib.Dec.{ltb, eqb}
 use mir.Syntax.{w32}
@@ -22,7 +22,7 @@ use Rattle.registers.specs.declared.settings.Values.the-variants.{Bool a
 use Rattle.registers.specs.declared.suffix.Quantity.the-variants.{Nothing}
 use Rattle.registers.proofs.Tests.{and-both, and-fails, below-fails, ltZ-not}
 
--- a row's default is that of a row behind the table
+-- a row's default is that of a row past the table
 abbrev behind : Setting
 behind = row [] bool Nothing (pos 0)
 
@@ -77,7 +77,7 @@ pub quantity-at : (i : ℕ) → quantityFrom (getD quantities i 0) ≡ quantityO
 unfolding table settingAt quantityFrom if_then_else_
 quantity-at i = sym (List·getD-map quantityFrom quantities i 0) ∙ List·getD-map (λ (x : Setting). x .quantity) table i behind
 
--- a row behind the table
+-- a row past the table
 behind-row : (i : ℕ) → count ≤ i → settingAt i ≡ behind
 unfolding table settingAt
 behind-row i h = List·getD-eq-default table behind h

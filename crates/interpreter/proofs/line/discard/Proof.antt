@@ -1,7 +1,7 @@
 use mathlib.Core.Path.{_≡_}
 use lib.ListN.{length}
 use borrow.Author.Needs.{needs}
-use Rattle.registers.specs.Errors as errors
+use Rattle.registers.specs.Error as errors
 use Rattle.interpreter.proofs.line.Laws.{raised-short}
 use Rattle.interpreter.proofs.line.Newline.{none-waits, one-waits}
 use Rattle.interpreter.proofs.line.discard.Statement.{statement}

@@ -2,7 +2,7 @@ use mathlib.Core.Path.{_≡_, refl, sym, _∙_}
 use Prim.Native.Nat.{zero-le}
 use native.Mathlib.Omega.{arith}
 use lib.ListN.{length, take}
-use Rattle.registers.specs.Errors as errors
+use Rattle.registers.specs.Error as errors
 use Rattle.interpreter.proofs.line.Laws.{raised-short, refused-dropped, refused-kept}
 use borrow.Author.Needs.{needs}
 use Rattle.interpreter.proofs.line.refuse.Statement.{statement}

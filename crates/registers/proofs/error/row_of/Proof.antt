@@ -1,8 +1,9 @@
-use mathlib.Core.Path.{_≡_, sym, ap, _∙_}
+-- Invariant: the first row with the number, searched for from row `row`, is the first of all (`sought`). Measure: the rows left. A
+-- row's two bytes are its number by the law of tables (`number-cells`).
+use mathlib.Core.Path.{_≡_, sym, _∙_}
 use Prim.Native.Nat.{_+_, _*_, _-_, _≤_}
 use native.Mathlib.Nat.{zero-add}
-use lib.ListN.{length}
-use Rattle.registers.specs.Errors.{messages}
+use Rattle.registers.specs.Error.{messages}
 use Rattle.registers.specs.ErrorParts.{rowWidth, rowCount, rowIn}
 use Rattle.registers.proofs.error.Texts.{number-cells, high-within, low-within, byte-fits, high-fits, both-fit, sought, search-hit, search-more, search-end}
 use native.Mathlib.Omega.{arith}
@@ -18,9 +19,6 @@ abbrev μ-loop : tie.MeasureT-loop
 loop-holds : tie.Need-loop-holds Inv-loop μ-loop
 loop-holds c = (omega arith, sym (zero-add _))
 
-mul-at : tie.Need-mul-at Inv-loop μ-loop
-mul-at c = omega arith
-
 shared-slice-read-if1 : tie.Need-shared-slice-read-if1 Inv-loop μ-loop
 shared-slice-read-if1 c = let o = c .before .before in high-within (o .loop .row) (c .before .loop-test .taken) (o .before .pre)
 
@@ -29,9 +27,6 @@ cast-if1 c = byte-fits (c .shared-slice-known .given (c .before .before .loop .r
 
 mul-if1 : tie.Need-mul-if1 Inv-loop μ-loop
 mul-if1 c = high-fits (c .shared-slice-known .given (c .before .before .loop .row * rowWidth))
-
-add-if1 : tie.Need-add-if1 Inv-loop μ-loop
-add-if1 c = omega arith
 
 shared-slice-read-if1-2 : tie.Need-shared-slice-read-if1-2 Inv-loop μ-loop
 shared-slice-read-if1-2 c = let o = c .before .before .before in low-within (o .loop .row) (c .before .before .loop-test .taken) (o .before .pre)
@@ -51,12 +46,6 @@ returns c =
     let n = o .before .args .number in
     let e = sym (number-cells row (omega arith) (o .before .pre)) ∙ c .if1 .taken in
     sym (o .loop .inv .1 ∙ search-hit n row (omega arith) e)
-
-add-row : tie.Need-add-row Inv-loop μ-loop
-add-row c = omega arith
-
-loop-less : tie.Need-loop-less Inv-loop μ-loop
-loop-less c = omega arith
 
 loop-again : tie.Need-loop-again Inv-loop μ-loop
 loop-again c =
@@ -78,16 +67,16 @@ row-of-spec =
     Inv-loop
     μ-loop
     loop-holds
-    mul-at
+    (λ c. omega arith)
     shared-slice-read-if1
     cast-if1
     mul-if1
-    add-if1
+    (λ c. omega arith)
     shared-slice-read-if1-2
     cast-if1-2
     add-if1-2
     returns
-    add-row
-    loop-less
+    (λ c. omega arith)
+    (λ c. omega arith)
     loop-again
     returns-2)

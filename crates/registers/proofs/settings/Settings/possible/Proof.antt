@@ -1,3 +1,4 @@
+-- Invariant: every row below `row` is within its limits. Measure: the rows left. A row outside decides at once (`impossible`).
 use native.Mathlib.Omega.{arith}
 use mathlib.Core.Path.{_≡_, refl, sym, _∙_}
 use mathlib.Core.Bool.{true}
@@ -22,27 +23,12 @@ abbrev μ-loop : tie.MeasureT-loop
 loop-holds : tie.Need-loop-holds Inv-loop μ-loop
 loop-holds c = (search needs, refl, refl)
 
-mul-value : tie.Need-mul-value Inv-loop μ-loop
-mul-value c = omega arith
-
-array-copy-out-value : tie.Need-array-copy-out-value Inv-loop μ-loop
-array-copy-out-value c = omega arith
-
-within-requires : tie.Need-within-requires Inv-loop μ-loop
-within-requires c κs = tt
-
 returns : tie.Need-returns Inv-loop μ-loop
 returns c =
     let s = c .before .before .before .before .before .before .args .self in
     let i = c .before .before .before .before .loop .row in
     let b = toZ-ofZ {w = w32} {z = valueAt s i} (record { sfits = c .before .before .value .given }) in
     impossible s i (omega arith) (sym (rw b at (c .before .within .ensures)) ∙ not-true _ (c .if1 .taken))
-
-add-row : tie.Need-add-row Inv-loop μ-loop
-add-row c = omega arith
-
-loop-less : tie.Need-loop-less Inv-loop μ-loop
-loop-less c = omega arith
 
 loop-again : tie.Need-loop-again Inv-loop μ-loop
 loop-again c =
@@ -64,11 +50,11 @@ possible-spec =
     Inv-loop
     μ-loop
     loop-holds
-    mul-value
-    array-copy-out-value
-    within-requires
+    (λ c. omega arith)
+    (λ c. omega arith)
+    (λ c κs. tt)
     returns
-    add-row
-    loop-less
+    (λ c. omega arith)
+    (λ c. omega arith)
     loop-again
     returns-2)

@@ -1,21 +1,22 @@
+-- Invariant: the number is among those left at place `i` exactly if it is among all. Measure: the numbers left.
 use Prim.Native.Nat.{_≤_, _-_}
 use lib.ListN.{length, drop}
 use mathlib.Core.Path.{_≡_, refl, sym, _∙_}
 use native.Mathlib.Omega.{arith}
-use Rattle.registers.specs.Errors.{known, among, queueable}
+use Rattle.registers.specs.Queue.{mayBeQueued, among, queueable}
 use borrow.Author.Needs.{needs}
-use Rattle.registers.proofs.error.Laws.{among-skip, among-hit}
-use Rattle.registers.proofs.error.is_known.Statement.{statement}
-use Rattle.registers.proofs.error.is_known.Tie as tie
+use Rattle.registers.proofs.queue.Laws.{among-skip, among-hit}
+use Rattle.registers.proofs.queue.may_be_queued.Statement.{statement}
+use Rattle.registers.proofs.queue.may_be_queued.Tie as tie
 
 abbrev Inv-loop : tie.InvT-loop
-Inv-loop number numbers i₀ i = (i ≤ length queueable) × (among number (drop i queueable) ≡ known number)
+Inv-loop number numbers i₀ i = (i ≤ length queueable) × (among number (drop i queueable) ≡ mayBeQueued number)
 
 abbrev μ-loop : tie.MeasureT-loop
 μ-loop number numbers i₀ i = length queueable - i
 
 loop-holds : tie.Need-loop-holds Inv-loop μ-loop
-unfolding known queueable
+unfolding mayBeQueued queueable
 loop-holds c = (search needs, refl)
 
 mul-if1 : tie.Need-mul-if1 Inv-loop μ-loop
@@ -55,8 +56,8 @@ returns-2 c =
     let e : c .before .loop .i ≡ length queueable = omega arith in
     rw e at (c .before .loop .inv .1)
 
-pub is-known-spec : {M : Type 1} → statement M
-is-known-spec =
+pub may-be-queued-spec : {M : Type 1} → statement M
+may-be-queued-spec =
     tie.close
     (tie.spec
     Inv-loop
