@@ -1,4 +1,4 @@
--- Laws of a register group: the transition rule, bit by bit, and no register ever above its width.
+-- Laws of a register group: the transition rule, bit by bit, and no register ever above its width; and of the three groups as one list.
 use mathlib.Core.Path.{_≡_, refl, sym, ap}
 use mathlib.Core.Bool.{Bool, true, false, not, _&&_, _||_}
 use mathlib.Core.List.{List, [], _∷_, map}

@@ -17,7 +17,7 @@ use Rattle.registers.specs.declared.number.Exponent.{Exponent}
 use Rattle.registers.specs.declared.number.Mantissa.{Mantissa}
 use Rattle.registers.specs.declared.suffix.Power.{Power}
 use Rattle.registers.proofs.number.Laws.{sign-end}
-use Rattle.registers.proofs.number.Whole.{verdict, none-is, number-is}
+use Rattle.registers.proofs.number.Verdict.{verdict, none-is, number-is}
 use Rattle.registers.proofs.text.Laws.{end-drop}
 use Rattle.registers.proofs.number.read.Statement.{statement}
 use Rattle.registers.proofs.number.read.Tie as tie

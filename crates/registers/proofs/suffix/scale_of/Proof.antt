@@ -1,7 +1,8 @@
 -- A case for each quantity, and for hertz one for each suffix: the definition's search computes once the quantity is known and each
--- test before has failed (`no-hz`, `no-khz`). The numbers are the capitals' codes.
+-- test before has failed (`no-hz`, `no-khz`).
 use mathlib.Core.Path.{_≡_, sym, _∙_}
 use mathlib.Core.Bool.{false}
+use Prim.Native.Char.{code}
 use Rattle.registers.specs.Text.{if_then_else_, bytes}
 use Rattle.registers.specs.Suffix.{suffixes, noSuffix}
 use Rattle.registers.specs.SuffixParts.{alike, powerBy, scaleTo, milliTo}
@@ -9,10 +10,10 @@ use Rattle.registers.proofs.suffix.scale_of.Statement.{statement}
 use Rattle.registers.proofs.suffix.scale_of.Tie as tie
 
 -- hertz: what the tests before left
-no-hz : (e : tie.Else1) → alike (e .before .before .before .before .args .letters) 2 72 90 0 ≡ false
+no-hz : (e : tie.Else1) → alike (e .before .before .before .before .args .letters) 2 (code "H") (code "Z") 0 ≡ false
 no-hz e = sym (e .before .spell .ensures) ∙ e .if1 .left
 
-no-khz : (e : tie.Else2) → alike (e .before .before .before .before .before .before .args .letters) 3 75 72 90 ≡ false
+no-khz : (e : tie.Else2) → alike (e .before .before .before .before .before .before .args .letters) 3 (code "K") (code "H") (code "Z") ≡ false
 no-khz e = sym (e .before .spell2 .ensures) ∙ e .if2 .left
 
 returns : tie.Need-returns

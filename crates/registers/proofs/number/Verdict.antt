@@ -1,4 +1,5 @@
--- Check 6 by the tests that the reader makes on what it found.
+-- Check 6 by the tests that the reader makes on what it found. The definition's answer is brought, part by part, to a `verdict` over
+-- what the functions read; its tests of digits and exponent are then comparisons of held numbers.
 use mathlib.Core.Path.{_≡_, refl, ap, sym, _∙_}
 use mathlib.Core.Bool.{Bool, true, false, not}
 use mathlib.Core.List.{[], _∷_}
