@@ -2,15 +2,16 @@
 -- whose rows stand one after the other.
 use mathlib.Core.Path.{_≡_, refl, sym, _∙_, ap, ap₂}
 use mathlib.Core.Bool.{Bool, true, false, false≢true}
-use mathlib.Core.List.{List, [], _∷_, _++_, map}
-use Prim.Native.Nat.{ℕ, zero, suc, _+_, _-_, _*_, _≤_, _<_}
+use mathlib.Core.List.{List, [], _∷_, map}
+use Prim.Native.Nat.{ℕ, zero, suc, _+_, _-_, _≤_, _<_}
 use native.Mathlib.Omega.{arith}
 use lib.Dec.{eqb}
-use lib.ListN.{length, getD, take, drop, length-append, length-drop}
-use lib.Seq.{drop-nil, drop-cons, drop-append-add, getD-drop, take-all}
+use lib.ListN.{length, getD, take, drop, length-drop}
+use lib.Seq.{take-all}
 use borrow.Author.Tests.{eqb-true, eqb-false, eq-eqb}
 use Rattle.registers.specs.Text.{Text, every, empty, rest, same}
 use Rattle.registers.proofs.Tests.{and-both, and-true}
+pub use Rattle.registers.proofs.Tables.{table-at, cell-at, table-length}
 
 pub is-empty : (t : Text) → empty t ≡ true → t ≡ []
 is-empty [] q = refl
@@ -85,36 +86,3 @@ agree (suc n) f g e i h = go (eqb i n) refl (agree n f g (cc) i)
     go : (t : Bool) → eqb i n ≡ t → (i < n → f i ≡ g i) → f i ≡ g i
     go true q ih = rw (eqb-true i n q) cc
     go false q ih = ih (omega (arith, eqb-false i n q))
-
--- ---- a table of rows, all of one width
-
-module _ {A : Type 0} (row : A → Text) (width : ℕ) (table : List A → Text) (none : table [] ≡ [])
-    (more : (x : A) (xs : List A) → table (x ∷ xs) ≡ row x ++ table xs) where
-  abbrev wide : A → Bool
-  wide x = eqb (length (row x)) width
-
-  behind : (l : List A) → every wide l ≡ true → (k : ℕ) → drop (k * width) (table l) ≡ table (drop k l)
-  behind l e zero = let z : 0 * width ≡ 0 = omega arith in rw z
-  behind [] e (suc k) = rw none (drop-nil (suc k * width))
-  behind (x ∷ l) e (suc k) =
-      let p = and-both (wide x) (every wide l) e in
-      let w = eqb-true (length (row x)) width (p .0) in
-      let s : suc k * width ≡ length (row x) + k * width = omega arith in
-      rw (s, more x l, drop-append-add (row x) (table l) (k * width)) (behind l (p .1) k)
-
-  -- from a row on the table starts with that row
-  pub table-at : (l : List A) → every wide l ≡ true → (k : ℕ) (d : A) → k < length l
-      → drop (k * width) (table l) ≡ row (getD l k d) ++ table (drop (suc k) l)
-  table-at l e k d h = behind l e k ∙ ap table (drop-cons l k d h) ∙ more (getD l k d) (drop (suc k) l)
-
-  pub cell-at : (l : List A) → every wide l ≡ true → (k : ℕ) (d : A) → k < length l → (i : ℕ)
-      → getD (table l) (k * width + i) 0 ≡ getD (row (getD l k d) ++ table (drop (suc k) l)) i 0
-  cell-at l e k d h i = sym (getD-drop (k * width) (table l) i 0) ∙ ap (λ (m : Text). getD m i 0) (table-at l e k d h)
-
-  pub table-length : (l : List A) → every wide l ≡ true → length (table l) ≡ length l * width
-  table-length [] e = let z : 0 ≡ 0 * width = omega arith in rw none z
-  table-length (x ∷ l) e =
-      let p = and-both (wide x) (every wide l) e in
-      let w = eqb-true (length (row x)) width (p .0) in
-      let t = table-length l (p .1) in
-      rw (more x l, length-append (row x) (table l)) (omega arith)

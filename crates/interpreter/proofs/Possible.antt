@@ -9,7 +9,7 @@ use lib.ListN.{length, length-append, length-set}
 use borrow.Author.Tests.{leb-true, le-leb, ltb-true}
 use Rattle.registers.specs.Text.{Text, empty}
 use Rattle.registers.specs.Check.{Checked, refused, passed}
-use Rattle.registers.specs.Errors.{known, queueable}
+use Rattle.registers.specs.Queue.{mayBeQueued, queueable}
 use Rattle.registers.specs.Group.{widestGroup, possibleGroup}
 use Rattle.registers.specs.Settings.{count, table, atReset, possibleSettings}
 use Rattle.registers.specs.Status.{Trouble, Registers, possibleRegisters, possibleTrouble, atStart}
@@ -111,7 +111,7 @@ inquiry-good NextError t g = oldest-good t g
 
 -- check 9 keeps the room
 pub reply-fit : (t : Text) (c : Core) → FitCore running c → Holds (FitCore running) (reply t c)
-unfolding reply fitsAnswer known queueable
+unfolding reply fitsAnswer mayBeQueued queueable
 reply-fit t c f =
     hold-check (FitCore running) 430 _ _ refl (λ e.
     let l = ltb-true (length (joined (c .answer) t)) mostAnswer e in
@@ -145,10 +145,10 @@ attempt-fit path b u f =
     hold-bind (Fit running) FitObeyed _ _ (perform-fit (r .deed) b a (l .clear) f) (λ c g. passes g)))
 
 -- what a unit raises may stand in the queue
-pub raisable-known : (n : ℕ) → raisable n ≡ true → known n ≡ true
-raisable-known n e = and-both (known n) _ e .0
+pub raisable-queueable : (n : ℕ) → raisable n ≡ true → mayBeQueued n ≡ true
+raisable-queueable n e = and-both (mayBeQueued n) _ e .0
 
-pub raise-fit : (n k : ℕ) (b : Box) → known n ≡ true → Fit k b → Fit k (raise n b)
+pub raise-fit : (n k : ℕ) (b : Box) → mayBeQueued n ≡ true → Fit k b → Fit k (raise n b)
 raise-fit n k b e f = fit k _ _ (f .core) (raised-good (b .trouble) (f .trouble) n e)
 
 -- another answer, and none
@@ -158,13 +158,13 @@ answered-fit k m b f {a} l = fit m _ _ (fit-answer k (b .core) (f .core) m a l) 
 pub dropped-fit : (k m : ℕ) (b : Box) → Fit k b → Fit m (answerIs [] b)
 dropped-fit k m b f = answered-fit k m b f zero-le
 
-pub refuse-fit : (n : ℕ) (b : Box) → known n ≡ true → Fit running b → Fit running (refuse n b)
+pub refuse-fit : (n : ℕ) (b : Box) → mayBeQueued n ≡ true → Fit running b → Fit running (refuse n b)
 unfolding refuse
 refuse-fit n b e f = raise-fit n running _ e (if-elim (Fit running) (eqb n 430) (λ _. dropped-fit running running b f) (λ _. f))
 
 next-fit : (go : List Text → Box → Box) → ((p : List Text) (c : Box) → Fit running c → Fit running (go p c))
     → (b : Box) → Fit running b → (r : Checked Obeyed) → Holds FitObeyed r → Fit running (next go b r)
-next-fit go ih b f (refused n) h = refuse-fit n b (raisable-known n (h .of)) f
+next-fit go ih b f (refused n) h = refuse-fit n b (raisable-queueable n (h .of)) f
 next-fit go ih b f (passed o) h = ih (o .path) (o .box) (h .of)
 
 pub units-fit : (us path : List Text) (b : Box) → Fit running b → Fit running (runUnits us path b)
@@ -183,7 +183,7 @@ bounded : (k m : ℕ) (b : Box) → length (b .core .answer) ≤ m → Fit k b �
 bounded k m b l f = fit m _ _ (fit-answer k (b .core) (f .core) m (b .core .answer) l) (f .trouble)
 
 pub interrupted-fit : (b : Box) → Fit mostAnswer b → Fit running (interrupted b)
-unfolding interrupted known queueable
+unfolding interrupted mayBeQueued queueable
 interrupted-fit b f =
     if-elim (Fit running) (empty (b .core .answer))
     (λ e. let z = no-bytes (b .core .answer) e in bounded mostAnswer running b (omega arith) f)
@@ -197,7 +197,7 @@ finished-fit b f =
     (λ _. fit mostAnswer _ _ (fit-answer running (b .core) (f .core) mostAnswer _ (simp length-append (omega arith))) (f .trouble))
 
 pub line-fit : (line : Text) (overlong : Bool) (b : Box) → Fit running b → Fit mostAnswer (runLine line overlong b)
-unfolding runLine known queueable
+unfolding runLine mayBeQueued queueable
 line-fit line overlong b f =
     let l = f .core .answer in
     if-elim (Fit mostAnswer) overlong (λ _. raise-fit 363 mostAnswer b refl (bounded running mostAnswer b (omega arith) f))
@@ -249,7 +249,7 @@ abbrev FitHappened : Happened → Type 0
 FitHappened h = Fit mostAnswer (h .box)
 
 pub event-fit : (b : Box) (e : Event) → Fit mostAnswer b → Fit mostAnswer (happens b e .box)
-unfolding happens taken reported known queueable
+unfolding happens taken reported mayBeQueued queueable
 event-fit b started f = power-up-fit
 event-fit b (received xs) f = piece-fit b xs f
 event-fit b (take buffer) f =

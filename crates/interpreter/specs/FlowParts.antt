@@ -4,7 +4,7 @@ use Prim.Native.Nat.{_+_, _≤_}
 use lib.ListN.{length, take}
 use Rattle.bytes.specs.Bytes.{indexOf}
 use Rattle.registers.specs.Text.{Text}
-use Rattle.registers.specs.Status.{most}
+use Rattle.registers.specs.Queue.{most}
 use Rattle.interpreter.specs.Box.{Box, mostLine, mostAnswer}
 use Rattle.interpreter.specs.Line.{piece, newlines}
 use Rattle.interpreter.specs.LineParts.{boxHolding}

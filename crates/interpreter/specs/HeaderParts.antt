@@ -6,7 +6,7 @@ use Prim.Native.Nat.{ℕ, _+_, _≤_, _<_}
 use lib.Dec.{eqb}
 use lib.ListN.{length, take, drop}
 use mir.Val.{boolByte}
-use Rattle.registers.specs.Text.{Text, if_then_else_, dark, every, empty, first, rest, start}
+use Rattle.registers.specs.Text.{Text, if_then_else_, visible, every, empty, first, rest, start}
 use Rattle.registers.specs.Check.{refused, passed}
 use Rattle.interpreter.specs.Cuts.{front, cutAt}
 use Rattle.interpreter.specs.Header.{Header, header, name, asks, fullNames, pathAfter, isCommon}
@@ -24,10 +24,10 @@ bodyOf t = if asks t then front t else t
 
 -- whether it asks, and its names: one, or those joined by colons
 abbrev pub asksIn : Text → Bool
-asksIn t = asks (start dark t)
+asksIn t = asks (start visible t)
 
 unfoldable pub namesIn : Bool → Text → List Text
-namesIn joined t = if joined then cutAt 58 (bodyOf (start dark t)) else bodyOf (start dark t) ∷ []
+namesIn joined t = if joined then cutAt 58 (bodyOf (start visible t)) else bodyOf (start visible t) ∷ []
 
 -- a `?` that starts a text is skipped
 unfoldable pub unasked : Text → Text
@@ -62,7 +62,7 @@ pub record Entered (keys : List ℕ) (count key r : ℕ) (keys′ : List ℕ) : 
   pub some : 0 < r
 
 pub record TailRead (t : Text) (at held : ℕ) (r : Names) : Type 0 where
-  pub good : r .good ≡ empty (start dark (unasked (drop at t)))
+  pub good : r .good ≡ empty (start visible (unasked (drop at t)))
   pub asked : r .asked ≡ eqb (first (drop at t)) 63
   pub end : r .end ≡ at + boolByte (eqb (first (drop at t)) 63)
   pub count : r .count ≡ held
@@ -70,7 +70,7 @@ pub record TailRead (t : Text) (at held : ℕ) (r : Names) : Type 0 where
 -- a header's names from a place on are entered behind those of the path
 pub record NamesGood (joined : Bool) (t : Text) (at : ℕ) (path : List ℕ) (r : Names) (keys : List ℕ) : Type 0 where
   pub asked : r .asked ≡ asksIn (drop at t)
-  pub end : r .end ≡ at + length (start dark (drop at t))
+  pub end : r .end ≡ at + length (start visible (drop at t))
   pub held : take (r .count) keys ≡ take mostNames (path ++ map keyOf (namesIn joined (drop at t)))
   pub few : r .count ≤ mostNames
   pub some : 0 < r .count
@@ -84,9 +84,9 @@ pub record NamesRead (joined : Bool) (t : Text) (at : ℕ) (path : List ℕ) (r 
 pub record FoundRow (path : List Text) (t : Text) (h : Header) (row used : ℕ) (asked : Bool) (end : ℕ) (keys : List ℕ) : Type 0 where
   pub query : asked ≡ h .query
   pub at : row ≡ rowOf (isCommon (h .place)) (fullNames (h .place) path (h .names)) (h .query)
-  pub ends : end ≡ length (start dark t)
+  pub ends : end ≡ length (start visible t)
   pub left : row < rowCount → Holds (pathAfter (h .place) path (h .names)) keys used
 
 abbrev pub LookedUp : List Text → Text → Looked → List ℕ → Type 0
-LookedUp path t Bad keys = header (start dark t) ≡ refused 102
-LookedUp path t (At row used asked end) keys = (h : Header) × (header (start dark t) ≡ passed h) × FoundRow path t h row used asked end keys
+LookedUp path t Bad keys = header (start visible t) ≡ refused 102
+LookedUp path t (At row used asked end) keys = (h : Header) × (header (start visible t) ≡ passed h) × FoundRow path t h row used asked end keys

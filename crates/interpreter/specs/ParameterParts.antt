@@ -10,7 +10,7 @@ use lib.IntN.{ℤ, pos, natAbs}
 use lib.Signed.{leZ}
 use Rattle.registers.specs.Text.{Text, if_then_else_, wordByte, every, empty}
 use Rattle.registers.specs.Check.{Checked, refused, passed, _>>=_, _>>_, check}
-use Rattle.registers.specs.Errors.{numberOf}
+use Rattle.registers.specs.Error.{numberOf}
 use Rattle.registers.specs.Number.{number as readNumber}
 use Rattle.registers.specs.Settings.{Kind, bool, words, number, within, accepted}
 use Rattle.registers.specs.Status.{widest}

@@ -2,7 +2,8 @@
 use mathlib.Core.Path.{_≡_}
 use Prim.Native.Nat.{_≤_}
 use Rattle.registers.specs.Settings.{withValue, atReset}
-use Rattle.registers.specs.Status.{Registers, Trouble, most, registersOf, troubleOf, noTrouble, completed, storedIn, setRead, allRead}
+use Rattle.registers.specs.Status.{Registers, Trouble, registersOf, troubleOf, noTrouble, completed, storedIn, setRead, allRead}
+use Rattle.registers.specs.Queue.{most}
 use Rattle.registers.specs.declared.settings.Settings.{Settings}
 use Rattle.registers.specs.declared.status.Status.{Status}
 use Rattle.interpreter.specs.UnitParts.{Allowed}

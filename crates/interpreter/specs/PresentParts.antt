@@ -5,8 +5,9 @@ use mathlib.Core.List.{[]}
 use Prim.Native.Nat.{_≤_, _<_}
 use lib.ListN.{length, take}
 use Rattle.registers.specs.Text.{Text}
-use Rattle.registers.specs.Errors.{numberOf}
-use Rattle.registers.specs.Status.{Registers, most, registersOf, troubleOf, raisedIn}
+use Rattle.registers.specs.Error.{numberOf}
+use Rattle.registers.specs.Status.{Registers, registersOf, troubleOf, raisedIn}
+use Rattle.registers.specs.Queue.{most}
 use Rattle.registers.specs.declared.error.Error.{Error}
 use Rattle.registers.specs.declared.settings.Settings.{Settings}
 use Rattle.registers.specs.declared.status.Status.{Status}

@@ -7,7 +7,7 @@ use lib.ListN.{length}
 use Rattle.registers.specs.Text.{Text, if_then_else_, bytes, empty, first}
 use Rattle.registers.specs.Check.{Checked, passed, _>>_, check}
 use Rattle.registers.specs.Answer.{decimal}
-use Rattle.registers.specs.Errors.{errorText}
+use Rattle.registers.specs.Error.{errorText}
 use Rattle.registers.specs.Settings.{kindOf, valueAt, answerOf}
 use Rattle.registers.specs.Status.{groupIn, registerIn, statusByte}
 use Rattle.interpreter.specs.Box.{Core, Box, withAnswer, mostAnswer}

@@ -9,7 +9,7 @@ use Rattle.registers.specs.Text.{Text, if_then_else_, bytes, first}
 use Rattle.registers.specs.Words.{shortForm}
 use Rattle.registers.specs.Check.{refused, passed}
 use Rattle.registers.specs.Answer.{decimal, tenths, signedText}
-use Rattle.registers.specs.Errors.{numberOf, errorText}
+use Rattle.registers.specs.Error.{numberOf, errorText}
 use Rattle.registers.specs.Settings.{kindOf, wordText}
 use Rattle.registers.specs.Status.{registersOf, troubleOf, statusByte}
 use Rattle.registers.specs.declared.status.Status.{Status}

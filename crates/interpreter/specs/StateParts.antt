@@ -4,7 +4,7 @@ use mathlib.Core.Bool.{Bool}
 use lib.ListN.{length}
 use Rattle.registers.specs.Text.{Text}
 use Rattle.registers.specs.Settings.{count}
-use Rattle.registers.specs.Status.{most}
+use Rattle.registers.specs.Queue.{most}
 use Rattle.interpreter.specs.Box.{mostAnswer}
 use Rattle.interpreter.specs.State.{possibleState}
 use Rattle.interpreter.specs.declared.state.State.{State}

@@ -5,9 +5,9 @@ use mathlib.Core.List.{List, [], _∷_}
 use Prim.Native.Nat.{ℕ}
 use lib.Dec.{leb}
 use lib.ListN.{length}
-use Rattle.registers.specs.Text.{Text, white, dark, printable, every, empty, start, after}
+use Rattle.registers.specs.Text.{Text, white, visible, printable, every, empty, start, after}
 use Rattle.registers.specs.Check.{Checked, passed, _>>=_, _>>_, check}
-use Rattle.registers.specs.Errors.{among, known}
+use Rattle.registers.specs.Queue.{among, mayBeQueued}
 use Rattle.registers.specs.declared.settings.Settings.{Settings}
 use Rattle.interpreter.specs.Cuts.{trim}
 use Rattle.interpreter.specs.Header.{header, fullNames, pathAfter, isCommon}
@@ -18,7 +18,7 @@ use Rattle.interpreter.specs.declared.deed.Deed.{Deed}
 -- the numbers that a unit can be refused by: all that 01 puts into the queue but -350, which a full queue makes, -363 and -410, which
 -- are a newline's, and -420, which is a take's
 abbrev pub raisable : ℕ → Bool
-raisable n = known n && not (among n (350 ∷ 363 ∷ 410 ∷ 420 ∷ []))
+raisable n = mayBeQueued n && not (among n (350 ∷ 363 ∷ 410 ∷ 420 ∷ []))
 
 -- what a unit asks for, and the path that it leaves
 pub record Read : Type 0 where
@@ -27,10 +27,10 @@ pub record Read : Type 0 where
 
 -- check 2: "White space around a unit .. is skipped; the header runs to the first white space"
 abbrev pub headerText : Text → Text
-headerText u = start dark (after white u)
+headerText u = start visible (after white u)
 
 abbrev pub parameterText : Text → Text
-parameterText u = trim (after dark (after white u))
+parameterText u = trim (after visible (after white u))
 
 -- the checks in 01's order: 1, 2, 3, 4, then 5 to 7 in deedOf
 unfoldable pub readUnit : Settings → List Text → Text → Checked Read

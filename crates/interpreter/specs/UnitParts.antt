@@ -7,7 +7,7 @@ use lib.Dec.{leb, ltb}
 use lib.ListN.{length}
 use Rattle.registers.specs.Text.{Text, if_then_else_, white, printable, every, empty}
 use Rattle.registers.specs.Check.{Checked, refused, passed, _>>=_, _>>_, check}
-use Rattle.registers.specs.Errors.{numberOf}
+use Rattle.registers.specs.Error.{numberOf}
 use Rattle.registers.specs.Settings.{count, within, accepted}
 use Rattle.registers.specs.Status.{widest}
 use Rattle.registers.specs.declared.settings.Settings.{Settings}

@@ -13,7 +13,7 @@ ghost use mathlib.Core.List.{List};
 ghost use Prim.Native.Nat.{_≤_, _<_};
 ghost use lib.ListN.{length};
 ghost use Rattle.registers.specs.Text.{Text};
-ghost use Rattle.registers.specs.Status.{most};
+ghost use Rattle.registers.specs.Queue.{most};
 ghost use Rattle.interpreter.specs.Box.{mostAnswer};
 ghost use Rattle.interpreter.specs.RowsParts.{commandTable};
 ghost use Rattle.interpreter.specs.HeaderParts.{Holds, Held};

@@ -8,7 +8,7 @@ use crate::words::Words;
 use registers::error::Error;
 use registers::number;
 use registers::number::Decimal;
-use registers::number::Reading;
+use registers::number::ReadNumber;
 use registers::rounding;
 use registers::rounding::Fit;
 use registers::rounding::Rounded;
@@ -66,22 +66,22 @@ pub(crate) fn count(text: &[u8]) -> Counted
     }
     let mut parts: usize = 1;
     let mut full = true;
-    let mut dark = false;
+    let mut visible = false;
     let mut i: usize = 0;
     while i < text.len() {
         let b = text[i];
         i += 1;
         if b == b',' {
-            full = full & dark;
-            dark = false;
+            full = full & visible;
+            visible = false;
             parts += 1;
             continue;
         }
-        dark = dark | !text::is_white(b);
+        visible = visible | !text::is_white(b);
     }
     Counted {
         parts,
-        full: full & dark,
+        full: full & visible,
     }
 }
 
@@ -130,8 +130,8 @@ fn read_parameter(table: &[u8], takes: Takes, asked: bool, text: &[u8]) -> Param
     let quantity = takes.quantity;
     let reading = number::read(text, quantity);
     match reading {
-        Reading::Refused(e) => return Parameter::Refused(e),
-        Reading::Number(d) => return Parameter::Figure(d),
+        ReadNumber::Refused(e) => return Parameter::Refused(e),
+        ReadNumber::Number(d) => return Parameter::Figure(d),
     }
 }
 

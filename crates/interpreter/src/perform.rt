@@ -10,7 +10,7 @@ ghost use mathlib.Core.Path.{_≡_};
 ghost use mathlib.Core.Bool.{false};
 ghost use Prim.Native.Nat.{_≤_};
 ghost use Rattle.registers.specs.Check.{check};
-ghost use Rattle.registers.specs.Status.{most};
+ghost use Rattle.registers.specs.Queue.{most};
 ghost use Rattle.interpreter.specs.Perform.{conflicting, permitted};
 ghost use Rattle.interpreter.specs.PresentParts.{coreIn};
 ghost use Rattle.interpreter.specs.PerformParts.{settingsLeft, StatusLeft, After};

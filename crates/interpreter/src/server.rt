@@ -43,7 +43,8 @@ fn lines(
     let mut written: usize = 0;
     while (flow.read < input.len()) & (ANSWER <= output.len() - written) {
         flow = flow::feed_line(table, flow, line, out, input);
-        written = flow::paste(out, flow.present.answered, output, written);
+        let waiting = flow.present.answered;
+        written = flow::paste(out, waiting, output, written);
         flow.present.answered = 0;
     }
     Progress { flow, written }

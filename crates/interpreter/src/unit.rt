@@ -16,7 +16,7 @@ ghost use mathlib.Core.List.{List};
 ghost use Prim.Native.Nat.{_≤_};
 ghost use lib.ListN.{length, take, drop};
 ghost use Rattle.registers.specs.Text.{Text, every, white, printable};
-ghost use Rattle.registers.specs.Errors.{numberOf};
+ghost use Rattle.registers.specs.Error.{numberOf};
 ghost use Rattle.interpreter.specs.Cuts.{trim, trimEnd};
 ghost use Rattle.interpreter.specs.RowsParts.{rowCount, commandTable};
 ghost use Rattle.interpreter.specs.HeaderParts.{Holds, Held};

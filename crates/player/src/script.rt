@@ -3,9 +3,8 @@ use registers::text;
 ghost use mathlib.Core.Path.{_≡_};
 ghost use Prim.Native.Nat.{_+_, _-_, _*_, _^_, _≤_, _<_, min};
 ghost use lib.ListN.{length};
-ghost use Rattle.registers.specs.NumberParts.{held};
 ghost use Rattle.player.specs.Digits.{ValueOf};
-ghost use Rattle.player.specs.Numbers.{decimalOf};
+ghost use Rattle.player.specs.Numbers.{unreadable, decimalOf};
 
 // More than any place of the record holds: what decimal answers where it can't read a number.
 const UNREADABLE: u64 = 1_000_000_000_000;
@@ -43,8 +42,8 @@ fn hex_value(b: u8) -> u8
 
 // One digit more, held at UNREADABLE.
 fn with_digit(n: u64, b: u8) -> u64
-    requires { ⌜ (n ≤ held) × (48 ≤ b) ⌝ }
-    ensures { λ r. ⌜ r ≡ min held (n * 10 + (b - 48)) ⌝ }
+    requires { ⌜ (n ≤ unreadable) × (48 ≤ b) ⌝ }
+    ensures { λ r. ⌜ r ≡ min unreadable (n * 10 + (b - 48)) ⌝ }
 {
     let next = n * 10 + (b - 48) as u64;
     if next < UNREADABLE { next } else { UNREADABLE }

@@ -1,2 +1,2 @@
-pub mod ErrorLaws
+pub mod Tables
 pub mod Tests

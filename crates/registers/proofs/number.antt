@@ -1,4 +1,4 @@
 pub mod Numerals
 pub mod Laws
 pub mod Scaling
-pub mod Whole
+pub mod Verdict

@@ -1,4 +1,4 @@
 pub mod Laws
-pub mod Means
+pub mod Meaning
 pub mod Possible
 pub mod Conditions

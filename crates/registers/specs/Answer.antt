@@ -33,7 +33,7 @@ signedText f (negsuc n) = code "-" ∷ f (suc n)
 
 -- ---- a text in a lent tail
 
--- the text over the start of a tail, as far as the tail reaches; what stands behind the text is left as it was
+-- the text over the start of a tail, as far as the tail reaches; what stands after the text is left as it was
 unfoldable pub over : Text → Text → Text
 over [] tail = tail
 over (b ∷ text) [] = []

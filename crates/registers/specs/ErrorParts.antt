@@ -1,4 +1,4 @@
--- How the code keeps the texts of the errors. Nothing of 01 is defined here: see Errors.antt.
+-- How the code keeps the texts of the errors. Nothing of 01 is defined here: see Error.antt.
 use mathlib.Core.List.{List, [], _∷_, _++_}
 use Prim.Native.Nat.{ℕ, suc, _-_, _/_, _%_}
 use Prim.Native.Char.{code}
@@ -6,23 +6,30 @@ use Prim.Native.String.{String}
 use lib.Dec.{eqb}
 use lib.ListN.{length, getD, replicate}
 use Rattle.registers.specs.Text.{Text, if_then_else_, bytes}
-use Rattle.registers.specs.Errors.{messages}
+use Rattle.registers.specs.Error.{messages}
 
--- what stands behind a number in an answer: its text in quotes
+-- what stands after a number in an answer: its text in quotes
 abbrev pub quoted : String → Text
 quoted t = code "," ∷ code "\"" ∷ bytes t ++ code "\"" ∷ []
 
--- a row of 33 bytes: a number's high and low byte, the length of what stands behind the number, that itself, and zeros
+-- how wide a row is, and how many there are
+abbrev pub rowWidth : ℕ
+rowWidth = 33
+
+abbrev pub rowCount : ℕ
+rowCount = 20
+
+-- a row: a number's high and low byte, the length of what stands after the number in an answer, that itself, and zeros
 unfoldable pub messageRow : ℕ × String → Text
 messageRow m =
     let t = quoted (m .1) in
-    m .0 / 256 ∷ m .0 % 256 ∷ length t ∷ t ++ replicate (30 - length t) 0
+    m .0 / 256 ∷ m .0 % 256 ∷ length t ∷ t ++ replicate (rowWidth - 3 - length t) 0
 
 unfoldable pub tableOf : List (ℕ × String) → Text
 tableOf [] = []
 tableOf (m ∷ ms) = messageRow m ++ tableOf ms
 
--- behind the messages a row for each number that has none
+-- after the messages one row for every number that has none
 abbrev pub messageRows : List (ℕ × String)
 messageRows = messages ++ (0, "") ∷ []
 
@@ -33,7 +40,7 @@ messageTable = tableOf messageRows
 unfoldable pub messageAt : ℕ → ℕ × String
 messageAt row = getD messageRows row (0, "")
 
--- the first row with a number; behind the last where none has it
+-- the first row with a number; the one after the last where none has it
 unfoldable pub rowIn : List (ℕ × String) → ℕ → ℕ
 rowIn [] n = 0
 rowIn (m ∷ ms) n =

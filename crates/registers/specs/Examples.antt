@@ -14,7 +14,8 @@ use Rattle.registers.specs.Text.{Text, if_then_else_, bytes, white, digi
 use Rattle.registers.specs.Check.{Checked, refused, passed, _>>=_, _>>_, check}
 use Rattle.registers.specs.Words.{Node, must, may, shortForm}
 use Rattle.registers.specs.Answer.{inPlaces, decimal, tenths, over}
-use Rattle.registers.specs.Errors.{numberOf, eventBit, messages, messageIn, errorText, queueable, known}
+use Rattle.registers.specs.Error.{numberOf, eventBit, messages, messageIn, errorText}
+use Rattle.registers.specs.Queue.{queueable, mayBeQueued}
 use Rattle.registers.specs.Number.{afterSign, fractionOf, afterFraction, exponentOf, afterExponent, lowering, written, numeralFrom, decimalOf, valueOf, scaled, number}
 use Rattle.registers.specs.Suffix.{suffixes, noSuffix, powerIn, remains}
 use Rattle.registers.specs.Rounding.{nearest, sizeIn, rounded, fitted, sizeSide, sideIn, switchedOn}
@@ -58,10 +59,10 @@ data Example : Type 0 where
   sets : String → String → String → Example  -- a header, a number given for it at *RST, and what the header then answers
   refuses : String → ℕ → List String → Example  -- a header, an error, and texts that check 6 or 7 refuses by it at *RST
   limits : String → String → String → String → Example  -- a header's lowest, highest and own value at *RST, as answers
-  answers : List (String × ℤ) → String → String → Example  -- values stored by header from *RST on, and what a header then answers
+  answers : List (String × ℤ) → String → String → Example  -- values stored by header after *RST, and what a header then answers
   lays : String → String → String → Example  -- a text, a lent tail, and that tail with the text in it
   message : ℕ → String → Example  -- an error, and what SYSTem:ERRor? answers
-  event : RegisterSet → List Step → ℕ → Example  -- steps from power-up on, and a set's event register then
+  event : RegisterSet → List Step → ℕ → Example  -- steps after power-up, and a set's event register then
   events : List Step → ℕ → Example  -- .. the event status register
   queue : List Step → List ℕ → Example  -- .. the error queue
   register : List Step → Register → ℕ → Example  -- .. a register
@@ -98,7 +99,7 @@ examples =
     ∷ value "1E0000000009" false 1 9 0
     ∷ value "1E-9" false 1 0 9
     ∷ wrong 123 ("1E10" ∷ "0E10" ∷ "1E-10" ∷ "1E99999999999999" ∷ [])
-    -- something behind the number, or no number
+    -- something after the number, or no number
     ∷ wrong 138 ("5V" ∷ "1E" ∷ "1E+" ∷ "5 E3" ∷ "5E 3" ∷ "0x10" ∷ "1E5E5" ∷ "1E10V" ∷ [])
     ∷ wrong 121 ("1 2" ∷ "1.2.3" ∷ "1_0" ∷ "5%" ∷ "+" ∷ "-" ∷ "." ∷ "--5" ∷ "- 5" ∷ "+V" ∷ ".E5" ∷ [])
     -- suffixes, in any letter case, with or without white space before: the whole of what remains, exactly scaled
@@ -397,7 +398,7 @@ holds (possible s on) = alike (possibleStatus s) on
 all-hold : T (every holds examples)
 unfolding examples passes fails alike sameFit sameSide fit stepsOf shortest rowIn row given answered storedAll step stepsFrom holds
     if_then_else_ bytes white digit small letter capital same _>>=_ _>>_ check shortForm inPlaces decimal tenths over
-    eventBit messages messageIn errorText queueable known
+    eventBit messages messageIn errorText queueable mayBeQueued
     afterSign fractionOf afterFraction exponentOf afterExponent lowering written numeralFrom decimalOf valueOf scaled suffixes noSuffix powerIn remains number switchedOn
     nearest sizeIn rounded fitted sizeSide sideIn
     table settingAt atReset wideRange lowest highest within conflict examined accepted stored answerOf

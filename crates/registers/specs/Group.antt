@@ -57,6 +57,6 @@ possibleGroup g =
 abbrev pub groupAtStart : Group
 groupAtStart = record { condition = 0; event = 0; enable = 0; ptr = widestGroup; ntr = 0 }
 
--- a group of zeros: what a place behind the three holds
+-- a group of zeros: what a place past the three holds
 abbrev pub noGroup : Group
 noGroup = record { condition = 0; event = 0; enable = 0; ptr = 0; ntr = 0 }

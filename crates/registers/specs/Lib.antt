@@ -1,13 +1,13 @@
 -- The definitions that the contracts cite, in the words of document 01. A file whose name ends in `Parts` holds only what private
 -- functions say; `Examples` has the worked values.
 pub mod Text
-pub mod TextParts
 pub mod Check
 pub mod Words
 pub mod Answer
 pub mod AnswerParts
-pub mod Errors
+pub mod Error
 pub mod ErrorParts
+pub mod Queue
 pub mod Suffix
 pub mod SuffixParts
 pub mod Number

@@ -7,11 +7,11 @@ use lib.Dec.{leb, eqb}
 use lib.ListN.{length}
 use Rattle.registers.specs.Text.{Text, if_then_else_, digit, white, capital, empty, first, rest, start, after}
 use Rattle.registers.specs.Check.{Checked, refused, passed, _>>=_, _>>_, check}
-use Rattle.registers.specs.Errors.{numberOf}
+use Rattle.registers.specs.Error.{numberOf}
 use Rattle.registers.specs.Suffix.{remains}
 use Rattle.registers.specs.declared.number.Decimal.{Decimal}
-use Rattle.registers.specs.declared.number.Reading.{Reading}
-use Rattle.registers.specs.declared.number.Reading.the-variants.{Refused, Number}
+use Rattle.registers.specs.declared.number.ReadNumber.{ReadNumber}
+use Rattle.registers.specs.declared.number.ReadNumber.the-variants.{Refused, Number}
 use Rattle.registers.specs.declared.suffix.Power.{Power}
 use Rattle.registers.specs.declared.suffix.Quantity.{Quantity}
 
@@ -27,7 +27,7 @@ point b = eqb b (code ".")
 unfoldable pub afterSign : Text → Text
 afterSign t = if sign (first t) then rest t else t
 
--- the digits behind the point that a text starts with, and what stands after them
+-- the digits after the point that a text starts with, and what stands after them
 unfoldable pub fractionOf : Text → Text
 fractionOf t = if point (first t) then start digit (rest t) else []
 
@@ -49,28 +49,28 @@ lowering t = not (empty (exponentOf t)) && eqb (first (rest t)) (code "-")
 pub record Written : Type 0 where
   pub minus : Bool  -- its sign is a minus
   pub whole : Text  -- the digits before the point
-  pub fraction : Text  -- the digits behind it
+  pub fraction : Text  -- the digits after it
   pub lowers : Bool  -- the exponent's sign is a minus
   pub exponent : Text  -- the exponent's digits
-  pub remainder : Text  -- what stands behind the number
+  pub remainder : Text  -- what stands after the number
 
 -- "The longest such start is read"
 unfoldable pub written : Text → Written
 written t =
-    let behindWhole = after digit (afterSign t) in
-    let behind = afterFraction behindWhole in
+    let afterWhole = after digit (afterSign t) in
+    let left = afterFraction afterWhole in
     record {
       minus = eqb (first t) (code "-");
       whole = start digit (afterSign t);
-      fraction = fractionOf behindWhole;
-      lowers = lowering behind;
-      exponent = exponentOf behind;
-      remainder = afterExponent behind;
+      fraction = fractionOf afterWhole;
+      lowers = lowering left;
+      exponent = exponentOf left;
+      remainder = afterExponent left;
     }
 
 -- ---- the exact decimal value: the digits, times 10 to the power up, over 10 to the power down, with the sign
 
--- digits as a number, behind those of n
+-- digits as a number, after those of n
 unfoldable pub numeralFrom : ℕ → Text → ℕ
 numeralFrom n [] = n
 numeralFrom n (d ∷ ds) = numeralFrom (n * 10 + (d - code "0")) ds
@@ -78,7 +78,7 @@ numeralFrom n (d ∷ ds) = numeralFrom (n * 10 + (d - code "0")) ds
 abbrev pub numeral : Text → ℕ
 numeral ds = numeralFrom 0 ds
 
--- of a sign, all the digits, how many of them are behind the point, and the exponent
+-- of a sign, all the digits, how many of them stand after the point, and the exponent
 unfoldable pub decimalOf : Bool → ℕ → ℕ → Bool → ℕ → Decimal
 decimalOf minus digits places lowers exponent =
     record {
@@ -119,6 +119,6 @@ number q t =
 -- ---- what the reader's answer means
 
 -- a refusal by 01's number, a number by its value
-abbrev pub meant : Reading → Checked Decimal
+abbrev pub meant : ReadNumber → Checked Decimal
 meant (Refused e) = refused (numberOf e)
 meant (Number d) = passed d

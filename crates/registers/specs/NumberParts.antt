@@ -18,7 +18,7 @@ use Rattle.registers.specs.declared.suffix.Power.{Power}
 abbrev pub held : ℕ
 held = 1000000000000
 
--- the digits of t from a place on
+-- the digits of t that start at a place, read after those of the number `from`
 pub record DigitsRead (t : Text) (at from : ℕ) (r : Digits) : Type 0 where
   pub value : r .value ≡ min held (numeralFrom from (start digit (drop at t)))
   pub end : r .end ≡ at + length (start digit (drop at t))
@@ -29,7 +29,7 @@ pub record DigitsRead (t : Text) (at from : ℕ) (r : Digits) : Type 0 where
 abbrev pub mantissaOf : Text → Text
 mantissaOf t = start digit t ++ fractionOf (after digit t)
 
--- the digits of t from a place on, and the point and the digits behind it
+-- the digits of t that start at a place, with the point and the digits after it
 pub record MantissaRead (t : Text) (at : ℕ) (r : Mantissa) : Type 0 where
   pub value : r .value ≡ min held (numeral (mantissaOf (drop at t)))
   pub count : r .count ≡ length (mantissaOf (drop at t))

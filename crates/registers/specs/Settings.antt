@@ -43,7 +43,7 @@ minus n = negℤ (pos n)
 abbrev pub underLimit : List Node → List Node
 underLimit nodes = may "SOURce" ∷ must "CURRent" ∷ must "LIMit" ∷ nodes
 
--- "The sixteen settings", in 01's order, and behind them the one that 02 adds
+-- "The sixteen settings", in 01's order, and after them the one that 02 adds
 unfoldable pub table : List Setting
 table =
     row (must "OUTPut" ∷ may "STATe" ∷ []) bool Nothing (pos 0)
@@ -81,7 +81,7 @@ range = 5
 abbrev pub exam : ℕ
 exam = 16
 
--- the row at a place; behind the table a bool that has no header
+-- the row at a place; past the table a bool that has no header
 unfoldable pub settingAt : ℕ → Setting
 settingAt i = getD table i (row [] bool Nothing (pos 0))
 

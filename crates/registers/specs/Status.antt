@@ -7,7 +7,8 @@ use lib.Dec.{leb, ltb, eqb}
 use lib.ListN.{length, take, drop, set, getD, replicate}
 use lib.Bits.{bitAnd, bitOr}
 use Rattle.registers.specs.Text.{if_then_else_, every, empty, rest}
-use Rattle.registers.specs.Errors.{eventBit, overflow, known}
+use Rattle.registers.specs.Error.{eventBit, overflow}
+use Rattle.registers.specs.Queue.{mayBeQueued, most}
 use Rattle.registers.specs.Group.{meet, conditionIs, eventRead, withEnable, withPtr, withNtr, possibleGroup, groupAtStart, noGroup, widestGroup}
 use Rattle.registers.specs.declared.group.Group.{Group}
 use Rattle.registers.specs.declared.status.Status.{Status}
@@ -34,10 +35,6 @@ abbrev pub troubleOf : Status → Trouble
 troubleOf s = record { events = s .events; queue = take (s .queued) (s .errors) }
 
 -- ---- errors
-
--- "The queue holds 16 numbers"
-abbrev pub most : ℕ
-most = 16
 
 -- "An error raised when it is full turns the sixteenth into -350 and sets bit 3 besides its own bit"
 unfoldable pub raised : ℕ → Trouble → Trouble
@@ -165,7 +162,7 @@ possibleRegisters r = leb (r .ese) widestByte && leb (r .sre) widestByte && eqb 
 
 -- "a queue above 16 or holding a number this paper never puts there"; the event status register above 255
 unfoldable pub possibleTrouble : Trouble → Bool
-possibleTrouble t = leb (length (t .queue)) most && (leb (t .events) widestByte && every known (t .queue))
+possibleTrouble t = leb (length (t .queue)) most && (leb (t .events) widestByte && every mayBeQueued (t .queue))
 
 -- the record's own queue length is tested, since `troubleOf` cuts the queue to its sixteen places
 unfoldable pub possibleStatus : Status → Bool
@@ -197,7 +194,7 @@ clearedIn s = withRegisters (allRead (registersOf s)) (withTrouble 0 0 (s .error
 unfoldable pub eventsIn : ℕ → Status → Status
 eventsIn n s = withTrouble n (s .queued) (s .errors) s
 
--- the oldest error removed, as `oldestRead` says; the numbers move up and a 0 comes behind them
+-- the oldest error removed, as `oldestRead` says; the numbers move up and a 0 follows them
 unfoldable pub oldestReadIn : Status → Status
 oldestReadIn s =
     if eqb (s .queued) 0 then s else withTrouble (s .events) (s .queued - 1) (drop 1 (s .errors) ++ 0 ∷ []) s

@@ -1,4 +1,4 @@
--- Unit suffixes (02, #101): what may stand behind a number, and the power of ten by which it multiplies the number.
+-- Unit suffixes (02, #101): what may stand after a number, and the power of ten by which it multiplies the number.
 use mathlib.Core.List.{List, [], _∷_, map}
 use Prim.Native.Nat.{ℕ}
 use Prim.Native.String.{String}
@@ -43,6 +43,6 @@ unfoldable pub powerIn : ℕ → List (String × Power) → Text → Checked Pow
 powerIn n [] t = refused n
 powerIn n (x ∷ xs) t = if same (map capital t) (bytes (x .0)) then passed (x .1) else powerIn n xs t
 
--- check 6, what stands behind a number and its white space: a suffix, the whole of it; "else -121"
+-- check 6, what remains after a number and its white space: a suffix, the whole of it; "else -121"
 unfoldable pub remains : Quantity → Text → Checked Power
 remains q t = if letter (first t) then powerIn (noSuffix q) (suffixes q) t else (check 121 (empty t) >> passed one)

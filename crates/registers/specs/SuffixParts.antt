@@ -8,7 +8,7 @@ use lib.Dec.{eqb}
 use lib.ListN.{length}
 use Rattle.registers.specs.Text.{Text, if_then_else_, bytes, capital, first, rest}
 use Rattle.registers.specs.Check.{Checked, refused, passed}
-use Rattle.registers.specs.Errors.{numberOf}
+use Rattle.registers.specs.Error.{numberOf}
 use Rattle.registers.specs.Suffix.{one, milli, suffixes, noSuffix}
 use Rattle.registers.specs.declared.suffix.Power.{Power}
 use Rattle.registers.specs.declared.suffix.Quantity.{Quantity}

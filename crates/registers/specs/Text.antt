@@ -31,8 +31,8 @@ unfoldable pub white : ℕ → Bool
 white b = leb b 32 && not (eqb b 10)
 
 -- any byte that is no white space
-abbrev pub dark : ℕ → Bool
-dark b = not (white b)
+abbrev pub visible : ℕ → Bool
+visible b = not (white b)
 
 -- check 1: besides white space a unit may hold "33 to 126"
 unfoldable pub printable : ℕ → Bool

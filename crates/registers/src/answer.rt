@@ -12,7 +12,7 @@ struct Sign {
     size: u32,
 }
 
-// One byte, where the tail reaches.
+// Writes one byte; a place past the end is left out, since a tail may be shorter than its text.
 pub(crate) fn put(tail: &mut [u8], at: usize, b: u8)
     ensures { λ _. ⌜ now (tail .exit) ≡ set (now (tail .entry)) at b ⌝ }
 {
@@ -21,7 +21,7 @@ pub(crate) fn put(tail: &mut [u8], at: usize, b: u8)
     }
 }
 
-// A text from a place on.
+// Writes a text at a place of the tail, and answers where it ends, so that the next can follow it.
 pub(crate) fn text_at(text: &[u8], tail: &mut [u8], at: usize) -> usize
     requires { ⌜ at ≤ 100 ⌝ }
     ensures { λ r. ⌜ LaidAt at (now (text .entry)) (now (tail .entry)) r (now (tail .exit)) ⌝ }
@@ -34,36 +34,36 @@ pub(crate) fn text_at(text: &[u8], tail: &mut [u8], at: usize) -> usize
     at + i
 }
 
-// A number in decimal from a place on.
+// Writes a number in decimal: first the digits before the last, by a call with a tenth of it.
 pub(crate) fn decimal_at(n: u32, tail: &mut [u8], at: usize) -> usize
     requires { ⌜ at ≤ 100 ⌝ }
     ensures { λ r. ⌜ LaidAt at (decimal n) (now (tail .entry)) r (now (tail .exit)) ⌝ }
 {
     if n < 10 {
-        put(tail, at, (48 + n) as u8);
+        put(tail, at, b'0' + n as u8);
         return at + 1;
     }
     let end = decimal_at(n / 10, tail, at);
-    put(tail, end, (48 + n % 10) as u8);
+    put(tail, end, b'0' + (n % 10) as u8);
     end + 1
 }
 
-// A number of tenths with its point, from a place on.
+// Writes a number of tenths: the whole ones, a point and the last digit.
 fn tenths_at(n: u32, tail: &mut [u8], at: usize) -> usize
     requires { ⌜ at ≤ 1 ⌝ }
     ensures { λ r. ⌜ LaidAt at (tenths n) (now (tail .entry)) r (now (tail .exit)) ⌝ }
 {
     let end = decimal_at(n / 10, tail, at);
-    put(tail, end, 46);
+    put(tail, end, b'.');
     decimal_at(n % 10, tail, end + 1)
 }
 
-// A minus, where the value is below zero, and the value without its sign.
+// Writes a minus where the value is below zero. The size is unsigned, so that the lowest i32 has one too.
 fn sign_of(value: i32, tail: &mut [u8]) -> Sign
     ensures { λ r. ⌜ SignLaid value (now (tail .entry)) r (now (tail .exit)) ⌝ }
 {
     if value < 0 {
-        put(tail, 0, 45);
+        put(tail, 0, b'-');
         return Sign {
             end: 1,
             size: (0 - (value as i64)) as u32,
@@ -75,7 +75,7 @@ fn sign_of(value: i32, tail: &mut [u8]) -> Sign
     }
 }
 
-// A text as it stands.
+// Writes a text that needs no conversion.
 pub fn write_text(text: &[u8], tail: &mut [u8]) -> usize
     ensures { λ r. ⌜ Laid (now (text .entry)) (now (tail .entry)) r (now (tail .exit)) ⌝ }
 {
@@ -89,7 +89,7 @@ pub fn write_decimal(n: u32, tail: &mut [u8]) -> usize
     decimal_at(n, tail, 0)
 }
 
-// A plain integer.
+// Writes a bool or a number of step 1: "0 or 1; plain integers".
 pub fn write_whole(value: i32, tail: &mut [u8]) -> usize
     ensures { λ r. ⌜ Laid (signedText decimal value) (now (tail .entry)) r (now (tail .exit)) ⌝ }
 {
@@ -97,7 +97,7 @@ pub fn write_whole(value: i32, tail: &mut [u8]) -> usize
     decimal_at(sign.size, tail, sign.end)
 }
 
-// One decimal for step 0.1, of a value in tenths.
+// Writes a value in tenths: "one decimal for step 0.1", and "never `-0.0`", since zero has no sign.
 pub fn write_tenths(value: i32, tail: &mut [u8]) -> usize
     ensures { λ r. ⌜ Laid (signedText tenths value) (now (tail .entry)) r (now (tail .exit)) ⌝ }
 {

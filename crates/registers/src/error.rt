@@ -4,7 +4,7 @@ ghost use mathlib.Core.Path.{_≡_};
 ghost use Prim.Native.Nat.{_≤_};
 ghost use Rattle.registers.specs.Answer.{Laid};
 ghost use Rattle.registers.specs.AnswerParts.{LaidAt};
-ghost use Rattle.registers.specs.Errors.{numberOf, eventBit, known, messages, messageIn, errorText};
+ghost use Rattle.registers.specs.Error.{numberOf, eventBit, messages, messageIn, errorText};
 ghost use Rattle.registers.specs.ErrorParts.{messageTable, rowIn, quoted};
 
 // An error by the text that SCPI-99 gives it. -350 is not among them: it is put into a full queue
@@ -30,30 +30,8 @@ pub enum Error {
     QueryDeadlocked,
 }
 
-const QUEUEABLE: [u16; 19] = [
-    101,
-    102,
-    104,
-    108,
-    109,
-    113,
-    121,
-    123,
-    124,
-    131,
-    138,
-    141,
-    221,
-    222,
-    350,
-    363,
-    410,
-    420,
-    430,
-];
-
 impl Error {
-    // 01's number, without its minus.
+    // Gives 01's number without its minus, as the queue holds it.
     pub fn number(self) -> u16
         ensures { λ r. ⌜ r ≡ numberOf self ⌝ }
     {
@@ -80,7 +58,7 @@ impl Error {
     }
 }
 
-// The event bit of an error number, by its hundreds.
+// "A raised error sets one event bit by its hundreds", which this tells by comparison.
 pub(crate) fn event_bit(number: u16) -> u16
     ensures { λ r. ⌜ r ≡ eventBit number ⌝ }
 {
@@ -95,34 +73,21 @@ pub(crate) fn event_bit(number: u16) -> u16
     }
 }
 
-// Whether 01 puts a number into the queue.
-pub(crate) fn is_known(number: u16) -> bool
-    ensures { λ r. ⌜ r ≡ known number ⌝ }
-{
-    let numbers = QUEUEABLE;
-    let mut i: usize = 0;
-    while i < numbers.len() {
-        if numbers[i] == number {
-            return true;
-        }
-        i += 1;
-    }
-    false
-}
-
-// ---- the texts, in a table of 33 bytes a row: the number's two bytes, a length, and what stands
-// behind the number in an answer. The last row is for each number that has no text.
+// ---- the texts, in a table of rows: the number's two bytes, a length, what stands after the number
+// in an answer, and zeros. The last row is for every number that has no text.
 
 const ROWS: usize = 20;
 
-// The first row with a number, or the last where none has it.
+const WIDTH: usize = 33;
+
+// Finds the first row with a number; where none has it, the last row, which has no text.
 fn row_of(table: &[u8], number: u16) -> usize
     requires { ⌜ now table ≡ messageTable ⌝ }
     ensures { λ r. ⌜ r ≡ rowIn messages number ⌝ }
 {
     let mut row: usize = 0;
     while row < ROWS {
-        let at = row * 33;
+        let at = row * WIDTH;
         if table[at] as u16 * 256 + table[at + 1] as u16 == number {
             return row;
         }
@@ -131,18 +96,18 @@ fn row_of(table: &[u8], number: u16) -> usize
     ROWS
 }
 
-// A comma and the text of a number in quotes, from a place on.
+// Writes what follows the number in an answer: a comma and the number's text in quotes.
 fn quoted_at(table: &[u8], number: u16, tail: &mut [u8], at: usize) -> usize
     requires { ⌜ (now table ≡ messageTable) × (at ≤ 100) ⌝ }
     ensures { λ r. ⌜ LaidAt at (quoted (messageIn messages number)) (now (tail .entry)) r (now (tail .exit)) ⌝ }
 {
-    let row = row_of(table, number) * 33;
+    let row = row_of(table, number) * WIDTH;
     let start = row + 3;
     let end = start + table[row + 2] as usize;
     answer::text_at(&table[start..end], tail, at)
 }
 
-// What SYSTem:ERRor? answers, "with its SCPI-99 text": the queue holds 222, the answer has -222.
+// Writes what SYSTem:ERRor? answers for a number of the queue, which holds 222 for -222.
 pub fn write_error(number: u16, tail: &mut [u8]) -> usize
     ensures { λ r. ⌜ Laid (errorText number) (now (tail .entry)) r (now (tail .exit)) ⌝ }
 {

@@ -1,5 +1,7 @@
 // A register group: the five registers of STATus:OPERation, of STATus:LOCK or of STATus:WARNing.
 ghost use mathlib.Core.Path.{_≡_};
+ghost use mathlib.Core.List.{map};
+ghost use Rattle.registers.specs.Text.{every};
 ghost use Rattle.registers.specs.Group.{meet, conditionIs, eventRead, possibleGroup, groupAtStart};
 
 pub struct Group {
@@ -9,6 +11,9 @@ pub struct Group {
     pub ptr: u16,
     pub ntr: u16,
 }
+
+// How many groups the status record has.
+pub(crate) const COUNT: usize = 3;
 
 impl Group {
     // The widest value of each register.
@@ -26,7 +31,7 @@ impl Group {
         }
     }
 
-    // The condition is reported: bits that rise under PTR or fall under NTR become events.
+    // The box reports the condition: bits that rise under PTR or fall under NTR become events.
     pub(crate) fn report(mut self, condition: u16) -> Group
         ensures { λ r. ⌜ r ≡ conditionIs condition self ⌝ }
     {
@@ -38,7 +43,7 @@ impl Group {
         self
     }
 
-    // The event register is read, and so cleared.
+    // Reading the event register clears it.
     pub(crate) fn read_event(mut self) -> Group
         ensures { λ r. ⌜ r ≡ eventRead self ⌝ }
     {
@@ -46,14 +51,14 @@ impl Group {
         self
     }
 
-    // Whether an event is enabled.
+    // Tells whether an event is enabled, which is the group's bit in the status byte.
     pub(crate) fn sums_up(self) -> bool
         ensures { λ r. ⌜ r ≡ meet (self .event) (self .enable) ⌝ }
     {
         self.event & self.enable != 0
     }
 
-    // Refusal 4 on the group: no register above its width.
+    // Refusal 4 lets no register pass that is above its width.
     pub(crate) fn possible(self) -> bool
         ensures { λ r. ⌜ r ≡ possibleGroup self ⌝ }
     {
@@ -63,4 +68,22 @@ impl Group {
             & (self.ptr <= Group::WIDEST)
             & (self.ntr <= Group::WIDEST)
     }
+}
+
+// *CLS clears every event register.
+pub(crate) fn all_read(groups: [Group; COUNT]) -> [Group; COUNT]
+    ensures { λ r. ⌜ r ≡ map eventRead groups ⌝ }
+{
+    [
+        groups[0].read_event(),
+        groups[1].read_event(),
+        groups[2].read_event(),
+    ]
+}
+
+// Refusal 4 tests every group.
+pub(crate) fn all_possible(groups: [Group; COUNT]) -> bool
+    ensures { λ r. ⌜ r ≡ every possibleGroup groups ⌝ }
+{
+    groups[0].possible() & groups[1].possible() & groups[2].possible()
 }

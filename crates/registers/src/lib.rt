@@ -7,6 +7,7 @@ pub mod answer;
 pub mod error;
 pub mod group;
 pub mod number;
+mod queue;
 pub mod rounding;
 pub mod settings;
 pub mod status;

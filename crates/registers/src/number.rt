@@ -1,4 +1,4 @@
-// Check 6: the number that a parameter starts with, exactly, scaled by the suffix behind it.
+// Check 6: the number that a parameter starts with, exactly, scaled by the suffix after it.
 use crate::error::Error;
 use crate::suffix;
 use crate::suffix::Power;
@@ -20,7 +20,7 @@ pub struct Decimal {
 }
 
 // What check 6 says of a parameter.
-pub enum Reading {
+pub enum ReadNumber {
     Refused(Error),
     Number(Decimal),
 }
@@ -47,7 +47,7 @@ struct Exponent {
 // and so nothing wraps however many digits a line holds.
 const HELD: u64 = 1_000_000_000_000;
 
-// The digits from a place on, behind those of `from`.
+// Reads the digits at a place. They go on from the number `from`, as a fraction's do from the whole.
 fn read_digits(text: &[u8], at: usize, from: u64) -> Digits
     requires { ⌜ (at ≤ length (now text)) × (from ≤ held) ⌝ }
     ensures { λ r. ⌜ DigitsRead (now (text .entry)) at from r ⌝ }
@@ -59,21 +59,21 @@ fn read_digits(text: &[u8], at: usize, from: u64) -> Digits
         if !text::is_digit(b) {
             return Digits { value, end: i };
         }
-        let next = value * 10 + (b - 48) as u64;
+        let next = value * 10 + (b - b'0') as u64;
         value = if next < HELD { next } else { HELD };
         i += 1;
     }
     Digits { value, end: i }
 }
 
-// Digits with an optional point.
+// Reads digits with an optional point, and counts those after it: each lowers the value by ten.
 fn read_mantissa(text: &[u8], at: usize) -> Mantissa
     requires { ⌜ at ≤ length (now text) ⌝ }
     ensures { λ r. ⌜ MantissaRead (now (text .entry)) at r ⌝ }
 {
     let whole = read_digits(text, at, 0);
     let point = whole.end;
-    if text::byte_at(text, point) != 46 {
+    if text::byte_at(text, point) != b'.' {
         return Mantissa {
             value: whole.value,
             count: point - at,
@@ -90,7 +90,7 @@ fn read_mantissa(text: &[u8], at: usize) -> Mantissa
     }
 }
 
-// The exponent: `E` without a digit is none.
+// Reads an exponent. `E` without a digit is none, and is left to the suffix.
 fn read_exponent(text: &[u8], at: usize) -> Exponent
     requires { ⌜ at ≤ length (now text) ⌝ }
     ensures { λ r. ⌜ ExponentRead (now (text .entry)) at r ⌝ }
@@ -101,55 +101,55 @@ fn read_exponent(text: &[u8], at: usize) -> Exponent
         end: at,
     };
     let e = text::in_capitals(text::byte_at(text, at));
-    if e != 69 {
+    if e != b'E' {
         return none;
     }
     let sign = text::byte_at(text, at + 1);
-    let s = at + 1 + ((sign == 43) | (sign == 45)) as usize;
+    let s = at + 1 + ((sign == b'+') | (sign == b'-')) as usize;
     let d = read_digits(text, s, 0);
     if d.end == s {
         return none;
     }
     Exponent {
-        lowers: sign == 45,
+        lowers: sign == b'-',
         size: d.value,
         end: d.end,
     }
 }
 
-// How far a number is above another, 0 where it is not.
+// Tells how far a number is above another, 0 where it is not: powers of ten have no sign here.
 fn above(a: u64, b: u64) -> u64
     ensures { λ r. ⌜ r ≡ a - b ⌝ }
 {
     if b < a { a - b } else { 0 }
 }
 
-// The last of check 6: not too many digits, no exponent too large, and the exact value, scaled by the
-// suffix.
-fn valued(minus: bool, mantissa: Mantissa, exponent: Exponent, power: Power) -> Reading
+// Ends check 6: -124 for too many digits, then -123 for too large an exponent, then the exact value,
+// scaled by the suffix.
+fn valued(minus: bool, mantissa: Mantissa, exponent: Exponent, power: Power) -> ReadNumber
     requires { ⌜ mantissa .places < 2 ^ 63 ⌝ }
     ensures { λ r. ⌜ meant r ≡ valueRead minus mantissa exponent power ⌝ }
 {
     let digits = mantissa.value;
     if HELD <= digits {
-        return Reading::Refused(Error::TooManyDigits);
+        return ReadNumber::Refused(Error::TooManyDigits);
     }
     let size = exponent.size;
     if 9 < size {
-        return Reading::Refused(Error::ExponentTooLarge);
+        return ReadNumber::Refused(Error::ExponentTooLarge);
     }
     let places = mantissa.places as u64;
     let up = power.up as u32;
     let down = power.down as u64;
     if exponent.lowers {
-        return Reading::Number(Decimal {
+        return ReadNumber::Number(Decimal {
             minus,
             digits,
             up,
             down: places + size + down,
         });
     }
-    Reading::Number(Decimal {
+    ReadNumber::Number(Decimal {
         minus,
         digits,
         up: above(size, places) as u32 + up,
@@ -158,18 +158,18 @@ fn valued(minus: bool, mantissa: Mantissa, exponent: Exponent, power: Power) -> 
 }
 
 // Reads a parameter that starts with a digit, a sign or a point, for a row of some quantity.
-pub fn read(text: &[u8], quantity: Quantity) -> Reading
+pub fn read(text: &[u8], quantity: Quantity) -> ReadNumber
     ensures { λ r. ⌜ meant r ≡ number quantity (now (text .entry)) ⌝ }
 {
     let sign = text::byte_at(text, 0);
-    let mantissa = read_mantissa(text, ((sign == 43) | (sign == 45)) as usize);
+    let mantissa = read_mantissa(text, ((sign == b'+') | (sign == b'-')) as usize);
     if mantissa.count == 0 {
-        return Reading::Refused(Error::InvalidCharacterInNumber);
+        return ReadNumber::Refused(Error::InvalidCharacterInNumber);
     }
     let exponent = read_exponent(text, mantissa.end);
     let scale = suffix::read(text, text::white_end(text, exponent.end), quantity);
     match scale {
-        Scale::Refused(e) => return Reading::Refused(e),
-        Scale::By(power) => return valued(sign == 45, mantissa, exponent, power),
+        Scale::Refused(e) => return ReadNumber::Refused(e),
+        Scale::By(power) => return valued(sign == b'-', mantissa, exponent, power),
     }
 }

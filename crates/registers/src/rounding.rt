@@ -42,7 +42,7 @@ struct Stepped {
 // holding changes no comparison and nothing wraps.
 const BEYOND: u64 = 2_147_483_649;
 
-// x times 10 to the power n, held.
+// Multiplies by 10 to the power n and stops at the bound, however large n is.
 fn raised(x: u64, n: u64) -> u64
     ensures { λ r. ⌜ r ≡ min beyond (x * 10 ^ n) ⌝ }
 {
@@ -55,8 +55,8 @@ fn raised(x: u64, n: u64) -> u64
     if y < BEYOND { y } else { BEYOND }
 }
 
-// x over 10 to the power n + 1, rounded: only the last digit that is cut off decides. The size is exact where every digit
-// that is cut off is 0.
+// Divides by 10 to the power n + 1 and rounds: only the last digit that is cut off decides. The size
+// is exact where every digit that is cut off is 0.
 fn lowered(x: u64, n: u64) -> Sized
     ensures { λ r. ⌜ r ≡ sizedOver x (10 ^ (n + 1)) ⌝ }
 {
@@ -88,7 +88,8 @@ fn lowered(x: u64, n: u64) -> Sized
     }
 }
 
-// x times 10 to the power up over 10 to the power down, rounded and held.
+// Rounds x times 10 to the power up over 10 to the power down. Only how far one power is above the
+// other matters, so one loop runs and no power is computed.
 fn size_of(x: u64, up: u64, down: u64) -> Sized
     ensures { λ r. ⌜ r ≡ heldOver (x * 10 ^ up) (10 ^ down) ⌝ }
 {
@@ -107,7 +108,7 @@ fn size_of(x: u64, up: u64, down: u64) -> Sized
     }
 }
 
-// The side with the sign changed.
+// Turns the side with the sign: below zero the smaller size is the greater value.
 fn turned(side: Side) -> Side
     ensures { λ r. ⌜ r ≡ turned true side ⌝ }
 {
@@ -118,7 +119,8 @@ fn turned(side: Side) -> Side
     }
 }
 
-// The value in steps of which 10 to the power tens make one, held.
+// Counts a value in steps of which 10 to the power tens make one. It stays held, in 64 bits, so that
+// the sign can't wrap it.
 fn steps(d: Decimal, tens: u32) -> Stepped
     ensures { λ r. ⌜ r ≡ heldIn (10 ^ tens) d ⌝ }
 {
@@ -137,7 +139,8 @@ fn steps(d: Decimal, tens: u32) -> Stepped
     Stepped { value: size, side }
 }
 
-// Check 7 for a row of which 10 to the power tens steps make one.
+// Makes check 7 for a row of which 10 to the power tens steps make one: it rounds, and only then
+// compares.
 pub fn round_in(d: Decimal, tens: u32, low: i32, high: i32) -> Rounded
     ensures { λ r. ⌜ RoundedIn (10 ^ tens) low high d r ⌝ }
 {

@@ -1,11 +1,29 @@
-// The seventeen settings, by their row in 01's table and SYSTem:EXAM behind it: bools 0 and 1, words by their place,
-// numbers in steps, the negative peak limit as signed tenths.
+// The seventeen settings, by their row in 01's table and SYSTem:EXAM after it: bools 0 and 1, words by
+// their place, numbers in steps, the negative peak limit as signed tenths.
 use crate::rounding::Side;
 use crate::suffix::Quantity;
 ghost use mathlib.Core.Path.{_≡_};
 ghost use Rattle.registers.specs.Settings.{valueAt, atReset, lowest, highest, within, conflict, possibleSettings, stored, kindOf, quantityOf, sortOf, meantValues, accepted};
 
-// How many there are.
+// The rows, as every array below has them:
+//
+//    0  OUTPut[:STATe]
+//    1  OUTPut:PON
+//    2  OUTPut:RELay
+//    3  OUTPut:MONitor:MODE
+//    4  [SOURce:]VOLTage[:LEVel][:IMMediate][:AMPLitude]
+//    5  [SOURce:]VOLTage:RANGe
+//    6  [SOURce:]FREQuency
+//    7  [SOURce:]CURRent:LIMit:RMS[:AMPLitude]
+//    8  [SOURce:]CURRent:LIMit:RMS:MODE
+//    9  [SOURce:]CURRent:LIMit:PEAK:MODE
+//   10  [SOURce:]CURRent:LIMit:RMS:TIME
+//   11  [SOURce:]CURRent:LIMit:PEAK:TIME
+//   12  [SOURce:]CURRent:LIMit:PEAK:HIGH
+//   13  [SOURce:]CURRent:LIMit:PEAK:LOW
+//   14  DISPlay:BRIGhtness
+//   15  SYSTem:KLOCk
+//   16  SYSTem:EXAM
 const ROWS: usize = 17;
 
 pub struct Settings {
@@ -52,7 +70,7 @@ impl Settings {
         }
     }
 
-    // What a row's values are; a row behind the table counts as a bool.
+    // Tells what a row's values are; a row past the table counts as a bool.
     pub fn values_of(row: usize) -> Values
         ensures { λ r. ⌜ meantValues r ≡ sortOf (kindOf row) ⌝ }
     {
@@ -69,7 +87,8 @@ impl Settings {
         }
     }
 
-    // What a row's numbers measure; a row behind the table measures nothing.
+    // Tells what a row's numbers measure, and so which suffixes they take; past the table they measure
+    // nothing.
     pub fn quantity_of(row: usize) -> Quantity
         ensures { λ r. ⌜ r ≡ quantityOf row ⌝ }
     {
@@ -87,7 +106,7 @@ impl Settings {
         }
     }
 
-    // The lowest value of a row.
+    // Gives the lowest value of a row, which MINimum stands for.
     pub fn lowest(row: usize) -> i32
         ensures { λ r. ⌜ r ≡ lowest row ⌝ }
     {
@@ -98,7 +117,7 @@ impl Settings {
         0
     }
 
-    // The highest value of a row; the voltage's goes by the range.
+    // Gives the highest value of a row, which MAXimum stands for; the voltage's goes by the range.
     pub fn highest(self, row: usize) -> i32
         ensures { λ r. ⌜ r ≡ highest self row ⌝ }
     {
@@ -113,7 +132,7 @@ impl Settings {
         1
     }
 
-    // The value of a row, 0 behind the table.
+    // Gives the value of a row, 0 past the table.
     pub fn value(self, row: usize) -> i32
         ensures { λ r. ⌜ r ≡ valueAt self row ⌝ }
     {
@@ -124,7 +143,7 @@ impl Settings {
         0
     }
 
-    // Check 7's comparison.
+    // Makes check 7's comparison, by which refusal 4 tests a row too.
     fn within(self, row: usize, value: i32) -> bool
         ensures { λ r. ⌜ r ≡ within self row value ⌝ }
     {
@@ -144,7 +163,7 @@ impl Settings {
         }
     }
 
-    // Check 8: R12V while the voltage is above 12.0.
+    // Check 8 refuses R12V while the voltage is above 12.0.
     pub fn conflicts(self, row: usize, value: i32) -> bool
         ensures { λ r. ⌜ r ≡ conflict self row value ⌝ }
     {
@@ -152,7 +171,7 @@ impl Settings {
         (row == Settings::RANGE) & (value <= 0) & (Settings::TWELVE_VOLTS < volts)
     }
 
-    // The settings with a row's value, where checks 7 and 8 let it pass.
+    // Stores a row's value where checks 7 and 8 let it pass, so that no caller can break the limits.
     pub fn store(mut self, row: usize, value: i32) -> Settings
         ensures { λ r. ⌜ r ≡ stored row value self ⌝ }
     {
@@ -166,7 +185,7 @@ impl Settings {
         self
     }
 
-    // Refusal 4 on the settings: every value within its limits.
+    // Refusal 4 lets no value pass that is outside its limits.
     pub fn possible(self) -> bool
         ensures { λ r. ⌜ r ≡ possibleSettings self ⌝ }
     {

@@ -2,15 +2,14 @@
 // (without their minus).
 use crate::error;
 use crate::error::Error;
+use crate::group;
 use crate::group::Group;
+use crate::queue;
 ghost use mathlib.Core.Path.{_≡_};
-ghost use mathlib.Core.List.{_++_, _∷_, [], map};
 ghost use Prim.Native.Nat.{_≤_};
 ghost use lib.Bits.{bitOr};
-ghost use lib.ListN.{take, drop};
-ghost use Rattle.registers.specs.Text.{if_then_else_, every, first};
-ghost use Rattle.registers.specs.Errors.{numberOf, known};
-ghost use Rattle.registers.specs.Group.{eventRead, possibleGroup};
+ghost use Rattle.registers.specs.Text.{if_then_else_, first};
+ghost use Rattle.registers.specs.Error.{numberOf};
 ghost use Rattle.registers.specs.Status.{locked, placeOf, groupIn, withGroup, setRead, setBits, registersOf, troubleOf, withRegisters, raisedIn, clearedIn, eventsIn, oldestReadIn, reportedIn, registerSet, registerIn, widest, statusByte, possibleStatus, atStart};
 
 pub struct Status {
@@ -38,56 +37,7 @@ pub enum Register {
     Ptr(RegisterSet),
 }
 
-// The last place of the queue.
-const LAST: usize = Status::MOST - 1;
-
-// All but the first number, and a 0 behind them.
-fn shifted(errors: [u16; Status::MOST]) -> [u16; Status::MOST]
-    ensures { λ r. ⌜ r ≡ drop 1 errors ++ 0 ∷ [] ⌝ }
-{
-    let mut next = [0u16; Status::MOST];
-    let mut i: usize = 0;
-    while i < LAST {
-        next[i] = errors[i + 1];
-        i += 1;
-    }
-    next
-}
-
-// Whether every number that waits may stand in the queue.
-fn all_known(errors: [u16; Status::MOST], count: usize) -> bool
-    requires { ⌜ count ≤ 16 ⌝ }
-    ensures { λ r. ⌜ r ≡ every known (take count errors) ⌝ }
-{
-    let mut i: usize = 0;
-    while i < count {
-        if !error::is_known(errors[i]) {
-            return false;
-        }
-        i += 1;
-    }
-    true
-}
-
-// Every group with its event register read.
-fn all_read(groups: [Group; RegisterSet::COUNT]) -> [Group; RegisterSet::COUNT]
-    ensures { λ r. ⌜ r ≡ map eventRead groups ⌝ }
-{
-    [
-        groups[0].read_event(),
-        groups[1].read_event(),
-        groups[2].read_event(),
-    ]
-}
-
-// Refusal 4 on the groups.
-fn all_possible(groups: [Group; RegisterSet::COUNT]) -> bool
-    ensures { λ r. ⌜ r ≡ every possibleGroup groups ⌝ }
-{
-    groups[0].possible() & groups[1].possible() & groups[2].possible()
-}
-
-// The groups' bits of the status byte: OPERation's is bit 7, LOCK's bit 0, WARNing's bit 1.
+// Adds up the groups' bits of the status byte: OPERation's is bit 7, LOCK's bit 0, WARNing's bit 1.
 fn set_bits(groups: [Group; RegisterSet::COUNT]) -> u8
     ensures { λ r. ⌜ r ≡ setBits groups ⌝ }
     ensures { λ r. ⌜ r ≤ 131 ⌝ }
@@ -97,7 +47,7 @@ fn set_bits(groups: [Group; RegisterSet::COUNT]) -> u8
         + bit_if(groups[2].sums_up(), 2)
 }
 
-// A bit's weight where the bit is on.
+// Gives a bit's weight where the bit is on; a function, so that each sum of bits has a bound.
 fn bit_if(on: bool, weight: u8) -> u8
     ensures { λ r. ⌜ r ≡ if on then weight else 0 ⌝ }
     ensures { λ r. ⌜ r ≤ weight ⌝ }
@@ -106,9 +56,8 @@ fn bit_if(on: bool, weight: u8) -> u8
 }
 
 impl RegisterSet {
-    pub const COUNT: usize = 3;
+    pub const COUNT: usize = group::COUNT;
 
-    // The set's place among the three.
     fn place(self) -> usize
         ensures { λ r. ⌜ r ≡ placeOf self ⌝ }
     {
@@ -121,7 +70,7 @@ impl RegisterSet {
 }
 
 impl Register {
-    // The widest value that the register takes.
+    // Gives the widest value that the register takes.
     pub fn widest(self) -> u16
         ensures { λ r. ⌜ r ≡ widest self ⌝ }
     {
@@ -137,7 +86,7 @@ impl Register {
 
 impl Status {
     // How many errors wait at most, and the number that stands for those that were lost.
-    pub const MOST: usize = 16;
+    pub const MOST: usize = queue::MOST;
 
     pub const OVERFLOW: u16 = 350;
 
@@ -158,7 +107,7 @@ impl Status {
         }
     }
 
-    // An error is raised: its event bit, and its number behind those that wait.
+    // Raises an error. A full queue loses its number, and -350 in the last place says so.
     pub fn raise(mut self, error: Error) -> Status
         ensures { λ r. ⌜ r ≡ raisedIn (numberOf error) self ⌝ }
     {
@@ -169,25 +118,25 @@ impl Status {
             self.errors[at] = number;
             self.queued = at + 1;
         } else {
-            self.errors[LAST] = Status::OVERFLOW;
+            self.errors[queue::LAST] = Status::OVERFLOW;
             self.events = self.events | error::event_bit(Status::OVERFLOW);
         }
         self
     }
 
-    // *CLS.
+    // *CLS clears the events and the queue. The queue's places keep their numbers, which mean nothing.
     pub fn clear(mut self) -> Status
         ensures { λ r. ⌜ r ≡ clearedIn self ⌝ }
     {
         let groups = self.groups;
-        let read = all_read(groups);
+        let read = group::all_read(groups);
         self.groups = read;
         self.events = 0;
         self.queued = 0;
         self
     }
 
-    // *OPC.
+    // *OPC sets event bit 0.
     pub fn complete(mut self) -> Status
         ensures { λ r. ⌜ r ≡ eventsIn (bitOr (self .events) 1) self ⌝ }
     {
@@ -195,7 +144,7 @@ impl Status {
         self
     }
 
-    // The event status register is read, and so cleared.
+    // Reading the event status register clears it.
     pub fn read_events(mut self) -> Status
         ensures { λ r. ⌜ r ≡ eventsIn 0 self ⌝ }
     {
@@ -203,7 +152,7 @@ impl Status {
         self
     }
 
-    // A set's event register is read, and so cleared.
+    // Reading a set's event register clears it.
     pub fn read_event(self, set: RegisterSet) -> Status
         ensures { λ r. ⌜ r ≡ withRegisters (setRead set (registersOf self)) self ⌝ }
     {
@@ -211,7 +160,6 @@ impl Status {
         self.with_group(set, group)
     }
 
-    // A set's registers.
     pub fn group(self, set: RegisterSet) -> Group
         ensures { λ r. ⌜ r ≡ groupIn set (registersOf self) ⌝ }
     {
@@ -220,14 +168,14 @@ impl Status {
         groups[i]
     }
 
-    // Whether the lock holds: a bit of its condition register is 1.
+    // The lock holds while a bit of its condition register is 1.
     pub fn is_locked(self) -> bool
         ensures { λ r. ⌜ r ≡ locked (registersOf self) ⌝ }
     {
         self.group(RegisterSet::Lock).condition != 0
     }
 
-    // The record with other registers of a set.
+    // Puts other registers of a set into the record.
     fn with_group(mut self, set: RegisterSet, group: Group) -> Status
         ensures { λ r. ⌜ r ≡ withRegisters (withGroup set group (registersOf self)) self ⌝ }
     {
@@ -236,7 +184,7 @@ impl Status {
         self
     }
 
-    // The oldest error, 0 where none waits.
+    // Gives the oldest error, 0 where none waits, as SYSTem:ERRor? answers it.
     pub fn oldest(self) -> u16
         ensures { λ r. ⌜ r ≡ first (troubleOf self .queue) ⌝ }
     {
@@ -247,7 +195,7 @@ impl Status {
         errors[0]
     }
 
-    // The oldest error is removed.
+    // Removes the oldest error, once it is answered.
     pub fn read_oldest(mut self) -> Status
         ensures { λ r. ⌜ r ≡ oldestReadIn self ⌝ }
     {
@@ -256,13 +204,13 @@ impl Status {
             return self;
         }
         let errors = self.errors;
-        let left = shifted(errors);
+        let left = queue::shifted(errors);
         self.errors = left;
         self.queued = count - 1;
         self
     }
 
-    // A set's condition is reported; a value above 32,767 is no report.
+    // Reports a set's condition; refusal 3 leaves all unchanged for a value above 32,767.
     pub fn report(self, set: RegisterSet, condition: u16) -> Status
         ensures { λ r. ⌜ r ≡ reportedIn set condition self ⌝ }
     {
@@ -273,7 +221,7 @@ impl Status {
         self.with_group(set, group)
     }
 
-    // A register's value.
+    // Gives the value that the register's query answers.
     pub fn register(self, register: Register) -> u16
         ensures { λ r. ⌜ r ≡ registerIn register (registersOf self) ⌝ }
     {
@@ -286,7 +234,7 @@ impl Status {
         }
     }
 
-    // A register takes a value; one above the register's width is not stored.
+    // Stores a register's value, *SRE's without bit 6; one above the register's width is not stored.
     pub fn store(mut self, register: Register, value: u16) -> Status
         ensures { λ r. ⌜ r ≡ registerSet register value self ⌝ }
     {
@@ -320,7 +268,7 @@ impl Status {
         }
     }
 
-    // The status byte, with its summary in bit 6.
+    // Sums up the status byte, and sets bit 6 where *SRE enables one of the others.
     pub fn status_byte(self, answers: bool) -> u8
         ensures { λ r. ⌜ r ≡ statusByte (registersOf self) (troubleOf self) answers ⌝ }
     {
@@ -333,7 +281,7 @@ impl Status {
         summary + bit_if(summary as u16 & self.sre != 0, 64)
     }
 
-    // Refusal 4 on the status.
+    // Refusal 4 tests the queue's length first: only so many numbers are looked at.
     pub fn possible(self) -> bool
         ensures { λ r. ⌜ r ≡ possibleStatus self ⌝ }
     {
@@ -345,7 +293,7 @@ impl Status {
         let registers = enables & (self.sre & 64 == 0);
         let errors = self.errors;
         let groups = self.groups;
-        let trouble = (self.events <= Status::WIDEST) & all_known(errors, count);
-        registers & all_possible(groups) & trouble
+        let trouble = (self.events <= Status::WIDEST) & queue::may_all_be_queued(errors, count);
+        registers & group::all_possible(groups) & trouble
     }
 }

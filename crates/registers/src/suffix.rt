@@ -1,4 +1,4 @@
-// Unit suffixes: what may stand behind a number, and the power of ten that it multiplies by.
+// Unit suffixes: what may stand after a number, and the power of ten that it multiplies by.
 use crate::error::Error;
 use crate::text;
 ghost use mathlib.Core.Path.{_≡_};
@@ -28,8 +28,7 @@ pub(crate) enum Scale {
     By(Power),
 }
 
-// How many bytes stand from a place to the end, and the first three in capitals; 0 for each that is
-// missing.
+// How many bytes are left, and the first three of them in capitals; 0 for each that is missing.
 struct Letters {
     count: usize,
     first: u8,
@@ -37,13 +36,14 @@ struct Letters {
     third: u8,
 }
 
-// The byte at a place in capitals.
+// Reads a byte in capitals: suffixes match in any letter case.
 fn capital_at(text: &[u8], at: usize) -> u8
     ensures { λ r. ⌜ r ≡ capital (first (drop at (now (text .entry)))) ⌝ }
 {
     text::in_capitals(text::byte_at(text, at))
 }
 
+// Reads what remains once, so that each suffix is one comparison.
 fn letters_at(text: &[u8], at: usize) -> Letters
     requires { ⌜ at < length (now text) ⌝ }
     ensures { λ r. ⌜ r ≡ lettersOf (drop at (now (text .entry))) ⌝ }
@@ -56,6 +56,7 @@ fn letters_at(text: &[u8], at: usize) -> Letters
     }
 }
 
+// Compares what remains with a suffix; 0 stands for a letter that it lacks.
 fn spell(letters: Letters, count: usize, first: u8, second: u8, third: u8) -> bool
     ensures { λ r. ⌜ r ≡ alike letters count first second third ⌝ }
 {
@@ -65,7 +66,7 @@ fn spell(letters: Letters, count: usize, first: u8, second: u8, third: u8) -> bo
         & (letters.third == third)
 }
 
-// A unit of one letter, alone or behind the M of milli.
+// Reads a unit of one letter, alone or after the M of milli.
 fn with_milli(letters: Letters, unit: u8) -> Scale
     ensures { λ r. ⌜ meantScale r ≡ milliTo unit letters ⌝ }
 {
@@ -78,7 +79,7 @@ fn with_milli(letters: Letters, unit: u8) -> Scale
     Scale::Refused(Error::InvalidSuffix)
 }
 
-// The suffixes of a quantity. `MHZ` is mega, though M elsewhere is milli.
+// Finds the suffix among those of a quantity. `MHZ` is mega, though M elsewhere is milli.
 fn scale_of(quantity: Quantity, letters: Letters) -> Scale
     ensures { λ r. ⌜ meantScale r ≡ scaleTo quantity letters ⌝ }
 {
@@ -107,8 +108,7 @@ fn scale_of(quantity: Quantity, letters: Letters) -> Scale
     }
 }
 
-// What stands from a place to the end, where a number and the white space behind it end: a suffix of
-// the quantity, or nothing.
+// Reads what remains after a number and its white space: a suffix of the quantity, or nothing.
 pub(crate) fn read(text: &[u8], at: usize, quantity: Quantity) -> Scale
     ensures { λ r. ⌜ meantScale r ≡ remains quantity (drop at (now (text .entry))) ⌝ }
 {

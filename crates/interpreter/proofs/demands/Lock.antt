@@ -14,7 +14,7 @@ use lib.Signed.{leZ}
 use borrow.Author.Tests.{eqb-true, leb-true, not-false}
 use Rattle.registers.specs.Text.{Text, every, empty}
 use Rattle.registers.specs.Check.{Checked, refused, passed}
-use Rattle.registers.specs.Errors.{known, queueable}
+use Rattle.registers.specs.Queue.{mayBeQueued, queueable}
 use Rattle.registers.specs.Group.{widestGroup}
 use Rattle.registers.specs.Settings.{table, settingAt, output, lowest, within}
 use Rattle.registers.specs.Status.{Registers, locked, setReported}
@@ -103,7 +103,7 @@ module _ (s : Settings) where
   query-held (SetEvents x) c h = with-registers c _ (event-kept Lock (c .registers) x) h
 
   reply-held : (t : Text) (c : Core) → HeldCore c → Holds HeldCore (reply t c)
-  unfolding reply known queueable
+  unfolding reply mayBeQueued queueable
   reply-held t c h = hold-check HeldCore 430 _ _ refl (λ _. passes h)
 
   perform-held : (d : Deed) (b : Box) → Allowed (b .core .settings) d → blocked d ≡ false → HeldBox b → Holds HeldBox (perform d b)

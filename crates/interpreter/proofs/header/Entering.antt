@@ -10,7 +10,7 @@ use native.Mathlib.Omega.{arith}
 use lib.ListN.{length, take, drop, set, length-append, length-take}
 use lib.Seq.{take-all, take-suc-set, take-append-seam, drop-drop}
 use borrow.Author.Tests.{ne-eqb}
-use Rattle.registers.specs.Text.{Text, if_then_else_, dark, letter, small, digit, wordByte, every, empty, first, rest, start, after}
+use Rattle.registers.specs.Text.{Text, if_then_else_, visible, letter, small, digit, wordByte, every, empty, first, rest, start, after}
 use Rattle.registers.proofs.Tests.{is-true, and-true}
 use Rattle.registers.proofs.text.Laws.{rest-at, drop-start, start-passes}
 use Rattle.interpreter.specs.Header.{name}
@@ -120,7 +120,7 @@ pub record Naming (joined : Bool) (t : Text) (at : ℕ) (path keys : List ℕ) (
   pub long : length keys ≡ mostNames
   pub good : every name (namesIn joined (drop at t)) ≡ every name (namesIn joined (drop i t))
   pub asked : asksIn (drop at t) ≡ asksIn (drop i t)
-  pub end : at + length (start dark (drop at t)) ≡ i + length (start dark (drop i t))
+  pub end : at + length (start visible (drop at t)) ≡ i + length (start visible (drop i t))
   pub held : take mostNames (path ++ map keyOf (namesIn joined (drop at t)))
       ≡ take mostNames (take count keys ++ map keyOf (namesIn joined (drop i t)))
 
@@ -166,7 +166,7 @@ module _ {joined : Bool} {t : Text} {at : ℕ} {path keys : List ℕ} {count i :
           let s : drop i t ≡ w ++ 58 ∷ drop (x .end + 1) t = split ∙ ap (λ (l : Text). w ++ l) u in
           let on : namesIn joined (w ++ 58 ∷ drop (x .end + 1) t) ≡ w ∷ namesIn joined (drop (x .end + 1) t) = rw j (scan-on w is-good (drop (x .end + 1) t)) in
           let names = ap (namesIn joined) s ∙ on in
-          let l = ap (λ (u : Text). length (start dark u)) s ∙ scan-on-length w is-good (drop (x .end + 1) t) in
+          let l = ap (λ (u : Text). length (start visible u)) s ∙ scan-on-length w is-good (drop (x .end + 1) t) in
           let e = is .end in
           let d = n .end in
           record {
@@ -195,12 +195,12 @@ module _ {joined : Bool} {t : Text} {at : ℕ} {path keys : List ℕ} {count i :
       -- it is the last
       module _ (last : joined ≡ true → first z ≡ 58 → ⊥) (r : Names) (v : TailRead t (x .end) more r) where
         pub naming-end : NamesRead joined t at path r left
-        naming-end = go (empty (start dark (unasked z))) refl
+        naming-end = go (empty (start visible (unasked z))) refl
           where
-            go : (c : Bool) → empty (start dark (unasked z)) ≡ c → NamesRead joined t at path r left
+            go : (c : Bool) → empty (start visible (unasked z)) ≡ c → NamesRead joined t at path r left
             go true c =
                 let names = ap (namesIn joined) split ∙ scan-last w is-good z c joined in
-                let l = ap (λ (u : Text). length (start dark u)) split ∙ scan-last-length w is-good z c in
+                let l = ap (λ (u : Text). length (start visible u)) split ∙ scan-last-length w is-good z c in
                 let e = is .end in
                 let d = n .end in
                 let f = v .end in

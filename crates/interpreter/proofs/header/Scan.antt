@@ -9,7 +9,7 @@ use lib.Dec.{eqb, leb}
 use lib.ListN.{length, length-append}
 use borrow.Author.Tests.{eqb-true, ne-eqb, leb-true, lt-leb}
 use mir.Val.{boolByte}
-use Rattle.registers.specs.Text.{Text, if_then_else_, white, dark, letter, small, digit, wordByte, every, empty, first, start}
+use Rattle.registers.specs.Text.{Text, if_then_else_, white, visible, letter, small, digit, wordByte, every, empty, first, start}
 use Rattle.registers.proofs.Tests.{and-both, and-assoc, and-fails}
 use Rattle.interpreter.specs.Cuts.{front, joinFirst, cutAt}
 use Rattle.interpreter.specs.Header.{name, asks}
@@ -30,9 +30,9 @@ pub colon-word : wordByte 58 ≡ false
 unfolding wordByte letter small digit
 colon-word = refl
 
-word-dark : (b : ℕ) → wordByte b ≡ true → white b ≡ false
+word-visible : (b : ℕ) → wordByte b ≡ true → white b ≡ false
 unfolding white wordByte letter small digit
-word-dark b e = go (leb b 32) refl
+word-visible b e = go (leb b 32) refl
   where
     go : (t : Bool) → leb b 32 ≡ t → (t && not (eqb b 10)) ≡ false
     go true q =
@@ -73,10 +73,10 @@ unfolding bodyOf if_then_else_
 body-mark = refl
 
 -- a header's body starts as the text does, or is empty
-pub body-first : (p : ℕ → Bool) → p 0 ≡ false → (u : Text) → p (first u) ≡ false → p (first (bodyOf (start dark u))) ≡ false
+pub body-first : (p : ℕ → Bool) → p 0 ≡ false → (u : Text) → p (first u) ≡ false → p (first (bodyOf (start visible u))) ≡ false
 unfolding if_then_else_
 body-first p z [] e = rw body-none z
-body-first p z (b ∷ t) e = go (dark b) (start dark t)
+body-first p z (b ∷ t) e = go (visible b) (start visible t)
   where
     go : (d : Bool) (r : Text) → p (first (bodyOf (if d then b ∷ r else []))) ≡ false
     go false r = rw body-none z
@@ -156,12 +156,12 @@ module _ (x : ℕ) (r : Text) (f : wordByte x ≡ false) where
 -- ---- a name at the start
 
 module _ (z : Text) where
-  dark-word : (w : Text) → every wordByte w ≡ true → start dark (w ++ z) ≡ w ++ start dark z
+  visible-word : (w : Text) → every wordByte w ≡ true → start visible (w ++ z) ≡ w ++ start visible z
   unfolding if_then_else_
-  dark-word [] e = refl
-  dark-word (b ∷ w) e =
+  visible-word [] e = refl
+  visible-word (b ∷ w) e =
       let p = and-both (wordByte b) (every wordByte w) e in
-      rw (word-dark b (p .0), dark-word w (p .1))
+      rw (word-visible b (p .0), visible-word w (p .1))
 
   asks-word : (w : Text) → every wordByte w ≡ true → asks (w ++ z) ≡ asks z
   asks-word [] e = refl
@@ -196,7 +196,7 @@ append-none (b ∷ w) = ap (λ (u : Text). b ∷ u) (append-none w)
 -- no letter starts a text
 pub scan-none : (joined : Bool) (u : Text) → letter (first u) ≡ false → every name (namesIn joined u) ≡ false
 unfolding namesIn name letter small if_then_else_
-scan-none true u e = cut-other (bodyOf (start dark u)) (body-first letter refl u e)
+scan-none true u e = cut-other (bodyOf (start visible u)) (body-first letter refl u e)
 scan-none false u e = let f = body-first letter refl u e in rw f
 
 module _ (w : Text) (good : name w ≡ true) where
@@ -206,21 +206,21 @@ module _ (w : Text) (good : name w ≡ true) where
 
   -- a colon joins another name
   module _ (r : Text) where
-    joined-dark : start dark (w ++ 58 ∷ r) ≡ w ++ 58 ∷ start dark r
+    joined-visible : start visible (w ++ 58 ∷ r) ≡ w ++ 58 ∷ start visible r
     unfolding white if_then_else_
-    joined-dark = dark-word (58 ∷ r) w words
+    joined-visible = visible-word (58 ∷ r) w words
 
     pub scan-on : namesIn true (w ++ 58 ∷ r) ≡ w ∷ namesIn true r
     unfolding namesIn if_then_else_
     scan-on =
-        rw (joined-dark, body-word (58 ∷ start dark r) w words, body-cons 58 (start dark r) refl)
-        (cut-word (bodyOf (start dark r)) w words)
+        rw (joined-visible, body-word (58 ∷ start visible r) w words, body-cons 58 (start visible r) refl)
+        (cut-word (bodyOf (start visible r)) w words)
 
     pub scan-on-asks : asksIn (w ++ 58 ∷ r) ≡ asksIn r
-    scan-on-asks = ap asks joined-dark ∙ asks-word (58 ∷ start dark r) w words ∙ asks-cons 58 (start dark r) refl
+    scan-on-asks = ap asks joined-visible ∙ asks-word (58 ∷ start visible r) w words ∙ asks-cons 58 (start visible r) refl
 
-    pub scan-on-length : length (start dark (w ++ 58 ∷ r)) ≡ length w + suc (length (start dark r))
-    scan-on-length = ap length joined-dark ∙ length-append w (58 ∷ start dark r)
+    pub scan-on-length : length (start visible (w ++ 58 ∷ r)) ≡ length w + suc (length (start visible r))
+    scan-on-length = ap length joined-visible ∙ length-append w (58 ∷ start visible r)
 
   -- it is the last name
   module _ (z : Text) where
@@ -228,51 +228,51 @@ module _ (w : Text) (good : name w ≡ true) where
     asked = eqb (first z) 63
 
     -- what is left of the header: nothing, or a `?`
-    module _ (closed : empty (start dark (unasked z)) ≡ true) where
+    module _ (closed : empty (start visible (unasked z)) ≡ true) where
       abbrev Left : Text → Bool → Type 0
       Left l q = (bodyOf l ≡ []) × (asks l ≡ q) × (length l ≡ boolByte q)
 
-      left : Left (start dark z) asked
+      left : Left (start visible z) asked
       unfolding unasked if_then_else_ white
       left = go z refl
         where
-          go : (t : Text) → z ≡ t → Left (start dark z) asked
+          go : (t : Text) → z ≡ t → Left (start visible z) asked
           go [] e = rw e (body-none, refl, refl)
           go (x ∷ t) e = rw e (one (eqb x 63) refl (rw e at closed))
             where
-              one : (q : Bool) → eqb x 63 ≡ q → empty (start dark (if q then t else x ∷ t)) ≡ true → Left (start dark (x ∷ t)) q
-              one true q k = rw (eqb-true x 63 q, is-empty (start dark t) k) (body-mark, refl, refl)
-              one false q k = rw (is-empty (start dark (x ∷ t)) k) (body-none, refl, refl)
+              one : (q : Bool) → eqb x 63 ≡ q → empty (start visible (if q then t else x ∷ t)) ≡ true → Left (start visible (x ∷ t)) q
+              one true q k = rw (eqb-true x 63 q, is-empty (start visible t) k) (body-mark, refl, refl)
+              one false q k = rw (is-empty (start visible (x ∷ t)) k) (body-none, refl, refl)
 
       pub scan-last : (joined : Bool) → namesIn joined (w ++ z) ≡ w ∷ []
       unfolding namesIn if_then_else_
-      scan-last true = rw (dark-word z w words, body-word (start dark z) w words, left .0, append-none w) (cut-only w words)
-      scan-last false = rw (dark-word z w words, body-word (start dark z) w words, left .0, append-none w)
+      scan-last true = rw (visible-word z w words, body-word (start visible z) w words, left .0, append-none w) (cut-only w words)
+      scan-last false = rw (visible-word z w words, body-word (start visible z) w words, left .0, append-none w)
 
       pub scan-last-asks : asksIn (w ++ z) ≡ asked
-      scan-last-asks = ap asks (dark-word z w words) ∙ asks-word (start dark z) w words ∙ left .1
+      scan-last-asks = ap asks (visible-word z w words) ∙ asks-word (start visible z) w words ∙ left .1
 
-      pub scan-last-length : length (start dark (w ++ z)) ≡ length w + boolByte asked
-      scan-last-length = ap length (dark-word z w words) ∙ length-append w (start dark z) ∙ ap (λ (n : ℕ). length w + n) (left .2)
+      pub scan-last-length : length (start visible (w ++ z)) ≡ length w + boolByte asked
+      scan-last-length = ap length (visible-word z w words) ∙ length-append w (start visible z) ∙ ap (λ (n : ℕ). length w + n) (left .2)
 
     -- something else stands there
-    module _ (goes-on : empty (start dark (unasked z)) ≡ false) (other : wordByte (first z) ≡ false) where
+    module _ (goes-on : empty (start visible (unasked z)) ≡ false) (other : wordByte (first z) ≡ false) where
       abbrev Goes : Text → Type 0
       Goes l = (r : Text) × (bodyOf l ≡ first z ∷ r)
 
-      goes : Goes (start dark z)
+      goes : Goes (start visible z)
       unfolding unasked white if_then_else_
       goes = go z refl
         where
-          go : (t : Text) → z ≡ t → Goes (start dark z)
+          go : (t : Text) → z ≡ t → Goes (start visible z)
           go [] e = absurd (false≢true (sym (rw e at goes-on)))
-          go (x ∷ t) e = rw e (one (eqb x 63) refl (dark x) refl (rw e at goes-on))
+          go (x ∷ t) e = rw e (one (eqb x 63) refl (visible x) refl (rw e at goes-on))
             where
-              one : (q : Bool) → eqb x 63 ≡ q → (d : Bool) → dark x ≡ d → empty (start dark (if q then t else x ∷ t)) ≡ false
-                  → (r : Text) × (bodyOf (if d then x ∷ start dark t else []) ≡ x ∷ r)
-              one false q true k o = (bodyOf (start dark t), body-cons x (start dark t) q)
+              one : (q : Bool) → eqb x 63 ≡ q → (d : Bool) → visible x ≡ d → empty (start visible (if q then t else x ∷ t)) ≡ false
+                  → (r : Text) × (bodyOf (if d then x ∷ start visible t else []) ≡ x ∷ r)
+              one false q true k o = (bodyOf (start visible t), body-cons x (start visible t) q)
               one false q false k o = absurd (false≢true (sym (rw k at o)))
-              one true q true k o = two (start dark t) o
+              one true q true k o = two (start visible t) o
                 where
                   two : (s : Text) → empty s ≡ false → (r : Text) × (bodyOf (x ∷ s) ≡ x ∷ r)
                   two [] i = absurd (false≢true (sym i))
@@ -282,6 +282,6 @@ module _ (w : Text) (good : name w ≡ true) where
       pub scan-bad : (joined : Bool) → (joined ≡ true → eqb (first z) 58 ≡ false) → every name (namesIn joined (w ++ z)) ≡ false
       unfolding namesIn if_then_else_
       scan-bad true n =
-          rw (dark-word z w words, body-word (start dark z) w words, goes .1) (cut-bad (first z) (goes .0) other (n refl) w good)
+          rw (visible-word z w words, body-word (start visible z) w words, goes .1) (cut-bad (first z) (goes .0) other (n refl) w good)
       scan-bad false n =
-          rw (dark-word z w words, body-word (start dark z) w words, goes .1, name-bad (first z) (goes .0) other w)
+          rw (visible-word z w words, body-word (start visible z) w words, goes .1, name-bad (first z) (goes .0) other w)

@@ -8,7 +8,7 @@ use lib.Dec.{eqb}
 use lib.ListN.{length, getD, drop}
 use borrow.Author.Tests.{eq-eqb, eqb-true}
 use mir.Val.{boolByte}
-use Rattle.registers.specs.Text.{Text, if_then_else_, white, dark, empty, first, rest, start}
+use Rattle.registers.specs.Text.{Text, if_then_else_, white, visible, empty, first, rest, start}
 use Rattle.registers.proofs.text.Laws.{rest-at, first-within, start-more, start-stop, start-end}
 use Rattle.interpreter.specs.HeaderParts.{unasked, TailRead}
 
@@ -49,22 +49,22 @@ module _ (t : Text) (at b : ℕ) (is : b ≡ first (drop at t)) where
       go false = let z : at + 0 ≡ at = omega arith in rw z
 
   module _ (held e : ℕ) (to : e ≡ at + boolByte (eqb b 63)) where
-    read : (g : Bool) → g ≡ empty (start dark (drop e t)) → TailRead t at held (record { good = g; asked = eqb b 63; end = e; count = held })
+    read : (g : Bool) → g ≡ empty (start visible (drop e t)) → TailRead t at held (record { good = g; asked = eqb b 63; end = e; count = held })
     read g k =
         record {
-          good = k ∙ ap (λ (u : Text). empty (start dark u)) (ap (λ (n : ℕ). drop n t) to ∙ behind);
+          good = k ∙ ap (λ (u : Text). empty (start visible u)) (ap (λ (n : ℕ). drop n t) to ∙ behind);
           asked = ap (λ (x : ℕ). eqb x 63) is;
           end = to ∙ ap (λ (x : ℕ). at + boolByte (eqb x 63)) is;
           count = refl;
         }
 
     pub tail-end : length t ≤ e → TailRead t at held (record { good = true; asked = eqb b 63; end = e; count = held })
-    tail-end h = read true (rw (start-end dark t e h))
+    tail-end h = read true (rw (start-end visible t e h))
 
     pub tail-more : e < length t → (w : Bool) → w ≡ white (getD t e 0)
         → TailRead t at held (record { good = w; asked = eqb b 63; end = e; count = held })
     tail-more h w k = read w (go w refl)
       where
-        go : (x : Bool) → w ≡ x → w ≡ empty (start dark (drop e t))
-        go true q = rw (start-stop dark t e h (ap not (sym k ∙ q))) q
-        go false q = rw (start-more dark t e h (ap not (sym k ∙ q))) q
+        go : (x : Bool) → w ≡ x → w ≡ empty (start visible (drop e t))
+        go true q = rw (start-stop visible t e h (ap not (sym k ∙ q))) q
+        go false q = rw (start-more visible t e h (ap not (sym k ∙ q))) q

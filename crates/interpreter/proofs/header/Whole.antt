@@ -8,7 +8,7 @@ use lib.Dec.{eqb}
 use lib.ListN.{length, take, drop}
 use borrow.Author.Tests.{eqb-true}
 use mir.Val.{boolByte}
-use Rattle.registers.specs.Text.{Text, if_then_else_, white, dark, letter, small, every, first, rest, start}
+use Rattle.registers.specs.Text.{Text, if_then_else_, white, visible, letter, small, every, first, rest, start}
 use Rattle.registers.specs.Check.{Checked, refused, passed, check, _>>_}
 use Rattle.registers.proofs.Tests.{and-both}
 use Rattle.interpreter.specs.Cuts.{cutAt}
@@ -45,19 +45,19 @@ header-body t = refl
 -- the header that a text starts with, and its length, by what comes after its lead
 pub record Led (t : Text) (s r : Bool) : Type 0 where
   pub one : s ≡ true → r ≡ false
-  pub is : header (start dark t) ≡ placed (placeOf s r) (namesIn (not s) (drop (boolByte (s || r)) t)) (asksIn (drop (boolByte (s || r)) t))
-  pub long : length (start dark t) ≡ boolByte (s || r) + length (start dark (drop (boolByte (s || r)) t))
+  pub is : header (start visible t) ≡ placed (placeOf s r) (namesIn (not s) (drop (boolByte (s || r)) t)) (asksIn (drop (boolByte (s || r)) t))
+  pub long : length (start visible t) ≡ boolByte (s || r) + length (start visible (drop (boolByte (s || r)) t))
 
 led-star : (u : Text) → Led (42 ∷ u) true false
 unfolding byFirst namesIn white if_then_else_
 led-star u =
-    let h = start dark u in
+    let h = start visible u in
     record { one = λ e. refl; is = header-body (42 ∷ h) ∙ rw (body-cons 42 h refl, asks-cons 42 h refl); long = omega arith }
 
 led-root : (u : Text) → Led (58 ∷ u) false true
 unfolding byFirst namesIn white if_then_else_
 led-root u =
-    let h = start dark u in
+    let h = start visible u in
     record { one = λ e. absurd (false≢true e); is = header-body (58 ∷ h) ∙ rw (body-cons 58 h refl, asks-cons 58 h refl); long = omega arith }
 
 led-here : (t : Text) → eqb (first t) 42 ≡ false → eqb (first t) 58 ≡ false → Led t false false
@@ -65,7 +65,7 @@ unfolding byFirst namesIn if_then_else_
 led-here t e f =
     let a = body-first (λ b. eqb b 42) refl t e in
     let b = body-first (λ b. eqb b 58) refl t f in
-    record { one = λ e. refl; is = header-body (start dark t) ∙ rw (a, b); long = omega arith }
+    record { one = λ e. refl; is = header-body (start visible t) ∙ rw (a, b); long = omega arith }
 
 pub led : (t : Text) (b : ℕ) → b ≡ first t → (s r : Bool) → eqb b 42 ≡ s → eqb b 58 ≡ r → Led t s r
 led t b is true true e f = absurd (let x = eqb-true b 42 e in let y = eqb-true b 58 f in omega arith)
@@ -84,14 +84,14 @@ module _ (t : Text) (s r : Bool) (l : Led t s r) where
   abbrev names : List Text
   names = namesIn (not s) (drop n t)
 
-  pub look-bad : every name names ≡ false → header (start dark t) ≡ refused 102
+  pub look-bad : every name names ≡ false → header (start visible t) ≡ refused 102
   unfolding placed check _>>_
   look-bad e = l .is ∙ rw e
 
   abbrev read : Header
   read = record { place = placeOf s r; names = names; query = asksIn (drop n t) }
 
-  look-good : every name names ≡ true → header (start dark t) ≡ passed read
+  look-good : every name names ≡ true → header (start visible t) ≡ passed read
   unfolding placed check _>>_
   look-good e = l .is ∙ rw e
 
@@ -120,7 +120,7 @@ module _ (t : Text) (before : List ℕ) (used : ℕ) (room : used < mostNames) (
   first-at false r l g = omega arith
   first-at true true l g = absurd (false≢true (sym (l .one refl)))
   first-at true false l g =
-      let c = counted before used room was (bodyOf (start dark (drop 1 t))) keys long (x .count) (g .few) (g .held) in
+      let c = counted before used room was (bodyOf (start visible (drop 1 t))) keys long (x .count) (g .few) (g .held) in
       omega arith
 
   pub first-fits : (b : ℕ) → b ≡ first t → NamesRead (not (eqb b 42)) t (boolByte (eqb b 42 || eqb b 58)) (take (orZero (not (eqb b 58)) used) before) x keys
@@ -136,18 +136,18 @@ module _ (t : Text) (path : List Text) (before : List ℕ) (used : ℕ) (p : Hol
       → LookedUp path t (At row (x .count - 1) (x .asked) (x .end)) keys
   unfolding namesIn if_then_else_
   look-at true false l good g f =
-      let name-of = bodyOf (start dark (drop 1 t)) in
+      let name-of = bodyOf (start visible (drop 1 t)) in
       let e = and-both (name name-of) true good .0 in
       looked t true false l path before used p was keys long x row good g
       (f ∙ star-row before used (p .few) was name-of keys long (x .count) (g .few) (g .held) e (x .asked))
       (λ h. star-left before used (p .few) was name-of keys long (x .count) (g .few) (g .held) path p)
   look-at false true l good g f =
-      let names = cutAt 58 (bodyOf (start dark (drop 1 t))) in
+      let names = cutAt 58 (bodyOf (start visible (drop 1 t))) in
       let at = f ∙ path-row [] names refl good keys long (x .count) (g .few) (g .held) (x .asked) in
       looked t false true l path before used p was keys long x row good g at
       (λ h. path-left [] names refl good keys long (x .count) (g .few) (g .held) (x .asked) (rw at at h))
   look-at false false l good g f =
-      let names = cutAt 58 (bodyOf (start dark (drop 0 t))) in
+      let names = cutAt 58 (bodyOf (start visible (drop 0 t))) in
       let held = rw (p .is) at (g .held) in
       let at = f ∙ path-row path names (p .all) good keys long (x .count) (g .few) held (x .asked) in
       looked t false false l path before used p was keys long x row good g at

@@ -55,17 +55,17 @@ module _ (p : Present) (line : Text) (o : Bool) where
   unfolding runLine unitsOf finished runUnits if_then_else_
   line-blank e b = rw (e, b)
 
-  module _ (e : o ≡ false) (dark : every white line ≡ false) (r : Present) (out : Text) (ran : UnitsRan p line r out) where
+  module _ (e : o ≡ false) (visible : every white line ≡ false) (r : Present) (out : Text) (ran : UnitsRan p line r out) where
     pub line-none : r .answered ≡ 0 → boxAt r out ≡ runLine line o (boxIn p [])
     unfolding runLine unitsOf finished if_then_else_
-    line-none z = rw (e, dark, ← ran .box, z)
+    line-none z = rw (e, visible, ← ran .box, z)
 
     pub line-some : (r .answered ≡ 0 → ⊥) → length out ≡ mostAnswer
         → boxIn r (take (r .answered + 1) (set out (r .answered) 10)) ≡ runLine line o (boxIn p [])
     unfolding runLine unitsOf finished if_then_else_
     line-some h long =
         let room = ran .room in
-        rw (e, dark, ← ran .box, full-answer out (r .answered) h (omega arith), add-one (r .answered), take-suc-set out (r .answered) 10 (omega arith))
+        rw (e, visible, ← ran .box, full-answer out (r .answered) h (omega arith), add-one (r .answered), take-suc-set out (r .answered) 10 (omega arith))
 
 -- ---- the newline
 

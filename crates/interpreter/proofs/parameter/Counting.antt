@@ -17,17 +17,17 @@ use Rattle.interpreter.proofs.parameter.Cuts.{cut-here, cut-later, cut-
 abbrev filled : Text → Bool
 filled p = not (every white p)
 
--- all parts are, where a dark byte of the first may have been passed already
+-- all parts are, where a visible byte of the first may have been passed already
 abbrev filledFrom : Bool → List Text → Bool
-filledFrom dark [] = dark
-filledFrom dark (p ∷ ps) = (dark || filled p) && every filled ps
+filledFrom visible [] = visible
+filledFrom visible (p ∷ ps) = (visible || filled p) && every filled ps
 
--- up to place i so many parts have begun; `full`: those that have ended are filled; `dark`: the last has a dark byte
-pub record Counting (t : Text) (parts : ℕ) (full dark : Bool) (i : ℕ) : Type 0 where
+-- up to place i so many parts have begun; `full`: those that have ended are filled; `visible`: the last has a visible byte
+pub record Counting (t : Text) (parts : ℕ) (full visible : Bool) (i : ℕ) : Type 0 where
   pub place : i ≤ length t
   pub few : parts ≤ i + 1
   pub long : parts + length (cutAt 44 (drop i t)) ≡ 1 + length (cutAt 44 t)
-  pub all : (full && filledFrom dark (cutAt 44 (drop i t))) ≡ every filled (cutAt 44 t)
+  pub all : (full && filledFrom visible (cutAt 44 (drop i t))) ≡ every filled (cutAt 44 t)
 
 -- ---- the start
 
@@ -46,24 +46,24 @@ counting-start t =
 
 -- ---- a turn: at a comma a part ends, any other byte is one of the part
 
-ended : (full dark : Bool) (ps : List Text) → 1 ≤ length ps
-    → ((full && dark) && filledFrom false ps) ≡ (full && filledFrom dark ([] ∷ ps))
+ended : (full visible : Bool) (ps : List Text) → 1 ≤ length ps
+    → ((full && visible) && filledFrom false ps) ≡ (full && filledFrom visible ([] ∷ ps))
 ended true true ps h = fresh ps h
 ended true false ps h = refl
-ended false dark ps h = refl
+ended false visible ps h = refl
 
-joined : (b : ℕ) (full dark : Bool) (ps : List Text) → 1 ≤ length ps
-    → (full && filledFrom (dark || not (white b)) ps) ≡ (full && filledFrom dark (joinFirst b ps))
-joined b full dark [] h = absurd (omega arith)
-joined b full dark (p ∷ ps) h = ap (λ (w : Bool). full && (w && every filled ps)) (or (white b) dark)
+joined : (b : ℕ) (full visible : Bool) (ps : List Text) → 1 ≤ length ps
+    → (full && filledFrom (visible || not (white b)) ps) ≡ (full && filledFrom visible (joinFirst b ps))
+joined b full visible [] h = absurd (omega arith)
+joined b full visible (p ∷ ps) h = ap (λ (w : Bool). full && (w && every filled ps)) (or (white b) visible)
   where
     or : (w d : Bool) → (d || not w || filled p) ≡ (d || not (w && every white p))
     or w true = refl
     or true false = refl
     or false false = refl
 
-module _ {t : Text} {parts : ℕ} {full dark : Bool} {i : ℕ} (w : Counting t parts full dark i) (h : i < length t) where
-  pub counting-comma : getD t i 0 ≡ 44 → Counting t (parts + 1) (full && dark) false (i + 1)
+module _ {t : Text} {parts : ℕ} {full visible : Bool} {i : ℕ} (w : Counting t parts full visible i) (h : i < length t) where
+  pub counting-comma : getD t i 0 ≡ 44 → Counting t (parts + 1) (full && visible) false (i + 1)
   counting-comma e =
       let more = cutAt 44 (drop (i + 1) t) in
       let cut : cutAt 44 (drop i t) ≡ [] ∷ more = rw (drop-cons t i 0 h, add-one i) (cut-here 44 (getD t i 0) (drop (suc i) t) e) in
@@ -72,10 +72,10 @@ module _ {t : Text} {parts : ℕ} {full dark : Bool} {i : ℕ} (w : Counting t p
         place = omega arith;
         few = omega arith;
         long = omega arith;
-        all = ended full dark more (cut-some 44 (drop (i + 1) t)) ∙ rw cut at (w .all);
+        all = ended full visible more (cut-some 44 (drop (i + 1) t)) ∙ rw cut at (w .all);
       }
 
-  pub counting-byte : (getD t i 0 ≡ 44 → ⊥) → Counting t parts full (dark || not (white (getD t i 0))) (i + 1)
+  pub counting-byte : (getD t i 0 ≡ 44 → ⊥) → Counting t parts full (visible || not (white (getD t i 0))) (i + 1)
   counting-byte e =
       let b = getD t i 0 in
       let more = cutAt 44 (drop (i + 1) t) in
@@ -86,7 +86,7 @@ module _ {t : Text} {parts : ℕ} {full dark : Bool} {i : ℕ} (w : Counting t p
         place = omega arith;
         few = omega arith;
         long = omega (arith, join-length b more some);
-        all = joined b full dark more some ∙ rw cut at (w .all);
+        all = joined b full visible more some ∙ rw cut at (w .all);
       }
 
 -- ---- the end
@@ -95,20 +95,20 @@ all-filled : (ps : List Text) → every (λ (p : Text). not (empty p)) (map trim
 all-filled [] = refl
 all-filled (p ∷ ps) = rw (trim-empty p, all-filled ps)
 
-last : (full dark : Bool) → (full && dark) ≡ (full && filledFrom dark ([] ∷ []))
+last : (full visible : Bool) → (full && visible) ≡ (full && filledFrom visible ([] ∷ []))
 last true true = refl
 last true false = refl
-last false dark = refl
+last false visible = refl
 
-pub counting-end : {t : Text} {parts : ℕ} {full dark : Bool} {i : ℕ} → Counting t parts full dark i → (length t ≡ 0 → ⊥) → length t ≤ i
-    → CountedIn t (record { parts = parts; full = full && dark })
+pub counting-end : {t : Text} {parts : ℕ} {full visible : Bool} {i : ℕ} → Counting t parts full visible i → (length t ≡ 0 → ⊥) → length t ≤ i
+    → CountedIn t (record { parts = parts; full = full && visible })
 unfolding cutAt
-counting-end {t} {parts} {full} {dark} {i} w some h =
+counting-end {t} {parts} {full} {visible} {i} w some h =
     let none : drop i t ≡ [] = drop-of-length-le t h in
     let long = rw none at (w .long) in
     record {
       parts = rw (parameters-some t some) (omega (arith, length-map (cutAt 44 t) trim));
-      full = rw (parameters-some t some) (last full dark ∙ rw none at (w .all) ∙ sym (all-filled (cutAt 44 t)));
+      full = rw (parameters-some t some) (last full visible ∙ rw none at (w .all) ∙ sym (all-filled (cutAt 44 t)));
     }
 
 pub counting-none : (t : Text) → length t ≡ 0 → CountedIn t (record { parts = 0; full = true })

@@ -13,7 +13,7 @@ use mir.Facts.{toZ-ofZ, toZ-pos}
 use borrow.Author.Tests.{leb-true, ne-eqb}
 use Rattle.registers.specs.Text.{Text, if_then_else_}
 use Rattle.registers.specs.Check.{Checked, refused, passed, _>>=_, _>>_, check}
-use Rattle.registers.specs.Errors.{numberOf}
+use Rattle.registers.specs.Error.{numberOf}
 use Rattle.registers.specs.Rounding.{rounded, fitted, sideIn, meantFit, RoundedIn}
 use Rattle.registers.specs.Settings.{count, Kind, bool, words, number, kindOf, quantityOf, lowest, highest, within, accepted}
 use Rattle.registers.specs.Status.{widest}

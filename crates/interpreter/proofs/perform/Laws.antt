@@ -8,7 +8,8 @@ use lib.Dec.{leb}
 use types.Run.{OneOf, miss}
 use denote.Enum.Declared.{tagOf}
 use borrow.Author.Tests.{leb-true, leb-false}
-use Rattle.registers.specs.Status.{most, registerSet, widest}
+use Rattle.registers.specs.Queue.{most}
+use Rattle.registers.specs.Status.{registerSet, widest}
 use Rattle.registers.specs.declared.rounding.Side.{Side}
 use Rattle.registers.specs.declared.settings.Settings.{Settings}
 use Rattle.registers.specs.declared.status.Status.{Status}

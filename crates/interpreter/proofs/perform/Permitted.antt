@@ -11,7 +11,7 @@ use lib.Signed.{leZ}
 use denote.Enum.Declared.{tagOf}
 use borrow.Author.Tests.{not-true, not-false}
 use Rattle.registers.specs.Check.{Checked, refused, passed, _>>_, check}
-use Rattle.registers.specs.Errors.{known, queueable}
+use Rattle.registers.specs.Queue.{mayBeQueued, queueable}
 use Rattle.registers.specs.Settings.{output, conflict}
 use Rattle.registers.specs.Status.{locked}
 use Rattle.registers.specs.declared.rounding.Side.{Side}
@@ -47,7 +47,7 @@ module _ (d : Deed) (c : Core) where
 
   -- a chain behind them: they refuse by a number of 01, or let pass
   pub hold-permitted : {A : Type 0} (Q : A → Type 0) (m : Checked A) → (Lets d c → Holds Q m) → Holds Q (permitted d c >> m)
-  unfolding permitted known queueable check _>>_
+  unfolding permitted mayBeQueued queueable check _>>_
   hold-permitted Q m k = go (blocked d && locked (c .registers)) refl (conflicting d (c .settings)) refl
     where
       go : (t : Bool) → (blocked d && locked (c .registers)) ≡ t → (f : Bool) → conflicting d (c .settings) ≡ f

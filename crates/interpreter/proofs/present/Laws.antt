@@ -7,10 +7,10 @@ use lib.Dec.{eqb}
 use lib.ListN.{length, take}
 use borrow.Author.Tests.{eq-eqb, ne-eqb}
 use Rattle.registers.specs.Text.{Text, if_then_else_, empty}
-use Rattle.registers.specs.Errors.{numberOf}
+use Rattle.registers.specs.Error.{numberOf}
 use Rattle.registers.specs.declared.error.Error.{Error}
 use Rattle.registers.specs.declared.error.Error.the-variants.{QueryInterrupted}
-use Rattle.registers.proofs.status.Means.{raised-trouble, raised-registers, raised-queued}
+use Rattle.registers.proofs.status.Meaning.{raised-trouble, raised-registers, raised-queued}
 use Rattle.interpreter.specs.Box.{raise}
 use Rattle.interpreter.specs.Line.{refuse, interrupted}
 use Rattle.interpreter.specs.PresentParts.{boxIn, boxAt, raisedWith}

@@ -14,7 +14,7 @@ use Rattle.registers.specs.Status.{registersOf, troubleOf, raisedIn, reportedIn
 use Rattle.registers.specs.declared.status.Status.{Status}
 use Rattle.registers.proofs.settings.Possible.{reset-possible}
 use Rattle.registers.proofs.status.Laws.{reported-yes}
-use Rattle.registers.proofs.status.Means.{raised-trouble, raised-registers}
+use Rattle.registers.proofs.status.Meaning.{raised-trouble, raised-registers}
 use Rattle.registers.specs.declared.status.RegisterSet.{RegisterSet}
 use Rattle.interpreter.specs.Box.{box}
 use Rattle.interpreter.specs.Line.{newlines}

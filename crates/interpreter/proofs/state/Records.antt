@@ -9,7 +9,8 @@ use lib.ListN.{length, take, length-take}
 use borrow.Author.Tests.{leb-true, le-leb, not-true, not-false}
 use Rattle.registers.specs.Text.{Text}
 use Rattle.registers.specs.Settings.{possibleSettings, count}
-use Rattle.registers.specs.Status.{registersOf, troubleOf, possibleStatus, possibleRegisters, possibleTrouble, most}
+use Rattle.registers.specs.Status.{registersOf, troubleOf, possibleStatus, possibleRegisters, possibleTrouble}
+use Rattle.registers.specs.Queue.{most}
 use Rattle.registers.proofs.Tests.{and-both}
 use Rattle.interpreter.specs.Box.{mostLine, mostAnswer}
 use Rattle.interpreter.specs.Events.{Event, possible, possibleCore, happened, Result, happens}

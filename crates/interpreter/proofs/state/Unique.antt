@@ -8,7 +8,7 @@ use lib.Dec.{eqb}
 use lib.ListN.{length, take}
 use lib.Seq.{length-take-le}
 use Rattle.registers.specs.Text.{if_then_else_}
-use Rattle.registers.specs.Status.{most}
+use Rattle.registers.specs.Queue.{most}
 use Rattle.interpreter.specs.Box.{Box, mostLine, mostAnswer}
 use Rattle.interpreter.specs.Events.{Event, Result, Happened}
 use Rattle.interpreter.specs.State.{numberOf, boxOf, possibleState, admitted, Happens, Started}

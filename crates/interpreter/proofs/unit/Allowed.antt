@@ -12,7 +12,7 @@ use native.Mathlib.Omega.{arith}
 use borrow.Author.Tests.{leb-true}
 use Rattle.registers.specs.Text.{Text}
 use Rattle.registers.specs.Check.{refused, passed}
-use Rattle.registers.specs.Errors.{known, queueable}
+use Rattle.registers.specs.Queue.{mayBeQueued, queueable}
 use Rattle.registers.specs.Suffix.{suffixes, noSuffix, powerIn, remains}
 use Rattle.registers.specs.Number.{number}
 use Rattle.registers.specs.Settings.{count, table}
@@ -35,7 +35,7 @@ use Rattle.interpreter.proofs.Checks.{Holds, Any, refuses-by, passes, h
 -- ---- each reader refuses by such a number
 
 none-known : (q : Quantity) → raisable (noSuffix q) ≡ true
-unfolding noSuffix known queueable
+unfolding noSuffix mayBeQueued queueable
 none-known Nothing = refl
 none-known Volt = refl
 none-known Ampere = refl
@@ -48,11 +48,11 @@ power-known n e [] t = refuses-by e
 power-known n e (x ∷ xs) t = hold-if Any _ _ _ (passes tt) (power-known n e xs t)
 
 remains-known : (q : Quantity) (t : Text) → Holds Any (remains q t)
-unfolding remains known queueable
+unfolding remains mayBeQueued queueable
 remains-known q t = hold-if Any _ _ _ (power-known _ (none-known q) (suffixes q) t) (hold-check Any 121 _ _ refl (λ _. passes tt))
 
 number-known : (q : Quantity) (t : Text) → Holds Any (number q t)
-unfolding number known queueable
+unfolding number mayBeQueued queueable
 number-known q t =
     hold-check Any 121 _ _ refl (λ _.
     hold-bind Any Any _ _ (remains-known q _) (λ p _.
@@ -60,7 +60,7 @@ number-known q t =
     hold-check Any 123 _ _ refl (λ _. passes tt))))
 
 placed-known : (p : Place) (names : List Text) (q : Bool) → Holds Any (placed p names q)
-unfolding placed known queueable
+unfolding placed mayBeQueued queueable
 placed-known p names q = hold-check Any 102 _ _ refl (λ _. passes tt)
 
 header-known : (t : Text) → Holds Any (header t)
@@ -68,12 +68,12 @@ unfolding header
 header-known t = hold-if Any _ _ _ (placed-known _ _ _) (hold-if Any _ _ _ (placed-known _ _ _) (placed-known _ _ _))
 
 findWord-known : (i : ℕ) (ws : List String) (t : Text) → Holds Any (findWord i ws t)
-unfolding findWord known queueable
+unfolding findWord mayBeQueued queueable
 findWord-known i [] t = refuses-by refl
 findWord-known i (w ∷ ws) t = hold-if Any _ _ _ (passes tt) (findWord-known (suc i) ws t)
 
 parameter-known : (ws : List String) (numbers : Bool) (q : Quantity) (t : Text) → Holds Any (parameter ws numbers q t)
-unfolding parameter known queueable
+unfolding parameter mayBeQueued queueable
 parameter-known ws numbers q t =
     hold-if Any _ _ _ (hold-check Any 141 _ _ refl (λ _. findWord-known 0 ws t))
     (hold-if Any _ _ _ (hold-check Any 104 _ _ refl (λ _. hold-bind Any Any _ _ (number-known q t) (λ d _. passes tt))) (refuses-by refl))
@@ -82,7 +82,7 @@ parameter-known ws numbers q t =
 
 module _ (s : Settings) where
   setting-allowed : (i : ℕ) → i < count → (t : Text) → Holds (Allowed s) (settingDeed s i t)
-  unfolding settingDeed known queueable
+  unfolding settingDeed mayBeQueued queueable
   setting-allowed i h t =
       hold-bind Any (Allowed s) _ _ (parameter-known _ _ _ t) (λ g _.
       hold-check (Allowed s) 222 _ _ refl (λ w.
@@ -97,7 +97,7 @@ in-width (pos n) m e = leb-true n m (and-both (leb 0 n) (leb n m) e .1)
 in-width (negsuc n) m e = absurd (false≢true e)
 
 register-allowed : (s : Settings) (r : Register) (t : Text) → Holds (Allowed s) (registerDeed r t)
-unfolding registerDeed known queueable
+unfolding registerDeed mayBeQueued queueable
 register-allowed s r t =
     hold-bind Any (Allowed s) _ _ (parameter-known _ _ _ t) (λ g _.
     hold-check (Allowed s) 222 _ _ refl (λ w. passes (in-width (registerGiven g) (widest r) w)))
@@ -120,13 +120,13 @@ rows-proper s = search arith depth 40
 
 find-proper : (s : Settings) (star : Bool) (names : List Text) (asked : Bool) (rs : List Row) → EachProper s rs
     → Holds (Proper s) (findRow star names asked rs)
-unfolding findRow known queueable
+unfolding findRow mayBeQueued queueable
 find-proper s star names asked [] p = refuses-by refl
 find-proper s star names asked (r ∷ rs) p =
     hold-if (Proper s) _ _ _ (passes (p .0)) (find-proper s star names asked rs (p .1))
 
 deed-allowed : (s : Settings) (r : Role) (asked : Bool) (ts : List Text) → Proper s r → Holds (Allowed s) (deedOf s r asked ts)
-unfolding deedOf known queueable
+unfolding deedOf mayBeQueued queueable
 deed-allowed s (setting i) true [] p = passes p
 deed-allowed s (setting i) true (t ∷ ts) p = limit-allowed s i p t
 deed-allowed s (setting i) false [] p = refuses-by refl
@@ -140,7 +140,7 @@ deed-allowed s (Question d) asked ts p = passes p
 -- ---- the whole unit
 
 reads : (s : Settings) (path : List Text) (u : Text) → Holds (λ (r : Read). Allowed s (r .deed)) (readUnit s path u)
-unfolding readUnit known queueable
+unfolding readUnit mayBeQueued queueable
 reads s path u =
     let Q : Read → Type 0 = λ r. Allowed s (r .deed) in
     hold-check Q 101 _ _ refl (λ _.

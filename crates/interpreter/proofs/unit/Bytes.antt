@@ -17,13 +17,13 @@ pub allowed-is : (b : ℕ) → allowed b ≡ (ltb b 127 && not (eqb b 10))
 unfolding white printable
 allowed-is b = go (eqb b 10) refl
   where
-    dark : 32 < b → (t : Bool) → leb b 126 ≡ t → t ≡ ltb b 127
-    dark h true e = sym (lt-ltb b 127 (let k = leb-true b 126 e in omega arith))
-    dark h false e = sym (le-ltb b 127 (let k = leb-false b 126 e in omega arith))
+    visible : 32 < b → (t : Bool) → leb b 126 ≡ t → t ≡ ltb b 127
+    visible h true e = sym (lt-ltb b 127 (let k = leb-true b 126 e in omega arith))
+    visible h false e = sym (le-ltb b 127 (let k = leb-false b 126 e in omega arith))
 
     other : (t : Bool) → leb b 32 ≡ t → (t || (leb 33 b && leb b 126)) ≡ ltb b 127
     other true e = sym (lt-ltb b 127 (let k = leb-true b 32 e in omega arith))
-    other false e = let h = leb-false b 32 e in rw (le-leb 33 b (omega arith)) (dark h (leb b 126) refl)
+    other false e = let h = leb-false b 32 e in rw (le-leb 33 b (omega arith)) (visible h (leb b 126) refl)
 
     right : (x : Bool) → (x && true) ≡ x
     right true = refl

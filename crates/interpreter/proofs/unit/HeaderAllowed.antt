@@ -5,7 +5,7 @@ use mathlib.Core.Bool.{Bool, true, false, not, _&&_}
 use mathlib.Core.List.{[], _∷_}
 use Prim.Native.Nat.{ℕ}
 use borrow.Author.Tests.{not-true, eqb-true}
-use Rattle.registers.specs.Text.{Text, if_then_else_, white, dark, printable, every, empty, start, after}
+use Rattle.registers.specs.Text.{Text, if_then_else_, white, visible, printable, every, empty, start, after}
 use Rattle.registers.specs.Check.{passed}
 use Rattle.registers.proofs.Tests.{and-both, and-true, and-assoc}
 use Rattle.interpreter.specs.Cuts.{front, trimEnd, trim}
@@ -42,15 +42,15 @@ trim-white (b ∷ bs) = go (white b) refl (trimEnd bs) (trim-white bs)
     go true q (x ∷ m) ih = ap (λ (e : Bool). allowed b && e) ih
     go false q m ih = ap (λ (e : Bool). allowed b && e) ih
 
-parts : (t : Text) → every allowed t ≡ (every allowed (start dark t) && every allowed (after dark t))
+parts : (t : Text) → every allowed t ≡ (every allowed (start visible t) && every allowed (after visible t))
 unfolding if_then_else_
 parts [] = refl
-parts (b ∷ bs) = go (dark b) (parts bs)
+parts (b ∷ bs) = go (visible b) (parts bs)
   where
-    go : (d : Bool) → every allowed bs ≡ (every allowed (start dark bs) && every allowed (after dark bs))
+    go : (d : Bool) → every allowed bs ≡ (every allowed (start visible bs) && every allowed (after visible bs))
         → (allowed b && every allowed bs)
-        ≡ (every allowed (if d then b ∷ start dark bs else []) && every allowed (if d then after dark bs else b ∷ bs))
-    go true ih = ap (λ (e : Bool). allowed b && e) ih ∙ sym (and-assoc (allowed b) (every allowed (start dark bs)) (every allowed (after dark bs)))
+        ≡ (every allowed (if d then b ∷ start visible bs else []) && every allowed (if d then after visible bs else b ∷ bs))
+    go true ih = ap (λ (e : Bool). allowed b && e) ih ∙ sym (and-assoc (allowed b) (every allowed (start visible bs)) (every allowed (after visible bs)))
     go false ih = refl
 
 -- ---- a header's bytes
@@ -88,4 +88,4 @@ pub allowed-behind : (u : Text) (h : Header) → header (headerText u) ≡ passe
 unfolding trim
 allowed-behind u h e =
     let v = after white u in
-    skip-white u ∙ parts v ∙ rw (header-allowed (start dark v) h e) (skip-white (after dark v) ∙ sym (trim-white (after white (after dark v))))
+    skip-white u ∙ parts v ∙ rw (header-allowed (start visible v) h e) (skip-white (after visible v) ∙ sym (trim-white (after white (after visible v))))

@@ -21,10 +21,10 @@ pub some-behind : (l : Text) (x : ℕ) (r : Text) → empty (l ++ x ∷ r) ≡ f
 some-behind [] x r = refl
 some-behind (y ∷ l) x r = refl
 
-dark-more : (l : Text) (x : ℕ) → white x ≡ false → trimEnd (l ++ x ∷ []) ≡ l ++ x ∷ []
+visible-more : (l : Text) (x : ℕ) → white x ≡ false → trimEnd (l ++ x ∷ []) ≡ l ++ x ∷ []
 unfolding trimEnd if_then_else_
-dark-more [] x h = rw h
-dark-more (y ∷ l) x h = rw (dark-more l x h, and-fails (white y) (empty (l ++ x ∷ [])) (some-behind l x []))
+visible-more [] x h = rw h
+visible-more (y ∷ l) x h = rw (visible-more l x h, and-fails (white y) (empty (l ++ x ∷ [])) (some-behind l x []))
 
 -- what a text up to a place keeps, by the byte before that place
 module _ (l : Text) (e : ℕ) (pos : 0 < e) (h : e ≤ length l) where
@@ -34,8 +34,8 @@ module _ (l : Text) (e : ℕ) (pos : 0 < e) (h : e ≤ length l) where
   pub end-white : white (getD l (e - 1) 0) ≡ true → trimEnd (take e l) ≡ trimEnd (take (e - 1) l)
   end-white w = rw up-to (white-more (take (e - 1) l) (getD l (e - 1) 0) w)
 
-  pub end-dark : white (getD l (e - 1) 0) ≡ false → trimEnd (take e l) ≡ take e l
-  end-dark w = rw up-to (dark-more (take (e - 1) l) (getD l (e - 1) 0) w)
+  pub end-visible : white (getD l (e - 1) 0) ≡ false → trimEnd (take e l) ≡ take e l
+  end-visible w = rw up-to (visible-more (take (e - 1) l) (getD l (e - 1) 0) w)
 
 -- ---- trimmed twice
 
@@ -50,10 +50,10 @@ trimEnd-twice (b ∷ bs) = go (white b && empty (trimEnd bs)) refl (trimEnd-twic
     go false q ih = rw (ih, q)
 
 -- no white space is left at the start
-start-dark : (t : Text) → after white (trimEnd (after white t)) ≡ trimEnd (after white t)
+start-visible : (t : Text) → after white (trimEnd (after white t)) ≡ trimEnd (after white t)
 unfolding trimEnd if_then_else_
-start-dark [] = refl
-start-dark (b ∷ bs) = go (white b) refl (start-dark bs)
+start-visible [] = refl
+start-visible (b ∷ bs) = go (white b) refl (start-visible bs)
   where
     go : (w : Bool) → white b ≡ w → after white (trimEnd (after white bs)) ≡ trimEnd (after white bs)
         → after white (trimEnd (if w then after white bs else b ∷ bs)) ≡ trimEnd (if w then after white bs else b ∷ bs)
@@ -62,4 +62,4 @@ start-dark (b ∷ bs) = go (white b) refl (start-dark bs)
 
 pub trim-twice : (t : Text) → trim (trim t) ≡ trim t
 unfolding trim
-trim-twice t = ap trimEnd (start-dark t) ∙ trimEnd-twice (after white t)
+trim-twice t = ap trimEnd (start-visible t) ∙ trimEnd-twice (after white t)

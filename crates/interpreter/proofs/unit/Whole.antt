@@ -8,7 +8,7 @@ use native.Mathlib.Omega.{arith}
 use lib.Dec.{leb, ltb}
 use lib.ListN.{length, take, drop}
 use borrow.Author.Tests.{ltb-true}
-use Rattle.registers.specs.Text.{Text, if_then_else_, white, dark, every, empty, start, after}
+use Rattle.registers.specs.Text.{Text, if_then_else_, white, visible, every, empty, start, after}
 use Rattle.registers.specs.Check.{Checked, refused, passed, check, _>>=_, _>>_}
 use Rattle.registers.specs.declared.settings.Settings.{Settings}
 use Rattle.registers.proofs.text.Laws.{end-drop, end-within}
@@ -49,18 +49,18 @@ runs u s at =
     record { within = w; is = rest-is u s w ∙ end-drop white u 0 s at }
 
 -- it ends so far after s
-module _ {u : Text} {s : ℕ} (r : Runs u s) (e : ℕ) (is : e ≡ length (start dark (behind u s))) where
+module _ {u : Text} {s : ℕ} (r : Runs u s) (e : ℕ) (is : e ≡ length (start visible (behind u s))) where
   from : drop s u ≡ after white u
   from = sym (rest-is u s (r .within)) ∙ r .is
 
-  to : s + e ≡ s + length (start dark (drop s u))
-  to = let k = is ∙ ap (λ (t : Text). length (start dark t)) (rest-is u s (r .within)) in omega arith
+  to : s + e ≡ s + length (start visible (drop s u))
+  to = let k = is ∙ ap (λ (t : Text). length (start visible t)) (rest-is u s (r .within)) in omega arith
 
   ends-within : s + e ≤ length u
-  ends-within = end-within dark u s (s + e) to (r .within)
+  ends-within = end-within visible u s (s + e) to (r .within)
 
   ends-behind : trim (drop (s + e) u) ≡ parameterText u
-  ends-behind = ap trim (end-drop dark u s (s + e) to ∙ ap (after dark) from)
+  ends-behind = ap trim (end-drop visible u s (s + e) to ∙ ap (after visible) from)
 
 -- ---- the checks in order
 
@@ -131,7 +131,7 @@ module _ (s : Settings) (path : List Text) (u : Text) where
   module _ {st : ℕ} (at : Runs u st) (r : Looked) (keys : List ℕ) (k : LookedUp path (behind u st) r keys) where
     pub bad-header : r ≡ Bad → (n : ℕ) → n ≡ headerRefusal u → readUnit s path u ≡ refused n
     unfolding readUnit headerRefusal check _>>_ _>>=_ if_then_else_
-    bad-header q n e = rw e (go (every allowed u) (ap (λ (t : Text). header (start dark t)) (sym (at .is)) ∙ rw q at k))
+    bad-header q n e = rw e (go (every allowed u) (ap (λ (t : Text). header (start visible t)) (sym (at .is)) ∙ rw q at k))
       where
         go : (ok : Bool) → header (headerText u) ≡ refused 102
             → (check 101 ok >> header (headerText u) >>= λ h. behindWith s (h .query) (parameters (parameterText u)) (findRow (isCommon (h .place)) (fullNames (h .place) path (h .names)) (h .query) rows) (λ d. passed (record { deed = d; path = pathAfter (h .place) path (h .names) })))
@@ -147,7 +147,7 @@ module _ (s : Settings) (path : List Text) (u : Text) where
         record {
           within = rw (f .at) (found-most (isCommon (h .place)) (fullNames (h .place) path (h .names)) (h .query));
           left = pathAfter (h .place) path (h .names);
-          is = good-header h (ap (λ (t : Text). header (start dark t)) (sym (at .is)) ∙ g .1) f;
+          is = good-header h (ap (λ (t : Text). header (start visible t)) (sym (at .is)) ∙ g .1) f;
           holds = f .left;
           ends = ends-within at _ (f .ends);
           behind = ends-behind at _ (f .ends);

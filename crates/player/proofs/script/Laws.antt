@@ -9,28 +9,27 @@ use lib.ListN.{length, drop, getD, drop-of-length-le}
 use lib.Seq.{drop-cons}
 use Rattle.registers.specs.Text.{Text, if_then_else_, digit, every}
 use Rattle.registers.specs.Number.{numeralFrom}
-use Rattle.registers.specs.NumberParts.{held}
 use Rattle.registers.proofs.number.Numerals.{held-before}
-use Rattle.player.specs.Numbers.{decimalFrom, decimalOf}
+use Rattle.player.specs.Numbers.{unreadable, decimalFrom, decimalOf}
 
-with-digit : (n b : ℕ) (t : Text) → digit b ≡ true → decimalFrom n (b ∷ t) ≡ decimalFrom (min held (n * 10 + (b - 48))) t
+with-digit : (n b : ℕ) (t : Text) → digit b ≡ true → decimalFrom n (b ∷ t) ≡ decimalFrom (min unreadable (n * 10 + (b - 48))) t
 unfolding decimalFrom numeralFrom
-with-digit n b t d = rw d (ap (λ (m : ℕ). if every digit t then m else held) (sym (held-before (n * 10 + (b - 48)) t)))
+with-digit n b t d = rw d (ap (λ (m : ℕ). if every digit t then m else unreadable) (sym (held-before unreadable (n * 10 + (b - 48)) t)))
 
-with-other : (n b : ℕ) (t : Text) → digit b ≡ false → decimalFrom n (b ∷ t) ≡ held
+with-other : (n b : ℕ) (t : Text) → digit b ≡ false → decimalFrom n (b ∷ t) ≡ unreadable
 unfolding decimalFrom if_then_else_
 with-other n b t d = rw d
 
-with-none : (n : ℕ) → n ≤ held → decimalFrom n [] ≡ n
+with-none : (n : ℕ) → n ≤ unreadable → decimalFrom n [] ≡ n
 unfolding decimalFrom if_then_else_ numeralFrom
 with-none n h = omega arith
 
--- what is left behind n, the number so far, spells what the whole text does
+-- what is left after n, the number so far, spells what the whole text does
 pub record Reading (t : Text) (n i : ℕ) : Type 0 where
-  pub low : n ≤ held
+  pub low : n ≤ unreadable
   pub spells : decimalFrom n (drop i t) ≡ decimalOf t
 
-pub nothing-spelt : (t : Text) → length t ≡ 0 → held ≡ decimalOf t
+pub nothing-spelt : (t : Text) → length t ≡ 0 → unreadable ≡ decimalOf t
 unfolding decimalOf
 nothing-spelt [] h = refl
 nothing-spelt (b ∷ t) h = absurd (omega arith)
@@ -41,12 +40,12 @@ reading-start [] h = absurd (h refl)
 reading-start (b ∷ t) h = record { low = omega arith; spells = refl }
 
 module _ {t : Text} {n i : ℕ} (g : Reading t n i) where
-  pub reading-more : i < length t → digit (getD t i 0) ≡ true → (m : ℕ) → m ≡ min held (n * 10 + (getD t i 0 - 48)) → Reading t m (i + 1)
+  pub reading-more : i < length t → digit (getD t i 0) ≡ true → (m : ℕ) → m ≡ min unreadable (n * 10 + (getD t i 0 - 48)) → Reading t m (i + 1)
   reading-more h d m e =
       let is = rw (drop-cons t i 0 h) at (g .spells) in
       record { low = omega arith; spells = rw (e, add-one) (sym (with-digit n _ _ d) ∙ is) }
 
-  pub reading-stop : i < length t → digit (getD t i 0) ≡ false → held ≡ decimalOf t
+  pub reading-stop : i < length t → digit (getD t i 0) ≡ false → unreadable ≡ decimalOf t
   reading-stop h d = sym (with-other n _ _ d) ∙ rw (drop-cons t i 0 h) at (g .spells)
 
   pub reading-end : length t ≤ i → n ≡ decimalOf t

@@ -1,4 +1,5 @@
--- Numbers in decimal: one digit more, and how long they are.
+-- Numbers in decimal: one digit more, and how long they are. The definition has a place too many for any number that is written, and
+-- by induction over the places it is the same with one more.
 use mathlib.Core.Path.{_≡_, refl, ap}
 use mathlib.Core.Bool.{Bool, true, false}
 use mathlib.Core.List.{[], _∷_, _++_}
@@ -30,7 +31,7 @@ pub decimal-one : (n : ℕ) → n < 10 → decimal n ≡ (48 + n) ∷ []
 unfolding decimal inPlaces if_then_else_
 decimal-one n h = rw (lt-ltb n 10 h)
 
--- the last digit stands behind the decimal of the rest
+-- the last digit stands after the decimal of the rest
 pub decimal-more : (n : ℕ) → 10 ≤ n → n < 10 ^ 20 → decimal n ≡ decimal (n / 10) ++ (48 + n % 10) ∷ []
 unfolding decimal inPlaces if_then_else_
 decimal-more n g h = rw (le-ltb n 10 g) (ap (λ (l : Text). l ++ (48 + n % 10) ∷ []) (more 18 (n / 10) (omega arith)))
@@ -49,7 +50,7 @@ pub decimal-length : (n : ℕ) → length (decimal n) ≤ 20
 unfolding decimal
 decimal-length n = inPlaces-length 20 n
 
--- a place behind a number that starts at a low place is low
+-- a place after a number that starts at a low place is low
 module _ (n : ℕ) {at r : ℕ} (e : r ≡ at + length (decimal n)) where
   pub behind-fits : at ≤ 100 → Fits w64 (r + 1)
   behind-fits h = let l = decimal-length n in omega arith

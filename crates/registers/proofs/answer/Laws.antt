@@ -1,4 +1,4 @@
--- A text over a lent tail, from its start and from any place on.
+-- A text over a lent tail, at its start and at any place.
 use mathlib.Core.Path.{_≡_, refl, sym, ap, _∙_}
 use mathlib.Core.List.{[], _∷_, _++_}
 use Prim.Native.Nat.{ℕ, zero, suc, _+_, _≤_, _<_}
@@ -20,7 +20,7 @@ over-length [] tail = refl
 over-length (b ∷ text) [] = refl
 over-length (b ∷ text) (x ∷ tail) = ap suc (over-length text tail)
 
--- a text that has room stands whole, and what was behind it is left
+-- a text that has room stands whole, and what was after it is left
 pub over-fits : (text tail : Text) → length text ≤ length tail → over text tail ≡ text ++ drop (length text) tail
 unfolding over
 over-fits [] tail h = refl
@@ -36,7 +36,7 @@ over-append [] u tail = refl
 over-append (b ∷ t) u [] = refl
 over-append (b ∷ t) u (x ∷ tail) = ap (λ (l : Text). b ∷ l) (over-append t u tail)
 
--- ---- from a place on
+-- ---- at a place
 
 pub overAt-length : (at : ℕ) (text tail : Text) → length (overAt at text tail) ≡ length tail
 unfolding overAt
@@ -58,7 +58,7 @@ overAt-one zero b (x ∷ tail) = refl
 overAt-one (suc at) b [] = refl
 overAt-one (suc at) b (x ∷ tail) = ap (λ (l : Text). x ∷ l) (overAt-one at b tail)
 
--- a text behind a text
+-- a text after a text
 pub overAt-append : (at : ℕ) (t u tail : Text) → overAt at (t ++ u) tail ≡ overAt (at + length t) u (overAt at t tail)
 unfolding overAt
 overAt-append zero t u tail = rw (zero-add (length t)) (over-append t u tail)

@@ -1,123 +1,97 @@
 -- The table of error texts holds the messages row by row, and a search over its rows finds a number's message.
-use mathlib.Core.Path.{_≡_, refl, sym, ap, _∙_}
-use mathlib.Core.Bool.{Bool, true, false, _&&_, false≢true}
+use mathlib.Core.Path.{_≡_, refl, ap, _∙_}
+use mathlib.Core.Bool.{Bool, true, false}
 use mathlib.Core.List.{List, [], _∷_, _++_, append-assoc}
 use Prim.Native.Nat.{ℕ, zero, suc, _+_, _-_, _*_, _≤_, _<_}
 use Prim.Native.String.{String}
 use native.Mathlib.Nat.{add-zero}
 use native.Mathlib.Numerals.{add-one}
 use native.Mathlib.Omega.{arith}
-use lib.Dec.{leb, eqb}
+use lib.Dec.{eqb}
 use lib.IntN.{pos, negℤ}
-use lib.ListN.{length, length-append, length-replicate, length-drop, take, drop, drop-of-length-le, getD, List·getD-append, replicate}
-use lib.Seq.{drop-nil, drop-cons, drop-drop, drop-append-add, getD-drop, take-append-seam}
+use lib.ListN.{length, length-append, length-drop, take, drop, drop-of-length-le, getD, List·getD-append, replicate}
+use lib.Seq.{drop-cons, drop-drop, take-append-seam}
 use mir.Syntax.{w8, w16, w64}
 use mir.Val.{Fits}
-use borrow.Author.Tests.{leb-true, eq-eqb, ne-eqb}
+use borrow.Author.Tests.{eq-eqb, ne-eqb}
 use Rattle.registers.specs.Text.{Text, if_then_else_, bytes, every}
 use Rattle.registers.specs.Answer.{decimal, signedText}
-use Rattle.registers.specs.Errors.{messages, messageIn, errorText}
-use Rattle.registers.specs.ErrorParts.{quoted, messageRow, tableOf, messageRows, messageTable, messageAt, rowIn}
+use Rattle.registers.specs.Error.{messages, messageIn, errorText}
+use Rattle.registers.specs.ErrorParts.{quoted, rowWidth, rowCount, messageRow, tableOf, messageRows, messageTable, messageAt, rowIn}
+use Rattle.registers.proofs.Tables.{table-at, cell-at, table-length}
 
 -- ---- the table
 
--- the one test over all messages: each text has room in its row
-abbrev roomy : ℕ × String → Bool
-roomy m = leb (length (quoted (m .1))) 30
-
-all-roomy : every roomy messageRows ≡ true
-unfolding messages bytes
-all-roomy = refl
-
-rows : length messages ≡ 20
+rows : length messages ≡ rowCount
 unfolding messages
 rows = refl
 
-all-rows : length messageRows ≡ 21
+all-rows : length messageRows ≡ rowCount + 1
 unfolding messages
 all-rows = refl
 
-row-length : (m : ℕ × String) → length (quoted (m .1)) ≤ 30 → length (messageRow m) ≡ 33
-unfolding messageRow
-row-length m h =
-    let t = quoted (m .1) in
-    let l = length-append t (replicate (30 - length t) 0) in
-    let z = length-replicate {A = ℕ} (30 - length t) 0 in
-    omega arith
+-- the one test over all messages: each text has room in its row
+all-wide : every (λ (m : ℕ × String). eqb (length (messageRow m)) rowWidth) messageRows ≡ true
+unfolding messageRow messages bytes
+all-wide = refl
 
-both : (a b : Bool) → a && b ≡ true → (a ≡ true) × (b ≡ true)
-both true b e = (refl, e)
-both false b e = absurd (false≢true e)
-
--- a table of messages without its first rows is the table of the messages without the first
-rows-behind : (ms : List (ℕ × String)) → every roomy ms ≡ true → (k : ℕ) → drop (k * 33) (tableOf ms) ≡ tableOf (drop k ms)
-unfolding tableOf
-rows-behind ms e zero = refl
-rows-behind [] e (suc k) = drop-nil (suc k * 33)
-rows-behind (m ∷ ms) e (suc k) =
-    let p = both (roomy m) (every roomy ms) e in
-    let l = row-length m (leb-true (length (quoted (m .1))) 30 (p .0)) in
-    let a : suc k * 33 ≡ length (messageRow m) + k * 33 = omega arith in
-    rw (a, drop-append-add (messageRow m) (tableOf ms) (k * 33)) (rows-behind ms (p .1) k)
-
-pub table-length : length messageTable ≡ 693
-unfolding messageTable tableOf messageRow messages bytes
-table-length = refl
+pub table-long : length messageTable ≡ (rowCount + 1) * rowWidth
+unfolding messageTable tableOf
+table-long = table-length messageRow rowWidth tableOf refl (λ x xs. refl) messageRows all-wide ∙ ap (λ (n : ℕ). n * rowWidth) all-rows
 
 front : (t zeros rest : Text) → take (length t) ((t ++ zeros) ++ rest) ≡ t
 front t zeros rest = rw (append-assoc t zeros rest) (take-append-seam t (zeros ++ rest))
 
-module _ (row : ℕ) (h : row < 21) where
-  -- the table from a row on starts with its message
-  row-at : drop (row * 33) messageTable ≡ messageRow (messageAt row) ++ tableOf (drop (suc row) messageRows)
+module _ (row : ℕ) (h : row < rowCount + 1) where
+  -- from where a row starts the table has its message, and then the other rows
+  row-at : drop (row * rowWidth) messageTable ≡ messageRow (messageAt row) ++ tableOf (drop (suc row) messageRows)
   unfolding messageTable messageAt tableOf
-  row-at =
-      let l = all-rows in
-      rows-behind messageRows all-roomy row ∙ ap tableOf (drop-cons messageRows row (0, "") (omega arith))
+  row-at = let l = all-rows in table-at messageRow rowWidth tableOf refl (λ x xs. refl) messageRows all-wide row (0, "") (omega arith)
 
-  cell : (i : ℕ) → getD messageTable (row * 33 + i) 0 ≡ getD (messageRow (messageAt row) ++ tableOf (drop (suc row) messageRows)) i 0
-  cell i = sym (getD-drop (row * 33) messageTable i 0) ∙ ap (λ (l : Text). getD l i 0) row-at
+  cell : (i : ℕ) → getD messageTable (row * rowWidth + i) 0 ≡ getD (messageRow (messageAt row) ++ tableOf (drop (suc row) messageRows)) i 0
+  unfolding messageTable messageAt tableOf
+  cell i = let l = all-rows in cell-at messageRow rowWidth tableOf refl (λ x xs. refl) messageRows all-wide row (0, "") (omega arith) i
 
-  pub number-cells : {table : Text} → table ≡ messageTable → getD table (row * 33) 0 * 256 + getD table (row * 33 + 1) 0 ≡ messageAt row .0
+  pub number-cells : {table : Text} → table ≡ messageTable → getD table (row * rowWidth) 0 * 256 + getD table (row * rowWidth + 1) 0 ≡ messageAt row .0
   unfolding messageRow
   number-cells e =
-      let z : row * 33 + 0 ≡ row * 33 = omega arith in
+      let z : row * rowWidth + 0 ≡ row * rowWidth = omega arith in
       let a = rw z at (cell 0) in
       let b = cell 1 in
       rw e (omega arith)
 
-  pub length-cell : getD messageTable (row * 33 + 2) 0 ≡ length (quoted (messageAt row .1))
+  pub length-cell : getD messageTable (row * rowWidth + 2) 0 ≡ length (quoted (messageAt row .1))
   unfolding messageRow
   length-cell = cell 2
 
-  pub text-room : row * 33 + 3 + length (quoted (messageAt row .1)) ≤ length messageTable
+  pub text-room : row * rowWidth + 3 + length (quoted (messageAt row .1)) ≤ length messageTable
   unfolding messageRow
   text-room =
       let t = quoted (messageAt row .1) in
-      let a = length-append t (replicate (30 - length t) 0) in
+      let a = length-append t (replicate (rowWidth - 3 - length t) 0) in
       let b = length-append (messageRow (messageAt row)) (tableOf (drop (suc row) messageRows)) in
       let e = ap length row-at in
-      let d = length-drop (row * 33) messageTable in
-      let l = table-length in
+      let d = length-drop (row * rowWidth) messageTable in
+      let l = table-long in
       omega arith
 
-  pub text-long : row * 33 + 3 + getD messageTable (row * 33 + 2) 0 - (row * 33 + 3) ≡ length (quoted (messageAt row .1))
+  pub text-long : row * rowWidth + 3 + getD messageTable (row * rowWidth + 2) 0 - (row * rowWidth + 3) ≡ length (quoted (messageAt row .1))
   text-long = let n = length-cell in omega arith
 
-  pub text-part : take (length (quoted (messageAt row .1))) (drop (row * 33 + 3) messageTable) ≡ quoted (messageAt row .1)
+  pub text-part : take (length (quoted (messageAt row .1))) (drop (row * rowWidth + 3) messageTable) ≡ quoted (messageAt row .1)
   unfolding messageRow
   text-part =
       let t = quoted (messageAt row .1) in
-      let zeros : Text = replicate (30 - length t) 0 in
-      rw (← drop-drop 3 (row * 33) messageTable, row-at) (front t zeros (tableOf (drop (suc row) messageRows)))
+      let zeros : Text = replicate (rowWidth - 3 - length t) 0 in
+      rw (← drop-drop 3 (row * rowWidth) messageTable, row-at) (front t zeros (tableOf (drop (suc row) messageRows)))
 
 -- a row's number is read from two bytes of the table
-module _ (row : ℕ) (h : row < 20) {table : Text} (e : table ≡ messageTable) where
-  pub high-within : row * 33 < length table
-  high-within = let l = table-length in rw e (omega arith)
+module _ (row : ℕ) (h : row < rowCount) {table : Text} (e : table ≡ messageTable) where
+  pub high-within : row * rowWidth < length table
+  high-within = let l = table-long in rw e (omega arith)
 
-  pub low-within : row * 33 + 1 < length table
-  low-within = let l = table-length in rw e (omega arith)
+  pub low-within : row * rowWidth + 1 < length table
+  low-within = let l = table-long in rw e (omega arith)
 
 pub byte-fits : {a : ℕ} → Fits w8 a → Fits w16 a
 byte-fits h = omega arith
@@ -154,22 +128,22 @@ row-within (m ∷ ms) n = go (eqb (m .0) n) (row-within ms n)
     go false h = omega arith
 
 module _ (n : ℕ) {row : ℕ} (e : row ≡ rowIn messages n) where
-  pub found-row : row < 21
+  pub found-row : row < rowCount + 1
   found-row = let l = rows in let w = row-within messages n in omega arith
 
-  pub found-fits : Fits w64 (row * 33)
+  pub found-fits : Fits w64 (row * rowWidth)
   found-fits = let h = found-row in omega arith
 
-  pub text-fits : Fits w64 (row * 33 + 3)
+  pub text-fits : Fits w64 (row * rowWidth + 3)
   text-fits = let h = found-row in omega arith
 
-  pub cell-fits : Fits w64 (row * 33 + 2)
+  pub cell-fits : Fits w64 (row * rowWidth + 2)
   cell-fits = let h = found-row in omega arith
 
-  pub cell-within : {table : Text} → table ≡ messageTable → row * 33 + 2 < length table
-  cell-within t = let h = found-row in let l = table-length in rw t (omega arith)
+  pub cell-within : {table : Text} → table ≡ messageTable → row * rowWidth + 2 < length table
+  cell-within t = let h = found-row in let l = table-long in rw t (omega arith)
 
-  pub end-fits : {b : ℕ} → Fits w8 b → Fits w64 (row * 33 + 3 + b)
+  pub end-fits : {b : ℕ} → Fits w8 b → Fits w64 (row * rowWidth + 3 + b)
   end-fits k = let h = found-row in omega arith
 
   pub found-text : messageAt row .1 ≡ messageIn messages n
@@ -181,7 +155,7 @@ abbrev pub sought : ℕ → ℕ → ℕ
 sought n row = row + rowIn (drop row messages) n
 
 module _ (n row : ℕ) where
-  module _ (h : row < 20) where
+  module _ (h : row < rowCount) where
     in-messages : row < length messages
     in-messages = let l = rows in omega arith
 
@@ -200,7 +174,7 @@ module _ (n row : ℕ) where
         rw (drop-cons messages row (0, "") in-messages, ne-eqb (getD messages row (0, "") .0) n (rw listed at ne), add-one row)
         (omega arith)
 
-  pub search-end : 20 ≤ row → row ≤ 20 → sought n row ≡ 20
+  pub search-end : rowCount ≤ row → row ≤ rowCount → sought n row ≡ rowCount
   unfolding rowIn
   search-end h k =
       let l = rows in

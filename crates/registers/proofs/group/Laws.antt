@@ -1,14 +1,17 @@
--- Laws of a register group: the transition rule, bit by bit, and no register ever above its width.
-use mathlib.Core.Path.{_≡_, refl}
-use mathlib.Core.Bool.{Bool, true, not, _&&_, _||_}
+-- Laws of a register group: the transition rule, bit by bit, and no register ever above its width; and of the three groups as one list.
+use mathlib.Core.Path.{_≡_, refl, sym, ap}
+use mathlib.Core.Bool.{Bool, true, false, not, _&&_, _||_}
+use mathlib.Core.List.{List, [], _∷_, map}
 use Prim.Native.Nat.{ℕ, zero, suc, _-_, _/_, _%_, _^_, min, max, _≤_, _<_}
 use native.Mathlib.Omega.{arith}
 use native.Mathlib.Nat.{le-trans}
 use lib.Pow.{pow-pos}
 use lib.Dec.{eqb, leb}
+use lib.ListN.{length, getD}
 use lib.Bits.{bitAnd, bitOr, bitXor, differ, or-lt, and-le-r, and-shr, or-shr, xor-shr, and-step, or-step, xor-step}
 use borrow.Author.Tests.{le-leb, leb-true}
-use Rattle.registers.specs.Group.{rises, falls, eventsAfter, conditionIs, eventRead, possibleGroup, widestGroup}
+use Rattle.registers.specs.Text.{every}
+use Rattle.registers.specs.Group.{rises, falls, eventsAfter, conditionIs, eventRead, possibleGroup, widestGroup, noGroup}
 use Rattle.registers.specs.declared.group.Group.{Group}
 use Rattle.registers.proofs.Tests.{and-both}
 
@@ -139,3 +142,31 @@ module _ (g : Group) (w : Widths g) where
   pub read-widths : Widths (eventRead g)
   unfolding eventRead
   read-widths = record { condition = w .condition; event = omega arith; enable = w .enable; ptr = w .ptr; ntr = w .ntr }
+
+-- ---- the three groups
+
+-- the three by their places
+pub three : (l : List Group) → length l ≡ 3 → l ≡ getD l 0 noGroup ∷ getD l 1 noGroup ∷ getD l 2 noGroup ∷ []
+three [] e = absurd (omega arith)
+three (a ∷ []) e = absurd (omega arith)
+three (a ∷ b ∷ []) e = absurd (omega arith)
+three (a ∷ b ∷ c ∷ []) e = refl
+three (a ∷ b ∷ c ∷ d ∷ l) e = absurd (omega arith)
+
+pub three-read : (l : List Group) → length l ≡ 3
+    → eventRead (getD l 0 noGroup) ∷ eventRead (getD l 1 noGroup) ∷ eventRead (getD l 2 noGroup) ∷ [] ≡ map eventRead l
+three-read l e = sym (ap (map eventRead) (three l e))
+
+pub three-possible : (l : List Group) → length l ≡ 3
+    → (possibleGroup (getD l 0 noGroup) && possibleGroup (getD l 1 noGroup) && possibleGroup (getD l 2 noGroup)) ≡ every possibleGroup l
+three-possible [] e = absurd (omega arith)
+three-possible (a ∷ []) e = absurd (omega arith)
+three-possible (a ∷ b ∷ []) e = absurd (omega arith)
+three-possible (a ∷ b ∷ c ∷ []) e = shape (possibleGroup a) (possibleGroup b) (possibleGroup c)
+  where
+    shape : (a b c : Bool) → (a && b && c) ≡ (a && (b && (c && true)))
+    shape true true true = refl
+    shape true true false = refl
+    shape true false c = refl
+    shape false b c = refl
+three-possible (a ∷ b ∷ c ∷ d ∷ l) e = absurd (omega arith)

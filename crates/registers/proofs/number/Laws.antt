@@ -13,20 +13,20 @@ use Rattle.registers.specs.Text.{Text, if_then_else_, digit, capital, sm
 use Rattle.registers.specs.Number.{numeralFrom, numeral, sign, point, afterSign, fractionOf, afterFraction, exponentOf, afterExponent, lowering, meant}
 use Rattle.registers.specs.NumberParts.{held, mantissaOf, DigitsRead, MantissaRead, ExponentRead}
 use Rattle.registers.specs.declared.number.Digits.{Digits}
-use Rattle.registers.specs.declared.number.Reading.{Reading}
-use Rattle.registers.specs.declared.number.Reading.the-variants.{Refused, Number}
-use Rattle.registers.proofs.ErrorLaws.{numberOf-injective}
+use Rattle.registers.specs.declared.number.ReadNumber.{ReadNumber}
+use Rattle.registers.specs.declared.number.ReadNumber.the-variants.{Refused, Number}
+use Rattle.registers.proofs.error.Numbers.{numberOf-injective}
 use Rattle.registers.proofs.text.Laws.{first-within, rest-at}
 use Rattle.registers.proofs.number.Numerals.{held-before, numeral-append}
 
 -- two readings that mean the same are equal: `read`'s contract determines its result
-pub reading-unique : (a b : Reading) → meant a ≡ meant b → a ≡ b
-reading-unique (Refused x) (Refused y) e = ap Refused (numberOf-injective x y (cc))
-reading-unique (Refused x) (Number y) e = cc
-reading-unique (Number x) (Refused y) e = cc
-reading-unique (Number x) (Number y) e = cc
+pub number-unique : (a b : ReadNumber) → meant a ≡ meant b → a ≡ b
+number-unique (Refused x) (Refused y) e = ap Refused (numberOf-injective x y (cc))
+number-unique (Refused x) (Number y) e = cc
+number-unique (Number x) (Refused y) e = cc
+number-unique (Number x) (Number y) e = cc
 
--- ---- the parts, from a place on
+-- ---- the parts, at a place
 
 -- a sign is one byte
 pub sign-end : (t : Text) (at b : ℕ) → b ≡ first (drop at t) → at ≤ length t
@@ -84,7 +84,7 @@ module _ (t : Text) (at : ℕ) (w : Digits) (h : DigitsRead t at 0 w) where
         value =
             k .value
             ∙ ap (λ (v : ℕ). min held (numeralFrom v fraction)) (h .value)
-            ∙ held-before (numeral whole) fraction
+            ∙ held-before held (numeral whole) fraction
             ∙ ap (min held) (sym (numeral-append 0 whole fraction) ∙ ap numeral (sym all));
         count = count ∙ ap length (sym all);
         places = places ∙ ap length (sym is);

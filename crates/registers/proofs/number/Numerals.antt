@@ -1,4 +1,5 @@
--- Digits as a number, held at a bound, and how many digits a number has.
+-- Digits as a number, held at a bound, and how many digits a number has. That thirteen digits make 10 to the power 12 or more, and
+-- twelve less, is by induction over the digits: each multiplies by ten what stands before it.
 use mathlib.Core.Path.{_≡_, refl, ap, sym, _∙_}
 use mathlib.Core.Bool.{Bool, true, false}
 use mathlib.Core.List.{[], _∷_, _++_}
@@ -24,15 +25,15 @@ same-test a b c d f g = go (leb a b) refl
     go true q = sym (le-leb c d (f (leb-true a b q)))
     go false q = sym (lt-leb c d (g (leb-false a b q)))
 
--- a number held before further digits is the same held number
-pub held-before : (n : ℕ) (ds : Text) → min held (numeralFrom (min held n) ds) ≡ min held (numeralFrom n ds)
+-- a number held at a bound before further digits is the same held number
+pub held-before : (bound n : ℕ) (ds : Text) → min bound (numeralFrom (min bound n) ds) ≡ min bound (numeralFrom n ds)
 unfolding numeralFrom
-held-before n [] = omega arith
-held-before n (d ∷ ds) =
-    let next : min held (min held n * 10 + (d - 48)) ≡ min held (n * 10 + (d - 48)) = omega arith in
-    sym (held-before (min held n * 10 + (d - 48)) ds)
-    ∙ ap (λ (m : ℕ). min held (numeralFrom m ds)) next
-    ∙ held-before (n * 10 + (d - 48)) ds
+held-before bound n [] = omega arith
+held-before bound n (d ∷ ds) =
+    let next : min bound (min bound n * 10 + (d - 48)) ≡ min bound (n * 10 + (d - 48)) = omega arith in
+    sym (held-before bound (min bound n * 10 + (d - 48)) ds)
+    ∙ ap (λ (m : ℕ). min bound (numeralFrom m ds)) next
+    ∙ held-before bound (n * 10 + (d - 48)) ds
 
 pub numeral-append : (n : ℕ) (a b : Text) → numeralFrom n (a ++ b) ≡ numeralFrom (numeralFrom n a) b
 unfolding numeralFrom
@@ -45,7 +46,7 @@ one-more : (n x p r : ℕ) → x ≤ 9 → (n * 10 + x) * p ≤ r → r < (n * 1
     → (n * (p * 10) ≤ r) × (r < (n + 1) * (p * 10))
 one-more n x p r h low high = let a = mul-le-mul-right p h in (omega arith, omega arith)
 
--- so many digits behind n make a number from n to n + 1, times 10 to the power of their count
+-- so many digits after n make a number from n to n + 1, times 10 to the power of their count
 numeral-bounds : (n : ℕ) (ds : Text) → T (every digit ds)
     → (n * 10 ^ length ds ≤ numeralFrom n ds) × (numeralFrom n ds < (n + 1) * 10 ^ length ds)
 unfolding numeralFrom
@@ -122,7 +123,7 @@ module _ {t : Text} {at from value i : ℕ} (g : DigitsLeft t at from value i) w
       record {
         within = omega arith;
         low = omega arith;
-        number = rw e (held-before (value * 10 + (getD t i 0 - 48)) (start digit (drop (i + 1) t)) ∙ number);
+        number = rw e (held-before held (value * 10 + (getD t i 0 - 48)) (start digit (drop (i + 1) t)) ∙ number);
         end = omega arith;
       }
 

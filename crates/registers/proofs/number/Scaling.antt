@@ -1,13 +1,13 @@
 -- What a suffix does to a value, once over every power of ten: the scaled value is exact, and it is what is rounded.
 use mathlib.Core.Path.{_≡_, refl}
 use Prim.Native.Nat.{ℕ, _*_, _^_}
+use native.Mathlib.Nat.{mul-assoc}
 use native.Mathlib.Omega.{arith}
 use lib.Pow.{pow-add}
 use Rattle.registers.specs.Number.{scaled}
 use Rattle.registers.specs.Rounding.{nearest, sizeIn}
 use Rattle.registers.specs.declared.number.Decimal.{Decimal}
 use Rattle.registers.specs.declared.suffix.Power.{Power}
-use Rattle.registers.proofs.rounding.Tens.{times-tens}
 
 -- a value's size is over / under
 abbrev pub over : Decimal → ℕ
@@ -30,4 +30,5 @@ scaled-exact p d =
 pub scaled-rounded : (k : ℕ) (p : Power) (d : Decimal)
     → sizeIn k (scaled p d) ≡ nearest (over d * 10 ^ p .up * k) (under d * 10 ^ p .down)
 unfolding sizeIn scaled
-scaled-rounded k p d = rw (times-tens (d .digits) (d .up) (p .up), pow-add 10 (d .down) (p .down))
+scaled-rounded k p d =
+    rw (pow-add 10 (d .up) (p .up), ← mul-assoc (d .digits) (10 ^ d .up) (10 ^ p .up), pow-add 10 (d .down) (p .down))

@@ -1,5 +1,5 @@
 -- A rounded value held at a bound, with its sign in 64 bits: limits of 32 bits cannot tell it from the value itself.
-use mathlib.Core.Path.{_≡_, refl, ap, sym, _∙_}
+use mathlib.Core.Path.{_≡_, refl, sym, _∙_}
 use mathlib.Core.Bool.{Bool, true, false, _&&_, and-false}
 use Prim.Native.Nat.{ℕ, zero, suc, _+_, _*_, _^_, min, _≤_}
 use native.Mathlib.Omega.{arith}

@@ -1,6 +1,6 @@
 -- What `round_in` promises as an equation, for callers that need the record itself; and two results that meet it are equal. A
 -- case of an enum is told by what it means: `meantFit` has no value twice, and no number is two of equal, less and greater.
-use mathlib.Core.Path.{_≡_, refl, sym, _∙_, ap}
+use mathlib.Core.Path.{_≡_, refl, sym, _∙_}
 use mathlib.Core.Bool.{Bool, true, false, _&&_}
 use Prim.Native.Nat.{ℕ}
 use native.Mathlib.Omega.{arith}

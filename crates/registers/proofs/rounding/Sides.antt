@@ -14,7 +14,7 @@ use Rattle.registers.specs.RoundingParts.{beyond, sizedOver, heldOver}
 use Rattle.registers.specs.declared.rounding.Side.{Side}
 use Rattle.registers.specs.declared.rounding.Side.the-variants.{On, Below, Above}
 use Rattle.registers.specs.declared.rounding.Sized.{Sized}
-use Rattle.registers.proofs.rounding.Laws.{Nearest, nearest-only}
+use Rattle.registers.proofs.rounding.Laws.{nearest-only}
 use Rattle.registers.proofs.rounding.Tens.{ten-positive, times-tens, nearest-up, nearest-down}
 
 abbrev pub sized : ℕ → Side → Sized

@@ -1,5 +1,5 @@
 -- Rounding over powers of ten, held at a bound: what raising keeps and leaves, and a power of ten over another.
-use mathlib.Core.Path.{_≡_, refl, ap, sym, _∙_}
+use mathlib.Core.Path.{_≡_, ap, sym, _∙_}
 use mathlib.Core.Bool.{Bool, false, _&&_, and-true}
 use Prim.Native.Nat.{ℕ, suc, _+_, _-_, _*_, _^_, min, _≤_, _<_}
 use native.Mathlib.Omega.{arith}

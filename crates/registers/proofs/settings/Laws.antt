@@ -6,7 +6,7 @@ use mathlib.Core.List.{List, [], _∷_}
 use Prim.Native.Nat.{ℕ, zero, suc, _≤_, _<_}
 use native.Mathlib.Omega.{arith}
 use lib.ListN.{length, getD, List·getD-map, List·getD-eq-default}
-use lib.IntN.{ℤ, pos, negsuc}
+use lib.IntN.{ℤ, pos}
 use lib.Signed.{ltZ, mag}
 use lib.Dec.{ltb, eqb}
 use mir.Syntax.{w32}
@@ -15,14 +15,14 @@ use mir.Facts.{toZ-ofZ}
 use borrow.Author.Tests.{ltb-true, ltb-false}
 use Rattle.registers.specs.Text.{if_then_else_, below}
 use Rattle.registers.specs.Settings.{Kind, bool, words, number, Setting, table, row, kindOf, quantityOf, settingAt, lowestOf, highestOf, lowest, highest, wideRange, voltage, range, twelveVolts, valueAt, Sort, bools, someWords, numbers, sortOf, meantValues, valuesIn, within, conflict, stored, withValue, count, possibleSettings}
-use Rattle.registers.specs.SettingsParts.{valuesFrom, quantityFrom}
+use Rattle.registers.specs.SettingsParts.{lows, highs, kinds, valuesFrom, quantities, quantityFrom}
 use Rattle.registers.specs.declared.settings.Settings.{Settings}
 use Rattle.registers.specs.declared.settings.Values.{Values}
 use Rattle.registers.specs.declared.settings.Values.the-variants.{Bool as BoolValue, Word, Tenths, Whole}
 use Rattle.registers.specs.declared.suffix.Quantity.the-variants.{Nothing}
 use Rattle.registers.proofs.Tests.{and-both, and-fails, below-fails, ltZ-not}
 
--- a row's default is that of a row behind the table
+-- a row's default is that of a row past the table
 abbrev behind : Setting
 behind = row [] bool Nothing (pos 0)
 
@@ -32,28 +32,19 @@ getD-any (x ∷ l) zero d e h = refl
 getD-any (x ∷ l) (suc i) d e h = getD-any l i d e (omega arith)
 
 -- the code's tables of limits
-abbrev lowTable : List ℤ
-lowTable =
-    pos 0 ∷ pos 0 ∷ pos 0 ∷ pos 0 ∷ pos 0 ∷ pos 0 ∷ pos 400 ∷ pos 1 ∷ pos 0 ∷ pos 0 ∷ pos 1 ∷ pos 1 ∷ pos 5 ∷ negsuc 79 ∷ pos 0 ∷ pos 0 ∷ pos 0 ∷ []
-
-abbrev highTable : List ℤ
-highTable =
-    pos 1 ∷ pos 1 ∷ pos 1 ∷ pos 2 ∷ pos 240 ∷ pos 1 ∷ pos 5500 ∷ pos 20 ∷ pos 1 ∷ pos 1 ∷ pos 10 ∷ pos 10 ∷ pos 80 ∷ negsuc 4 ∷ pos 99 ∷ pos 1 ∷ pos 1 ∷ []
-
-low-at : (i : ℕ) → getD lowTable i (pos 0) ≡ lowestOf (kindOf i)
+low-at : (i : ℕ) → getD lows i (pos 0) ≡ lowestOf (kindOf i)
 unfolding table settingAt
 low-at i = List·getD-map (λ (x : Setting). lowestOf (x .kind)) table i behind
 
-high-at : (i : ℕ) → i < count → getD highTable i (pos 0) ≡ highestOf (kindOf i)
+high-at : (i : ℕ) → i < count → getD highs i (pos 0) ≡ highestOf (kindOf i)
 unfolding table settingAt
-high-at i h = getD-any highTable i (pos 0) (pos 1) h ∙ List·getD-map (λ (x : Setting). highestOf (x .kind)) table i behind
+high-at i h = getD-any highs i (pos 0) (pos 1) h ∙ List·getD-map (λ (x : Setting). highestOf (x .kind)) table i behind
 
 -- the code's kinds of values
-pub kind-at : (i : ℕ) → meantValues (valuesFrom (getD (0 ∷ 0 ∷ 0 ∷ 1 ∷ 2 ∷ 1 ∷ 2 ∷ 2 ∷ 1 ∷ 1 ∷ 3 ∷ 3 ∷ 2 ∷ 2 ∷ 3 ∷ 0 ∷ 0 ∷ []) i 0)) ≡ sortOf (kindOf i)
+pub kind-at : (i : ℕ) → meantValues (valuesFrom (getD kinds i 0)) ≡ sortOf (kindOf i)
 unfolding table settingAt valuesFrom if_then_else_
 kind-at i =
-    sym (List·getD-map (λ (n : ℕ). meantValues (valuesFrom n)) (0 ∷ 0 ∷ 0 ∷ 1 ∷ 2 ∷ 1 ∷ 2 ∷ 2 ∷ 1 ∷ 1 ∷ 3 ∷ 3 ∷ 2 ∷ 2 ∷ 3 ∷ 0 ∷ 0 ∷ []) i 0)
-    ∙ List·getD-map (λ (x : Setting). sortOf (x .kind)) table i behind
+    sym (List·getD-map (λ (n : ℕ). meantValues (valuesFrom n)) kinds i 0) ∙ List·getD-map (λ (x : Setting). sortOf (x .kind)) table i behind
 
 -- a name is told by what it means
 nameOf : Sort → Values
@@ -82,14 +73,11 @@ values-is v k e = named v ∙ ap nameOf e ∙ own k
     own (number n low high) = refl
 
 -- the code's quantities
-abbrev quantities : List ℕ
-quantities = 0 ∷ 0 ∷ 0 ∷ 0 ∷ 1 ∷ 0 ∷ 3 ∷ 2 ∷ 0 ∷ 0 ∷ 4 ∷ 4 ∷ 2 ∷ 2 ∷ 0 ∷ 0 ∷ 0 ∷ []
-
 pub quantity-at : (i : ℕ) → quantityFrom (getD quantities i 0) ≡ quantityOf i
 unfolding table settingAt quantityFrom if_then_else_
 quantity-at i = sym (List·getD-map quantityFrom quantities i 0) ∙ List·getD-map (λ (x : Setting). x .quantity) table i behind
 
--- a row behind the table
+-- a row past the table
 behind-row : (i : ℕ) → count ≤ i → settingAt i ≡ behind
 unfolding table settingAt
 behind-row i h = List·getD-eq-default table behind h
@@ -110,20 +98,46 @@ table-fits [] i h = record { sfits = omega arith }
 table-fits (z ∷ l) zero h = record { sfits = ltb-true (mag z) 2147483648 (and-both (ltb (mag z) 2147483648) (small l) h .0) }
 table-fits (z ∷ l) (suc i) h = table-fits l i (and-both (ltb (mag z) 2147483648) (small l) h .1)
 
--- the limits as the code reads them off its tables
-pub low-read : (i : ℕ) → toZ w32 (ofZ w32 (getD lowTable i (pos 0))) ≡ lowest i
-unfolding lowest
-low-read i = toZ-ofZ (table-fits lowTable i refl) ∙ low-at i
-
-pub high-read : (i : ℕ) → i < count → toZ w32 (ofZ w32 (getD highTable i (pos 0))) ≡ highestOf (kindOf i)
-high-read i h = toZ-ofZ (table-fits highTable i refl) ∙ high-at i h
-
 pub low-behind : (i : ℕ) → count ≤ i → pos 0 ≡ lowest i
 unfolding lowest
 low-behind i h = rw (behind-is i h)
 
 pub high-behind : (i : ℕ) → count ≤ i → pos 1 ≡ highestOf (kindOf i)
 high-behind i h = rw (behind-is i h)
+
+-- ---- the limits come back from their bits
+
+low-fits : (i : ℕ) → SFits w32 (lowestOf (kindOf i))
+unfolding table
+low-fits i = subst (λ (x : ℤ). SFits w32 x) (low-at i) (table-fits lows i refl)
+
+high-fits : (i : ℕ) → SFits w32 (highestOf (kindOf i))
+unfolding table
+high-fits i = go (ltb i count) refl
+  where
+    go : (t : Bool) → ltb i count ≡ t → SFits w32 (highestOf (kindOf i))
+    go true e = subst (λ (x : ℤ). SFits w32 x) (high-at i (ltb-true i count e)) (table-fits highs i refl)
+    go false e = subst (λ (x : ℤ). SFits w32 x) (high-behind i (ltb-false i count e)) (record { sfits = omega arith })
+
+pub low-back : (i : ℕ) → toZ w32 (ofZ w32 (lowest i)) ≡ lowest i
+unfolding lowest
+low-back i = toZ-ofZ (low-fits i)
+
+pub high-back : (s : Settings) (i : ℕ) → toZ w32 (ofZ w32 (highest s i)) ≡ highest s i
+unfolding highest if_then_else_
+high-back s i = toZ-ofZ (go (eqb i voltage && not (wideRange s)))
+  where
+    go : (t : Bool) → SFits w32 (if t then twelveVolts else highestOf (kindOf i))
+    go true = record { sfits = omega arith }
+    go false = high-fits i
+
+-- as the code reads them off its tables
+pub low-read : (i : ℕ) → toZ w32 (ofZ w32 (getD lows i (pos 0))) ≡ lowest i
+unfolding lowest
+low-read i = ap (λ (z : ℤ). toZ w32 (ofZ w32 z)) (low-at i) ∙ low-back i
+
+pub high-read : (i : ℕ) → i < count → toZ w32 (ofZ w32 (getD highs i (pos 0))) ≡ highestOf (kindOf i)
+high-read i h = ap (λ (z : ℤ). toZ w32 (ofZ w32 z)) (high-at i h) ∙ toZ-ofZ (high-fits i)
 
 -- ---- the highest value, by the range
 
@@ -135,27 +149,6 @@ module _ (s : Settings) (i : ℕ) where
   pub high-other : (eqb i voltage && ltZ (valueAt s range) (pos 1)) ≡ false → highestOf (kindOf i) ≡ highest s i
   unfolding highest wideRange if_then_else_
   high-other e = rw (← ltZ-not (valueAt s range) (pos 1), e)
-
--- ---- the limits come back from their bits
-
-high-fits : (i : ℕ) → SFits w32 (highestOf (kindOf i))
-high-fits i = go (ltb i count) refl
-  where
-    go : (t : Bool) → ltb i count ≡ t → SFits w32 (highestOf (kindOf i))
-    go true e = subst (λ (x : ℤ). SFits w32 x) (high-at i (ltb-true i count e)) (table-fits highTable i refl)
-    go false e = subst (λ (x : ℤ). SFits w32 x) (high-behind i (ltb-false i count e)) (record { sfits = omega arith })
-
-pub low-back : (i : ℕ) → toZ w32 (ofZ w32 (lowest i)) ≡ lowest i
-unfolding lowest
-low-back i = toZ-ofZ (subst (λ (x : ℤ). SFits w32 x) (low-at i) (table-fits lowTable i refl))
-
-pub high-back : (s : Settings) (i : ℕ) → toZ w32 (ofZ w32 (highest s i)) ≡ highest s i
-unfolding highest if_then_else_
-high-back s i = toZ-ofZ (go (eqb i voltage && not (wideRange s)))
-  where
-    go : (t : Bool) → SFits w32 (if t then twelveVolts else highestOf (kindOf i))
-    go true = record { sfits = omega arith }
-    go false = high-fits i
 
 -- ---- a value that is stored, by checks 7 and 8
 

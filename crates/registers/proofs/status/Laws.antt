@@ -1,28 +1,26 @@
 -- The status record by cases: an error raised, the oldest removed, a condition reported, a register set, the status byte, and
 -- refusal 4.
-use mathlib.Core.Path.{_≡_, refl, sym, ap}
+use mathlib.Core.Path.{_≡_, refl, sym}
 use mathlib.Core.Bool.{Bool, true, false, not, _&&_}
-use mathlib.Core.List.{List, [], _∷_, _++_, map}
+use mathlib.Core.List.{List, [], _∷_, _++_}
 use Prim.Native.Nat.{ℕ, zero, suc, _+_, _-_, _*_, _^_, _≤_, _<_}
 use native.Mathlib.Omega.{arith}
 use lib.Bits.{bitOr}
 use lib.Dec.{leb, eqb}
-use native.Mathlib.Numerals.{add-one}
-use lib.ListN.{length, take, drop, getD, set, replicate, length-take, length-drop, drop-of-length-le}
-use lib.Seq.{set-at, take-suc, take-all, append-snoc, getD-take}
+use lib.ListN.{length, take, drop, getD, set, length-take}
 use mir.Syntax.{w8, w16, w64}
 use mir.Val.{Fits}
 use borrow.Author.Tests.{lt-ltb, le-ltb, le-leb, lt-leb, eq-eqb, ne-eqb}
 use Rattle.registers.specs.Text.{if_then_else_, first, empty, every}
-use Rattle.registers.specs.Errors.{eventBit, overflow, known}
-use Rattle.registers.specs.Group.{meet, widestGroup, eventRead, possibleGroup, noGroup}
-use Rattle.registers.specs.Status.{registersOf, troubleOf, raisedIn, oldestReadIn, reportedIn, registerSet, storedIn, withTrouble, withRegisters, setReported, setBits, placeOf, most, widest, bitIf, summary, statusByte, possibleRegisters, possibleTrouble, possibleStatus}
+use Rattle.registers.specs.Error.{eventBit, overflow}
+use Rattle.registers.specs.Queue.{mayBeQueued, most}
+use Rattle.registers.specs.Group.{meet, widestGroup, noGroup}
+use Rattle.registers.specs.Status.{registersOf, troubleOf, raisedIn, oldestReadIn, reportedIn, registerSet, storedIn, withTrouble, withRegisters, setReported, setBits, placeOf, widest, bitIf, summary, statusByte, possibleRegisters, possibleTrouble, possibleStatus}
 use Rattle.registers.specs.declared.status.Register.{Register}
 use Rattle.registers.specs.declared.status.RegisterSet.{RegisterSet}
 use Rattle.registers.specs.declared.status.RegisterSet.the-variants.{Operation, Lock, Warning}
 use Rattle.registers.specs.declared.group.Group.{Group}
 use Rattle.registers.specs.declared.status.Status.{Status}
-use Rattle.registers.proofs.Tests.{every-skip, every-miss}
 
 -- ---- an error raised, by the room in the queue
 
@@ -59,22 +57,6 @@ module _ (s : Status) where
   pub oldest-some : (s .queued ≡ 0 → ⊥) → oldestReadIn s ≡ withTrouble (s .events) (s .queued - 1) (drop 1 (s .errors) ++ 0 ∷ []) s
   unfolding oldestReadIn if_then_else_
   oldest-some e = rw (ne-eqb (s .queued) 0 e)
-
--- the queue moves up by one: a turn of the loop, and its end
-pub shift-turn : (e : List ℕ) (i : ℕ) → length e ≡ 16 → i < 15
-    → set (take i (drop 1 e) ++ replicate (16 - i) 0) i (getD e (i + 1) 0) ≡ take (i + 1) (drop 1 e) ++ replicate (16 - (i + 1)) 0
-shift-turn [] i long h = absurd (omega arith)
-shift-turn (x ∷ l) i long h =
-    let hl : i < length l = omega arith in
-    let n : 16 - i ≡ suc (15 - i) = omega arith in
-    let m : 16 - suc i ≡ 15 - i = omega arith in
-    let t : length (take i l) ≡ i = rw length-take (omega arith) in
-    rw (add-one i, n, m, set-at (take i l) 0 (replicate (15 - i) 0) (getD l i 0) i t, take-suc l i 0 hl)
-    (sym (append-snoc (take i l) (getD l i 0) (replicate (15 - i) 0)))
-
-pub shift-end : (e : List ℕ) (i : ℕ) → length e ≡ 16 → i ≡ 15
-    → take i (drop 1 e) ++ replicate (16 - i) 0 ≡ drop 1 e ++ 0 ∷ []
-shift-end e i long h = rw (h, take-all 15 (drop 1 e) (rw length-drop (omega arith)))
 
 -- ---- a condition reported and a register set, by the width
 
@@ -145,31 +127,13 @@ module _ (s : Status) (answers : Bool) (long : length (s .errors) ≡ 16) where
 front-short : (l : List ℕ) (q : ℕ) → q ≤ most → leb (length (take q l)) most ≡ true
 front-short l q h = le-leb (length (take q l)) most (rw length-take (omega arith))
 
--- the loop over the numbers that wait
-module _ (errors : List ℕ) (count i : ℕ) (long : length errors ≡ 16) (h : count ≤ 16) where
-  waiting : length (take count errors) ≡ count
-  waiting = rw length-take (omega arith)
-
-  module _ (k : i < count) where
-    within : i < length (take count errors)
-    within = let w = waiting in omega arith
-
-    pub known-one : known (getD errors i 0) ≡ true → every known (drop i (take count errors)) ≡ every known (drop (i + 1) (take count errors))
-    known-one e = every-skip known (take count errors) i within (rw (getD-take count errors i 0 k) e)
-
-    pub known-none : known (getD errors i 0) ≡ false → every known (drop i (take count errors)) ≡ false
-    known-none e = every-miss known (take count errors) i within (rw (getD-take count errors i 0 k) e)
-
-  pub known-all : count ≤ i → every known (drop i (take count errors)) ≡ true
-  known-all k = let w = waiting in let past : length (take count errors) ≤ i = omega arith in rw (drop-of-length-le (take count errors) past)
-
 module _ (s : Status) where
   pub queue-above : most < s .queued → false ≡ possibleStatus s
   unfolding possibleStatus
   queue-above h = rw (lt-leb (s .queued) most h)
 
   pub queue-within : s .queued ≤ most
-      → possibleRegisters (registersOf s) && (leb (s .events) 255 && every known (take (s .queued) (s .errors))) ≡ possibleStatus s
+      → possibleRegisters (registersOf s) && (leb (s .events) 255 && every mayBeQueued (take (s .queued) (s .errors))) ≡ possibleStatus s
   unfolding possibleStatus possibleTrouble
   queue-within h = rw (le-leb (s .queued) most h, front-short (s .errors) (s .queued) h)
 
@@ -180,32 +144,6 @@ pub place-within : (x : RegisterSet) → placeOf x < 3
 place-within Operation = omega arith
 place-within Lock = omega arith
 place-within Warning = omega arith
-
--- the three by their places
-pub three : (l : List Group) → length l ≡ 3 → l ≡ getD l 0 noGroup ∷ getD l 1 noGroup ∷ getD l 2 noGroup ∷ []
-three [] e = absurd (omega arith)
-three (a ∷ []) e = absurd (omega arith)
-three (a ∷ b ∷ []) e = absurd (omega arith)
-three (a ∷ b ∷ c ∷ []) e = refl
-three (a ∷ b ∷ c ∷ d ∷ l) e = absurd (omega arith)
-
-pub three-read : (l : List Group) → length l ≡ 3
-    → eventRead (getD l 0 noGroup) ∷ eventRead (getD l 1 noGroup) ∷ eventRead (getD l 2 noGroup) ∷ [] ≡ map eventRead l
-three-read l e = sym (ap (map eventRead) (three l e))
-
-pub three-possible : (l : List Group) → length l ≡ 3
-    → (possibleGroup (getD l 0 noGroup) && possibleGroup (getD l 1 noGroup) && possibleGroup (getD l 2 noGroup)) ≡ every possibleGroup l
-three-possible [] e = absurd (omega arith)
-three-possible (a ∷ []) e = absurd (omega arith)
-three-possible (a ∷ b ∷ []) e = absurd (omega arith)
-three-possible (a ∷ b ∷ c ∷ []) e = shape (possibleGroup a) (possibleGroup b) (possibleGroup c)
-  where
-    shape : (a b c : Bool) → (a && b && c) ≡ (a && (b && (c && true)))
-    shape true true true = refl
-    shape true true false = refl
-    shape true false c = refl
-    shape false b c = refl
-three-possible (a ∷ b ∷ c ∷ d ∷ l) e = absurd (omega arith)
 
 -- the weights of the three bits
 pub bits-are : (l : List Group) → let bit : ℕ → ℕ → ℕ = λ i w. if meet (getD l i noGroup .event) (getD l i noGroup .enable) then w else 0 in

@@ -10,9 +10,10 @@ use lib.ListN.{length, take, set, getD, length-append, length-take}
 use lib.Seq.{getD-set-same, getD-set-other}
 use borrow.Author.Tests.{le-leb, leb-true, ltb-true, eqb-true}
 use Rattle.registers.specs.Text.{if_then_else_, every, rest, below}
-use Rattle.registers.specs.Errors.{eventBit, overflow, known, queueable}
+use Rattle.registers.specs.Error.{eventBit, overflow}
+use Rattle.registers.specs.Queue.{mayBeQueued, queueable, most}
 use Rattle.registers.specs.Group.{widestGroup, conditionIs, eventRead, possibleGroup, noGroup}
-use Rattle.registers.specs.Status.{Trouble, Registers, raised, noTrouble, completed, eventsRead, oldestRead, groupIn, withGroup, setRead, allRead, setReported, placeOf, storedIn, withoutBit6, widest, most, possibleRegisters, possibleTrouble}
+use Rattle.registers.specs.Status.{Trouble, Registers, raised, noTrouble, completed, eventsRead, oldestRead, groupIn, withGroup, setRead, allRead, setReported, placeOf, storedIn, withoutBit6, widest, possibleRegisters, possibleTrouble}
 use Rattle.registers.specs.declared.status.Register.{Register}
 use Rattle.registers.specs.declared.status.Register.the-variants.{Ese, Sre, Enable, Ntr, Ptr}
 use Rattle.registers.specs.declared.status.RegisterSet.{RegisterSet}
@@ -39,7 +40,7 @@ bit-byte n = go (ltb n 200) (ltb n 300) (ltb n 400)
 pub record Good (t : Trouble) : Type 0 where
   pub queue : length (t .queue) ≤ most
   pub events : t .events ≤ 255
-  pub numbers : every known (t .queue) ≡ true
+  pub numbers : every mayBeQueued (t .queue) ≡ true
 
 pub good-from : (t : Trouble) → possibleTrouble t ≡ true → Good t
 unfolding possibleTrouble
@@ -57,8 +58,8 @@ length-rest [] n h = zero-le
 length-rest (x ∷ l) n h = omega arith
 
 module _ (t : Trouble) (g : Good t) where
-  pub raised-good : (n : ℕ) → known n ≡ true → Good (raised n t)
-  unfolding raised if_then_else_ known queueable
+  pub raised-good : (n : ℕ) → mayBeQueued n ≡ true → Good (raised n t)
+  unfolding raised if_then_else_ mayBeQueued queueable
   raised-good n k = go (ltb (length (t .queue)) most) refl
     where
       go : (b : Bool) → ltb (length (t .queue)) most ≡ b
@@ -68,13 +69,13 @@ module _ (t : Trouble) (g : Good t) where
           record {
             queue = let h = ltb-true (length (t .queue)) most e in simp length-append (omega arith);
             events = or-byte (t .events) _ (g .events) (bit-byte n);
-            numbers = every-append known (t .queue) (n ∷ []) (g .numbers) (rw k refl);
+            numbers = every-append mayBeQueued (t .queue) (n ∷ []) (g .numbers) (rw k refl);
           }
       go false e =
           record {
             queue = simp (length-append, length-take) (omega arith);
             events = or-byte _ _ (or-byte (t .events) _ (g .events) (bit-byte n)) (bit-byte overflow);
-            numbers = every-append known (take 15 (t .queue)) (overflow ∷ []) (every-take known 15 (t .queue) (g .numbers)) refl;
+            numbers = every-append mayBeQueued (take 15 (t .queue)) (overflow ∷ []) (every-take mayBeQueued 15 (t .queue) (g .numbers)) refl;
           }
 
   pub completed-good : Good (completed t)
@@ -91,7 +92,7 @@ module _ (t : Trouble) (g : Good t) where
       record {
         queue = length-rest (t .queue) most (g .queue);
         events = g .events;
-        numbers = every-rest known (t .queue) (g .numbers);
+        numbers = every-rest mayBeQueued (t .queue) (g .numbers);
       }
 
 pub none-good : Good noTrouble

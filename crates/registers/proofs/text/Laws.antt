@@ -1,6 +1,7 @@
--- Laws of a text read from a place on, over any test of a byte: its first byte, the longest start that passes, and what stands after it.
+-- Laws of a text read from a place, over any test of a byte: its first byte, the longest start that passes, and what stands after
+-- it. `OnWay` is the invariant of every scan: from its place a scan finds the end that the start of the text has.
 use mathlib.Core.Path.{_≡_, refl, ap, sym, _∙_}
-use mathlib.Core.Bool.{Bool, true, false, not, Bool·beq, false≢true}
+use mathlib.Core.Bool.{Bool, true, false, false≢true}
 use mathlib.Core.List.{[], _∷_}
 use Prim.Native.Nat.{ℕ, zero, suc, _+_, _≤_, _<_}
 use native.Mathlib.Numerals.{add-one}
@@ -10,23 +11,7 @@ use lib.ListN.{length, getD, drop, length-drop, drop-of-length-le, List·getD-eq
 use lib.Seq.{drop-cons, drop-drop}
 use mir.Facts.{and-yes}
 use borrow.Author.Tests.{ltb-true, ltb-false}
-use Rattle.registers.specs.TextParts.{whiteIs}
-use Rattle.registers.specs.Text.{Text, if_then_else_, white, digit, every, empty, first, rest, start, after}
-
--- ---- a byte's kind
-
--- whether a byte is white space or not as is asked for, by the code's test that it differs
-pub kind-told : (blank : Bool) (b : ℕ) (w : Bool) {t : Bool} → w ≡ white b → not (Bool·beq w blank) ≡ t → whiteIs blank b ≡ not t
-kind-told true b w e q = rw (sym e, sym q) (go w)
-  where
-    go : (w : Bool) → w ≡ not (not (Bool·beq w true))
-    go true = refl
-    go false = refl
-kind-told false b w e q = rw (sym e, sym q) (go w)
-  where
-    go : (w : Bool) → not w ≡ not (not (Bool·beq w false))
-    go true = refl
-    go false = refl
+use Rattle.registers.specs.Text.{Text, if_then_else_, digit, every, empty, first, rest, start, after}
 
 -- ---- at a place
 
@@ -42,7 +27,7 @@ rest-at [] (suc i) = rw add-one
 rest-at (x ∷ l) zero = refl
 rest-at (x ∷ l) (suc i) = rest-at l i ∙ rw (add-one, add-one)
 
--- nothing stands from a place on exactly where it is at or behind the end
+-- nothing is left at a place exactly where it is at or past the end
 pub empty-at : (l : Text) (i : ℕ) → empty (drop i l) ≡ leb (length l) i
 empty-at [] zero = refl
 empty-at [] (suc i) = sym (leb·zero (suc i))
@@ -59,7 +44,7 @@ first-within p l i z e = go (ltb i (length l)) refl
         let none = first-at l i ∙ List·getD-eq-default l 0 (ltb-false i (length l) q) in
         absurd (false≢true (sym z ∙ ap p (sym none) ∙ e))
 
--- ---- the longest start that passes, from a place on: one byte more, or its end
+-- ---- the longest start that passes, at a place: one byte more, or its end
 
 module _ (p : ℕ → Bool) (l : Text) (i : ℕ) (h : i < length l) where
   pub start-more : p (getD l i 0) ≡ true → start p (drop i l) ≡ getD l i 0 ∷ start p (drop (i + 1) l)

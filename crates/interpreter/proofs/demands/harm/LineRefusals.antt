@@ -9,7 +9,7 @@ use lib.Dec.{eqb}
 use borrow.Author.Tests.{ne-eqb}
 use Rattle.registers.specs.Text.{Text, if_then_else_, empty}
 use Rattle.registers.specs.Check.{Checked, refused, passed}
-use Rattle.registers.specs.Errors.{known, queueable}
+use Rattle.registers.specs.Queue.{mayBeQueued, queueable}
 use Rattle.interpreter.specs.Cuts.{cutAt}
 use Rattle.interpreter.specs.Box.{Box}
 use Rattle.interpreter.specs.Unit.{raisable}
@@ -23,7 +23,7 @@ use Rattle.interpreter.proofs.demands.harm.UnitRefusals.{attempt-known}
 
 -- no unit is refused by 0
 not-zero : (n : ℕ) → raisable n ≡ true → n ≡ 0 → ⊥
-unfolding known queueable
+unfolding mayBeQueued queueable
 not-zero n e z = false≢true (ap raisable (sym z) ∙ e)
 
 abbrev Stopped : ℕ → Box → Box

@@ -4,7 +4,7 @@ use mathlib.Core.Path.{refl}
 use mathlib.Core.List.{List}
 use borrow.Author.Tests.{eq-eqb, ne-eqb}
 use Rattle.registers.specs.Text.{Text, if_then_else_}
-use Rattle.registers.specs.Errors.{known, queueable}
+use Rattle.registers.specs.Queue.{mayBeQueued, queueable}
 use Rattle.interpreter.specs.Box.{Core, Box}
 use Rattle.interpreter.specs.Unit.{readUnit}
 use Rattle.interpreter.specs.Reply.{reply}
@@ -18,7 +18,7 @@ use Rattle.interpreter.proofs.unit.Allowed.{read-known}
 use Rattle.interpreter.proofs.perform.Permitted.{hold-permitted}
 
 reply-known : (t : Text) (c : Core) → Holds Any (reply t c)
-unfolding reply known queueable
+unfolding reply mayBeQueued queueable
 reply-known t c = hold-check Any 430 _ _ refl (λ _. passes tt)
 
 perform-known : (d : Deed) (b : Box) → Holds Any (perform d b)

@@ -12,7 +12,8 @@ use Rattle.registers.specs.Number.{afterSign, fractionOf, afterFraction, expone
 use Rattle.registers.specs.Suffix.{suffixes, noSuffix, powerIn, remains}
 use Rattle.registers.specs.Rounding.{switchedOn, nearest, sizeIn, rounded, sizeSide, sideIn}
 use Rattle.registers.specs.Answer.{inPlaces, decimal, tenths}
-use Rattle.registers.specs.Errors.{eventBit, known, queueable}
+use Rattle.registers.specs.Error.{eventBit}
+use Rattle.registers.specs.Queue.{mayBeQueued, queueable}
 use Rattle.registers.specs.Settings.{count, table, settingAt, atReset, wideRange, lowest, highest, within, conflict, examined, accepted, answerOf}
 use Rattle.registers.specs.Group.{rises, falls, eventsAfter, conditionIs, possibleGroup}
 use Rattle.registers.specs.Status.{raised, locked, atStart, registersOf, possibleRegisters, possibleTrouble}
@@ -62,7 +63,7 @@ abbrev sentOther : List Event
 sentOther = text "VOLT 0.0" ∷ []
 
 other-own : Own other
-unfolding possible possibleCore possibleRegisters possibleTrouble possibleGroup known queueable powerUp atStart bytes
+unfolding possible possibleCore possibleRegisters possibleTrouble possibleGroup mayBeQueued queueable powerUp atStart bytes
 other-own = record { could = rw reset-possible; values = power-up-own .values }
 
 -- and of one that lacks the lock's premise alone, and is refused for it

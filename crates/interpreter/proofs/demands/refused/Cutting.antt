@@ -77,22 +77,22 @@ blank-refused s path u h = rw (after-all white u h, header-none) (go (every (λ 
     go false = (101, refl)
 
 -- nothing, or a first unit that is not blank
-abbrev darkFirst : List Text → Bool
-darkFirst [] = true
-darkFirst (u ∷ us) = not (every white u)
+abbrev visibleFirst : List Text → Bool
+visibleFirst [] = true
+visibleFirst (u ∷ us) = not (every white u)
 
-dark-first : (us path : List Text) (b : Box) → darkFirst (obeyed us path b) ≡ true
+visible-first : (us path : List Text) (b : Box) → visibleFirst (obeyed us path b) ≡ true
 unfolding obeyed attempt _>>=_
-dark-first [] path b = refl
-dark-first (w ∷ us) path b = go (every white w) refl
+visible-first [] path b = refl
+visible-first (w ∷ us) path b = go (every white w) refl
   where
-    dark : every white w ≡ false → (r : Checked Obeyed) → darkFirst (obeyedNext (λ p c. obeyed us p c) w r) ≡ true
-    dark q (refused n) = refl
-    dark q (passed o) = rw q
+    visible : every white w ≡ false → (r : Checked Obeyed) → visibleFirst (obeyedNext (λ p c. obeyed us p c) w r) ≡ true
+    visible q (refused n) = refl
+    visible q (passed o) = rw q
 
-    go : (t : Bool) → every white w ≡ t → darkFirst (obeyed (w ∷ us) path b) ≡ true
+    go : (t : Bool) → every white w ≡ t → visibleFirst (obeyed (w ∷ us) path b) ≡ true
     go true q = rw (blank-refused (b .core .settings) path w q .1)
-    go false q = dark q (attempt path b w)
+    go false q = visible q (attempt path b w)
 
 -- what holds of every unit holds of every unit that is obeyed
 every-obeyed : (p : Text → Bool) (us path : List Text) (b : Box) → every p us ≡ true → every p (obeyed us path b) ≡ true
@@ -115,7 +115,7 @@ blank-joined u [] t = t
 blank-joined u (v ∷ us) t = blank-start white u (code ";" ∷ joinUnits (v ∷ us)) t
 
 -- units joined, and cut as a line
-units-joined : (us : List Text) → every (free (code ";")) us ≡ true → darkFirst us ≡ true → unitsOf (joinUnits us) ≡ us
+units-joined : (us : List Text) → every (free (code ";")) us ≡ true → visibleFirst us ≡ true → unitsOf (joinUnits us) ≡ us
 unfolding unitsOf joinUnits if_then_else_
 units-joined [] t h = refl
 units-joined (u ∷ us) t h =
@@ -135,7 +135,7 @@ run-cut : (line : Text) (b : Box) → (refusal (unitsOf line) [] b ≡ 430 → �
 unfolding runLine if_then_else_
 run-cut line b h =
     let us = obeyed (unitsOf line) [] b in
-    let e = units-joined us (every-obeyed (free (code ";")) (unitsOf line) [] b (units-free line)) (dark-first (unitsOf line) [] b) in
+    let e = units-joined us (every-obeyed (free (code ";")) (unitsOf line) [] b (units-free line)) (visible-first (unitsOf line) [] b) in
     over-cores (λ x y. finished x .core ≡ finished y .core) finished-core _ _ (units-cut (unitsOf line) [] b h)
     ∙ ap (λ (vs : List Text). finished (runUnits vs [] b) .core) (sym e)
 

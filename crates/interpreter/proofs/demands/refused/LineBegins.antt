@@ -6,7 +6,7 @@ use Prim.Native.Nat.{ℕ}
 use lib.Dec.{eqb}
 use Rattle.registers.specs.Text.{Text, empty}
 use Rattle.registers.specs.Check.{Checked, refused, passed}
-use Rattle.registers.specs.Errors.{known, queueable}
+use Rattle.registers.specs.Queue.{mayBeQueued, queueable}
 use Rattle.interpreter.specs.Box.{Core, Box, powerUp}
 use Rattle.interpreter.specs.Unit.{readUnit}
 use Rattle.interpreter.specs.Perform.{changed, afterQuery, perform}
@@ -47,7 +47,7 @@ query-fresh (Condition x) c f = f
 query-fresh (SetEvents x) c f = f
 
 reply-fresh : (t : Text) (c : Core) → Fresh c → Holds Fresh (reply t c)
-unfolding reply known queueable
+unfolding reply mayBeQueued queueable
 reply-fresh t c f = hold-check Fresh 430 _ _ refl (λ _. passes f)
 
 perform-fresh : (d : Deed) (b : Box) → FreshBox b → Holds FreshBox (perform d b)

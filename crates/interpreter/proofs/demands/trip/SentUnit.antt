@@ -8,7 +8,7 @@ use Prim.Native.Char.{code}
 use native.Mathlib.Omega.{arith}
 use lib.Dec.{leb, eqb}
 use borrow.Author.Tests.{not-true, leb-true, lt-leb, ne-eqb}
-use Rattle.registers.specs.Text.{Text, if_then_else_, white, dark, printable, every, empty, start, after}
+use Rattle.registers.specs.Text.{Text, if_then_else_, white, visible, printable, every, empty, start, after}
 use Rattle.registers.specs.Check.{passed, check, _>>=_, _>>_}
 use Rattle.registers.specs.declared.settings.Settings.{Settings}
 use Rattle.registers.proofs.Tests.{and-both, and-fails, every-append}
@@ -30,9 +30,9 @@ use Rattle.interpreter.proofs.unit.HeaderAllowed.{white-allowed, solid-
 
 -- ---- white space and solid bytes
 
-solid-dark : (b : ℕ) → solid b ≡ true → white b ≡ false
+solid-visible : (b : ℕ) → solid b ≡ true → white b ≡ false
 unfolding solid
-solid-dark b e = not-true (white b) (and-both (not (white b)) _ e .0)
+solid-visible b e = not-true (white b) (and-both (not (white b)) _ e .0)
 
 skip-white : (l t : Text) → every white l ≡ true → after white (l ++ t) ≡ after white t
 unfolding if_then_else_
@@ -43,23 +43,23 @@ skip-white (b ∷ l) t h = let e = and-both (white b) (every white l) h in rw (e
 solid-stays : (h t : Text) → empty h ≡ false → every solid h ≡ true → after white (h ++ t) ≡ h ++ t
 unfolding if_then_else_
 solid-stays [] t n h = absurd (false≢true (sym n))
-solid-stays (b ∷ h) t n e = rw (solid-dark b (and-both (solid b) (every solid h) e .0))
+solid-stays (b ∷ h) t n e = rw (solid-visible b (and-both (solid b) (every solid h) e .0))
 
 -- a solid text ends where white space begins
-solid-start : (h g t : Text) → every solid h ≡ true → empty g ≡ false → every white g ≡ true → start dark (h ++ (g ++ t)) ≡ h
+solid-start : (h g t : Text) → every solid h ≡ true → empty g ≡ false → every white g ≡ true → start visible (h ++ (g ++ t)) ≡ h
 unfolding if_then_else_
 solid-start [] [] t e n w = absurd (false≢true (sym n))
 solid-start [] (x ∷ g) t e n w = rw (and-both (white x) (every white g) w .0)
 solid-start (b ∷ h) g t e n w =
     let p = and-both (solid b) (every solid h) e in
-    rw (solid-dark b (p .0)) (ap (λ (x : Text). b ∷ x) (solid-start h g t (p .1) n w))
+    rw (solid-visible b (p .0)) (ap (λ (x : Text). b ∷ x) (solid-start h g t (p .1) n w))
 
-solid-after : (h g t : Text) → every solid h ≡ true → empty g ≡ false → every white g ≡ true → after dark (h ++ (g ++ t)) ≡ g ++ t
+solid-after : (h g t : Text) → every solid h ≡ true → empty g ≡ false → every white g ≡ true → after visible (h ++ (g ++ t)) ≡ g ++ t
 unfolding if_then_else_
 solid-after [] [] t e n w = absurd (false≢true (sym n))
 solid-after [] (x ∷ g) t e n w = rw (and-both (white x) (every white g) w .0)
 solid-after (b ∷ h) g t e n w =
-    let p = and-both (solid b) (every solid h) e in rw (solid-dark b (p .0)) (solid-after h g t (p .1) n w)
+    let p = and-both (solid b) (every solid h) e in rw (solid-visible b (p .0)) (solid-after h g t (p .1) n w)
 
 white-end : (r : Text) → every white r ≡ true → trimEnd r ≡ []
 unfolding trimEnd if_then_else_
@@ -71,7 +71,7 @@ unfolding trimEnd if_then_else_
 solid-end [] r e w = white-end r w
 solid-end (b ∷ a) r e w =
     let p = and-both (solid b) (every solid a) e in
-    rw (solid-dark b (p .0)) (ap (λ (x : Text). b ∷ x) (solid-end a r (p .1) w))
+    rw (solid-visible b (p .0)) (ap (λ (x : Text). b ∷ x) (solid-end a r (p .1) w))
 
 solid-trim : (g a r : Text) → every white g ≡ true → empty a ≡ false → every solid a ≡ true → every white r ≡ true → trim (g ++ (a ++ r)) ≡ a
 unfolding trim
@@ -109,10 +109,10 @@ spelt-some : (i : ℕ) (h : Text) → Spelling i h → empty h ≡ false
 spelt-some i [] s = absurd (apart 102 (s .read) (sym header-none ∙ s .reads))
 spelt-some i (b ∷ h) s = refl
 
-dark-line : (l h t : Text) → empty h ≡ false → every solid h ≡ true → every white (l ++ (h ++ t)) ≡ false
-dark-line [] [] t n e = absurd (false≢true (sym n))
-dark-line [] (b ∷ h) t n e = rw (solid-dark b (and-both (solid b) (every solid h) e .0))
-dark-line (x ∷ l) h t n e = and-fails (white x) _ (dark-line l h t n e)
+visible-line : (l h t : Text) → empty h ≡ false → every solid h ≡ true → every white (l ++ (h ++ t)) ≡ false
+visible-line [] [] t n e = absurd (false≢true (sym n))
+visible-line [] (b ∷ h) t n e = rw (solid-visible b (and-both (solid b) (every solid h) e .0))
+visible-line (x ∷ l) h t n e = and-fails (white x) _ (visible-line l h t n e)
 
 pub record Line (i : ℕ) (left h gap a right : Text) : Type 0 where
   pub spelling : Spelling i h
@@ -146,7 +146,7 @@ module _ (i : ℕ) (left h gap a right : Text) (l : Line i left h gap a right) w
   alone =
       let j : (t : Text) → every white t ≡ true → every (other (code ";")) t ≡ true = λ t w. every-map white (other (code ";")) white-joins t w in
       let k : (t : Text) → every solid t ≡ true → every (other (code ";")) t ≡ true = λ t w. every-map solid (other (code ";")) solid-joins t w in
-      rw (dark-line left h (gap ++ (a ++ right)) some h-solid)
+      rw (visible-line left h (gap ++ (a ++ right)) some h-solid)
       (cut-one (code ";") line (
       every-part (other (code ";")) left h gap a right (j left (l .leftWhite)) (k h h-solid) (j gap (l .gapWhite)) (k a a-solid) (j right (l .rightWhite))))
 
@@ -160,11 +160,11 @@ module _ (i : ℕ) (left h gap a right : Text) (l : Line i left h gap a right) w
   skipped = skip-white left (h ++ (gap ++ (a ++ right))) (l .leftWhite) ∙ solid-stays h (gap ++ (a ++ right)) some h-solid
 
   header-is : headerText line ≡ h
-  header-is = ap (start dark) skipped ∙ solid-start h gap (a ++ right) h-solid (l .gapThere) (l .gapWhite)
+  header-is = ap (start visible) skipped ∙ solid-start h gap (a ++ right) h-solid (l .gapThere) (l .gapWhite)
 
   parameter-is : parameterText line ≡ a
   parameter-is =
-      ap (λ (t : Text). trim (after dark t)) skipped
+      ap (λ (t : Text). trim (after visible t)) skipped
       ∙ ap trim (solid-after h gap (a ++ right) h-solid (l .gapThere) (l .gapWhite))
       ∙ solid-trim gap a right (l .gapWhite) (a-plain .0) a-solid (l .rightWhite)
 

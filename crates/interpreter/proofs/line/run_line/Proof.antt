@@ -51,11 +51,11 @@ returns-3 c =
     let r = c .before .before .before .run-units in
     let w = r .ensures in
     let room = w .room in
-    let dark = not-blank (a .line .now) (c .before .before .before .before .before .before .white-end .result) (c .before .before .before .before .before .before .white-end .ensures) (c .before .before .before .before .before .if2 .left) in
+    let visible = not-blank (a .line .now) (c .before .before .before .before .before .before .white-end .result) (c .before .before .before .before .before .before .white-end .ensures) (c .before .before .before .before .before .if2 .left) in
     record {
       queued = w .queued;
       room = omega arith;
-      box = line-none (a .present) (a .line .now) (a .overlong) (c .before .before .before .before .before .before .before .if1 .left) dark (r .result) _ w (c .if3 .taken);
+      box = line-none (a .present) (a .line .now) (a .overlong) (c .before .before .before .before .before .before .before .if1 .left) visible (r .result) _ w (c .if3 .taken);
     }
 
 slice-write-out : tie.Need-slice-write-out
@@ -75,11 +75,11 @@ returns-4 c =
     let room = w .room in
     let k = r .kept in
     let was = c .before .before .before .before .before .before .before .before .before .before .before .pre .1 .0 in
-    let dark = not-blank (a .line .now) (c .before .before .before .before .before .before .white-end .result) (c .before .before .before .before .before .before .white-end .ensures) (c .before .before .before .before .before .if2 .left) in
+    let visible = not-blank (a .line .now) (c .before .before .before .before .before .before .white-end .result) (c .before .before .before .before .before .before .white-end .ensures) (c .before .before .before .before .before .if2 .left) in
     record {
       queued = w .queued;
       room = omega arith;
-      box = line-some (a .present) (a .line .now) (a .overlong) (c .before .before .before .before .before .before .before .if1 .left) dark (r .result) _ w (c .if3 .left) (omega arith);
+      box = line-some (a .present) (a .line .now) (a .overlong) (c .before .before .before .before .before .before .before .if1 .left) visible (r .result) _ w (c .if3 .left) (omega arith);
     }
 
 pub run-line-spec : {M : Type 1} → statement M

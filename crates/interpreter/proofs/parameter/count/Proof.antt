@@ -7,10 +7,10 @@ use Rattle.interpreter.proofs.parameter.count.Statement.{statement}
 use Rattle.interpreter.proofs.parameter.count.Tie as tie
 
 abbrev Inv-loop : tie.InvT-loop
-Inv-loop text parts₀ full₀ dark₀ i₀ parts full dark i = Counting text parts full dark i
+Inv-loop text parts₀ full₀ visible₀ i₀ parts full visible i = Counting text parts full visible i
 
 abbrev μ-loop : tie.MeasureT-loop
-μ-loop text parts₀ full₀ dark₀ i₀ parts full dark i = length text - i
+μ-loop text parts₀ full₀ visible₀ i₀ parts full visible i = length text - i
 
 returns : tie.Need-returns Inv-loop μ-loop
 returns c = counting-none (c .before .before .args .text .now) (c .if1 .taken)

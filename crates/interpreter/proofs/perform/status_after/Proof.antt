@@ -2,7 +2,7 @@ use mathlib.Core.Path.{_≡_, refl}
 use native.Mathlib.Omega.{arith}
 use lib.ListN.{length}
 use Rattle.registers.specs.Status.{completed, eventsIn, eventsRead, clearedIn}
-use Rattle.registers.proofs.status.Means.{oldest-trouble, oldest-registers, oldest-queued}
+use Rattle.registers.proofs.status.Meaning.{oldest-trouble, oldest-registers, oldest-queued}
 use Rattle.interpreter.proofs.perform.Laws.{same-status, only-asked, stored-left}
 use borrow.Author.Needs.{needs}
 use Rattle.interpreter.proofs.perform.status_after.Statement.{statement}

@@ -8,7 +8,7 @@ use lib.Seq.{take-length}
 use borrow.Author.Needs.{needs}
 use borrow.Author.Tests.{not-true, not-false}
 use Rattle.interpreter.specs.Cuts.{trimEnd}
-use Rattle.interpreter.proofs.unit.Trims.{end-white, end-dark}
+use Rattle.interpreter.proofs.unit.Trims.{end-white, end-visible}
 use Rattle.interpreter.proofs.unit.trimmed_end.Statement.{statement}
 use Rattle.interpreter.proofs.unit.trimmed_end.Tie as tie
 
@@ -36,7 +36,7 @@ returns c =
     let l = p .before .before .args .text .now in
     let w = p .loop in
     let d = sym (c .before .is-white .ensures) ∙ not-true _ (c .if1 .taken) in
-    (sym (end-dark l (w .e) (omega arith) (omega arith) d) ∙ w .inv .1, search needs)
+    (sym (end-visible l (w .e) (omega arith) (omega arith) d) ∙ w .inv .1, search needs)
 
 sub-e : tie.Need-sub-e Inv-loop μ-loop
 sub-e c = c .before .before .before .loop-test .taken

@@ -26,11 +26,11 @@ abbrev calls : ℕ → lts.Claims
 calls t = (put-reads.Asked, put-reads.Learnt, below t, reads.Post)
 
 module _ (t : ℕ) where
-  add-put : lts.Need-add-put (calls t) (here t) reads.Post
-  add-put c = omega arith
-
   cast-put : lts.Need-cast-put (calls t) (here t) reads.Post
   cast-put c = omega arith
+
+  add-put : lts.Need-add-put (calls t) (here t) reads.Post
+  add-put c = omega arith
 
   put-requires : lts.Need-put-requires (calls t) (here t) reads.Post
   put-requires c κs = tt
@@ -49,11 +49,11 @@ module _ (t : ℕ) where
   decimal-at-requires : lts.Need-decimal-at-requires (calls t) (here t) reads.Post
   decimal-at-requires c κs = omega arith
 
-  add-put-2 : lts.Need-add-put-2 (calls t) (here t) reads.Post
-  add-put-2 c = omega arith
-
   cast-put-2 : lts.Need-cast-put-2 (calls t) (here t) reads.Post
   cast-put-2 c = omega arith
+
+  add-put-2 : lts.Need-add-put-2 (calls t) (here t) reads.Post
+  add-put-2 c = omega arith
 
   put-requires-2 : lts.Need-put-requires-2 (calls t) (here t) reads.Post
   put-requires-2 c κs = tt
@@ -66,7 +66,8 @@ module _ (t : ℕ) where
 
   same-length-2 : lts.Need-same-length-2 (calls t) (here t) reads.Post
   same-length-2 c =
-      c .before .before .put2 .kept .0 ∙ c .before .before .before .before .before .before .decimal-at .kept .1 .0
+      let d = c .before .before .before .before .before .before in
+      c .before .before .put2 .kept .0 ∙ d .decimal-at .kept .1 .0
 
   returns-2 : lts.Need-returns-2 (calls t) (here t) reads.Post
   returns-2 c =
@@ -84,15 +85,15 @@ pub +decimal-at-spec : {M : Type 1} → statement M
     (calls t)
     (here t)
     reads.Post
-    (add-put t)
     (cast-put t)
+    (add-put t)
     (put-requires t)
     (add-result t)
     (same-length t)
     (returns t)
     (decimal-at-requires t)
-    (add-put-2 t)
     (cast-put-2 t)
+    (add-put-2 t)
     (put-requires-2 t)
     (add-result-2 t)
     (same-length-2 t)

@@ -20,11 +20,15 @@ returns c =
 
 cast-t7 : tie.Need-cast-t7
 cast-t7 c =
-    let h = c .before .before .before .before .before .before .fits .value in
+    let s = c .before .before .before .before .before .before in
+    let h = s .fits .value in
     rw (toZ-ofZ {w = w32} h) (sfits-widen tt h)
 
 sub-t8 : tie.Need-sub-t8
-sub-t8 c = let h = c .before .before .before .before .before .before .fits .value in rw (widened h, minus-is) (other-fits h)
+sub-t8 c =
+    let s = c .before .before .before .before .before .before in
+    let h = s .fits .value in
+    rw (widened h, minus-is) (other-fits h)
 
 cast-t9 : tie.Need-cast-t9
 cast-t9 c =

@@ -15,27 +15,27 @@ put-requires c κs = tt
 
 add-decimal-at : tie.Need-add-decimal-at
 add-decimal-at c =
-    let k = c .before .before .before .before .before .before .before in
-    let s = k .before .before .before in
-    behind-fits (s .args .n / 10) (k .decimal-at .ensures .end) (omega arith)
+    let whole = c .before .before .before .before .before .before .before in
+    let s = whole .before .before .before in
+    behind-fits (s .args .n / 10) (whole .decimal-at .ensures .end) (omega arith)
 
 decimal-at-requires-2 : tie.Need-decimal-at-requires-2
 decimal-at-requires-2 c κs =
-    let k = c .before .before .before .before .before .before .before in
-    let s = k .before .before .before in
-    behind-low (s .args .n / 10) (k .decimal-at .ensures .end) (s .pre)
+    let whole = c .before .before .before .before .before .before .before in
+    let s = whole .before .before .before in
+    behind-low (s .args .n / 10) (whole .decimal-at .ensures .end) (s .pre)
 
 same-length : tie.Need-same-length
 same-length c =
-    let k = c .before .before .before .before .before .before in
-    c .before .before .decimal-at2 .kept .1 .0 ∙ k .put .kept .0 ∙ k .before .before .before .before .decimal-at .kept .1 .0
+    let point = c .before .before .before .before .before .before in
+    c .before .before .decimal-at2 .kept .1 .0 ∙ point .put .kept .0 ∙ point .before .before .before .before .decimal-at .kept .1 .0
 
 returns : tie.Need-returns
 unfolding tenths
 returns c =
-    let k = c .before .before .before .before .before .before in
-    laid-then (k .before .before .before .before .decimal-at .ensures)
-    (laid-then (laid-one (k .put .ensures)) (c .before .before .decimal-at2 .ensures))
+    let point = c .before .before .before .before .before .before in
+    laid-then (point .before .before .before .before .decimal-at .ensures)
+    (laid-then (laid-one (point .put .ensures)) (c .before .before .decimal-at2 .ensures))
 
 pub tenths-at-spec : {M : Type 1} → statement M
 tenths-at-spec =

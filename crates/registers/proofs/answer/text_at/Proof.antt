@@ -1,3 +1,4 @@
+-- Invariant: the first `i` bytes of the text are laid at the place, as far as the tail reaches. Measure: the bytes left.
 use Prim.Native.Nat.{_+_, _-_, _≤_}
 use native.Mathlib.Nat.{add-zero}
 use lib.ListN.{length, take}
@@ -17,30 +18,12 @@ abbrev μ-loop : tie.MeasureT-loop
 loop-holds : tie.Need-loop-holds Inv-loop μ-loop
 loop-holds c = (omega arith, rw add-zero (laid-none _ _))
 
-add-put : tie.Need-add-put Inv-loop μ-loop
-add-put c = omega arith
-
-shared-slice-read-put : tie.Need-shared-slice-read-put Inv-loop μ-loop
-shared-slice-read-put c = omega arith
-
-put-requires : tie.Need-put-requires Inv-loop μ-loop
-put-requires c κs = tt
-
-add-i : tie.Need-add-i Inv-loop μ-loop
-add-i c = omega arith
-
-loop-less : tie.Need-loop-less Inv-loop μ-loop
-loop-less c = omega arith
-
 loop-again : tie.Need-loop-again Inv-loop μ-loop
 loop-again c =
     let o = c .before .before .before .before .before .before in
     let a = o .before .before .before .args in
     let h = c .before .before .before .before .before .loop-test .taken in
     (omega arith, laid-more (a .at) (a .text .now) (o .loop .i) h (o .loop .inv .1) (c .before .before .put .ensures))
-
-add-result : tie.Need-add-result Inv-loop μ-loop
-add-result c = omega arith
 
 same-length : tie.Need-same-length Inv-loop μ-loop
 same-length c = laid-length (c .before .loop .inv .1)
@@ -57,12 +40,12 @@ text-at-spec =
     Inv-loop
     μ-loop
     loop-holds
-    add-put
-    shared-slice-read-put
-    put-requires
-    add-i
-    loop-less
+    (λ c. omega arith)
+    (λ c. omega arith)
+    (λ c κs. tt)
+    (λ c. omega arith)
+    (λ c. omega arith)
     loop-again
-    add-result
+    (λ c. omega arith)
     same-length
     returns)

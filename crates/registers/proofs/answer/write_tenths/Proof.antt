@@ -12,7 +12,8 @@ tenths-at-requires c κs = sign-short (c .before .before .before .sign-of .ensur
 
 same-length : tie.Need-same-length
 same-length c =
-    c .before .before .tenths-at .kept .1 .0 ∙ c .before .before .before .before .before .before .sign-of .kept .1 .0
+    let o = c .before .before .before .before .before .before in
+    c .before .before .tenths-at .kept .1 .0 ∙ o .sign-of .kept .1 .0
 
 returns : tie.Need-returns
 returns c =

@@ -13,7 +13,8 @@ decimal-at-requires c κs = let h = sign-short (c .before .before .before .sign-
 
 same-length : tie.Need-same-length
 same-length c =
-    c .before .before .decimal-at .kept .1 .0 ∙ c .before .before .before .before .before .before .sign-of .kept .1 .0
+    let o = c .before .before .before .before .before .before in
+    c .before .before .decimal-at .kept .1 .0 ∙ o .sign-of .kept .1 .0
 
 returns : tie.Need-returns
 returns c =

@@ -1,6 +1,6 @@
 use borrow.Author.Tests.{lt-ltb, le-ltb}
 use Rattle.registers.specs.Text.{if_then_else_}
-use Rattle.registers.specs.Errors.{eventBit}
+use Rattle.registers.specs.Error.{eventBit}
 use Rattle.registers.proofs.error.event_bit.Statement.{statement}
 use Rattle.registers.proofs.error.event_bit.Tie as tie
 

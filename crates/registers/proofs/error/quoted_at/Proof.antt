@@ -1,4 +1,7 @@
+-- The row that `row_of` finds stands within the table, so its length and its text do: the part of the table that is written is the
+-- quoted message of that row (`text-part`), and that row's message is the number's (`found-text`).
 use Prim.Native.Nat.{_+_, _*_}
+use Rattle.registers.specs.ErrorParts.{rowWidth}
 use Rattle.registers.proofs.error.Texts.{byte-wide, found-row, found-fits, text-fits, cell-fits, cell-within, end-fits, found-text, length-cell, text-room, text-long, text-part}
 use native.Mathlib.Omega.{arith}
 use Rattle.registers.proofs.error.quoted_at.Statement.{statement}
@@ -20,10 +23,10 @@ shared-slice-read-end : tie.Need-shared-slice-read-end
 shared-slice-read-end c = cell-within _ (c .before .row-of .ensures) (c .before .before .before .before .pre .0)
 
 cast-end : tie.Need-cast-end
-cast-end c = byte-wide (c .shared-slice-known2 .given (c .before .row-of .result * 33 + 2))
+cast-end c = byte-wide (c .shared-slice-known2 .given (c .before .row-of .result * rowWidth + 2))
 
 add-end-2 : tie.Need-add-end-2
-add-end-2 c = end-fits _ (c .before .row-of .ensures) (c .shared-slice-known2 .given (c .before .row-of .result * 33 + 2))
+add-end-2 c = end-fits _ (c .before .row-of .ensures) (c .shared-slice-known2 .given (c .before .row-of .result * rowWidth + 2))
 
 sub-text-at : tie.Need-sub-text-at
 sub-text-at c = omega arith
@@ -38,7 +41,7 @@ part-text-at-end c =
     rw (c .before .before .before .before .pre .0, length-cell row h) (text-room row h)
 
 text-at-requires : tie.Need-text-at-requires
-text-at-requires c κs = c .before .before .before .before .before .before .pre .1
+text-at-requires c κs = let o = c .before .before .before .before .before .before in o .pre .1
 
 same-length : tie.Need-same-length
 same-length c = c .before .before .text-at .kept .1 .0

@@ -1,47 +1,42 @@
-use mathlib.Core.Path.{_≡_, sym, ap, _∙_}
+-- Invariant: the first row with the number, searched for from row `row`, is the first of all (`sought`). Measure: the rows left. A
+-- row's two bytes are its number by the law of tables (`number-cells`).
+use mathlib.Core.Path.{_≡_, sym, _∙_}
 use Prim.Native.Nat.{_+_, _*_, _-_, _≤_}
 use native.Mathlib.Nat.{zero-add}
-use lib.ListN.{length}
-use Rattle.registers.specs.Errors.{messages}
-use Rattle.registers.specs.ErrorParts.{rowIn}
+use Rattle.registers.specs.Error.{messages}
+use Rattle.registers.specs.ErrorParts.{rowWidth, rowCount, rowIn}
 use Rattle.registers.proofs.error.Texts.{number-cells, high-within, low-within, byte-fits, high-fits, both-fit, sought, search-hit, search-more, search-end}
 use native.Mathlib.Omega.{arith}
 use Rattle.registers.proofs.error.row_of.Statement.{statement}
 use Rattle.registers.proofs.error.row_of.Tie as tie
 
 abbrev Inv-loop : tie.InvT-loop
-Inv-loop table number row₀ row = (row ≤ 20) × (rowIn messages number ≡ sought number row)
+Inv-loop table number row₀ row = (row ≤ rowCount) × (rowIn messages number ≡ sought number row)
 
 abbrev μ-loop : tie.MeasureT-loop
-μ-loop table number row₀ row = 20 - row
+μ-loop table number row₀ row = rowCount - row
 
 loop-holds : tie.Need-loop-holds Inv-loop μ-loop
 loop-holds c = (omega arith, sym (zero-add _))
-
-mul-at : tie.Need-mul-at Inv-loop μ-loop
-mul-at c = omega arith
 
 shared-slice-read-if1 : tie.Need-shared-slice-read-if1 Inv-loop μ-loop
 shared-slice-read-if1 c = let o = c .before .before in high-within (o .loop .row) (c .before .loop-test .taken) (o .before .pre)
 
 cast-if1 : tie.Need-cast-if1 Inv-loop μ-loop
-cast-if1 c = byte-fits (c .shared-slice-known .given (c .before .before .loop .row * 33))
+cast-if1 c = byte-fits (c .shared-slice-known .given (c .before .before .loop .row * rowWidth))
 
 mul-if1 : tie.Need-mul-if1 Inv-loop μ-loop
-mul-if1 c = high-fits (c .shared-slice-known .given (c .before .before .loop .row * 33))
-
-add-if1 : tie.Need-add-if1 Inv-loop μ-loop
-add-if1 c = omega arith
+mul-if1 c = high-fits (c .shared-slice-known .given (c .before .before .loop .row * rowWidth))
 
 shared-slice-read-if1-2 : tie.Need-shared-slice-read-if1-2 Inv-loop μ-loop
 shared-slice-read-if1-2 c = let o = c .before .before .before in low-within (o .loop .row) (c .before .before .loop-test .taken) (o .before .pre)
 
 cast-if1-2 : tie.Need-cast-if1-2 Inv-loop μ-loop
-cast-if1-2 c = byte-fits (c .shared-slice-known2 .given (c .before .before .before .loop .row * 33 + 1))
+cast-if1-2 c = byte-fits (c .shared-slice-known2 .given (c .before .before .before .loop .row * rowWidth + 1))
 
 add-if1-2 : tie.Need-add-if1-2 Inv-loop μ-loop
 add-if1-2 c =
-    let at = c .before .before .before .loop .row * 33 in
+    let at = c .before .before .before .loop .row * rowWidth in
     both-fit (c .shared-slice-known2 .given at) (c .shared-slice-known2 .given (at + 1))
 
 returns : tie.Need-returns Inv-loop μ-loop
@@ -51,12 +46,6 @@ returns c =
     let n = o .before .args .number in
     let e = sym (number-cells row (omega arith) (o .before .pre)) ∙ c .if1 .taken in
     sym (o .loop .inv .1 ∙ search-hit n row (omega arith) e)
-
-add-row : tie.Need-add-row Inv-loop μ-loop
-add-row c = omega arith
-
-loop-less : tie.Need-loop-less Inv-loop μ-loop
-loop-less c = omega arith
 
 loop-again : tie.Need-loop-again Inv-loop μ-loop
 loop-again c =
@@ -78,16 +67,16 @@ row-of-spec =
     Inv-loop
     μ-loop
     loop-holds
-    mul-at
+    (λ c. omega arith)
     shared-slice-read-if1
     cast-if1
     mul-if1
-    add-if1
+    (λ c. omega arith)
     shared-slice-read-if1-2
     cast-if1-2
     add-if1-2
     returns
-    add-row
-    loop-less
+    (λ c. omega arith)
+    (λ c. omega arith)
     loop-again
     returns-2)

@@ -1,7 +1,7 @@
 use mathlib.Core.Path.{refl, _∙_}
 use lib.IntN.{pos, negℤ}
 use Rattle.registers.specs.Answer.{decimal}
-use Rattle.registers.specs.Errors.{messages}
+use Rattle.registers.specs.Error.{messages}
 use Rattle.registers.specs.Text.{bytes}
 use Rattle.registers.specs.ErrorParts.{messageTable, tableOf, messageRow}
 use Rattle.registers.proofs.answer.Laws.{laid-at, laid-then, laid-whole}
@@ -32,7 +32,8 @@ quoted-at-requires c κs =
 
 same-length : tie.Need-same-length
 same-length c =
-    c .before .before .quoted-at .kept .1 .1 .0 ∙ c .before .before .before .before .before .before .before .write-whole .kept .1 .0
+    let s = c .before .before .before .before .before .before .before in
+    c .before .before .quoted-at .kept .1 .1 .0 ∙ s .write-whole .kept .1 .0
 
 returns : tie.Need-returns
 returns c =

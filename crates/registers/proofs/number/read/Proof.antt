@@ -1,3 +1,5 @@
+-- Check 6 put together from what the calls found: `start-is` says where the mantissa begins, `says` that the definition's answer is
+-- its verdict over mantissa, exponent and what remains; the cases of the suffix's answer then compute.
 use native.Mathlib.Omega.{arith}
 use mathlib.Core.Path.{_≡_, sym, _∙_}
 use mathlib.Core.Bool.{false}
@@ -15,7 +17,7 @@ use Rattle.registers.specs.declared.number.Exponent.{Exponent}
 use Rattle.registers.specs.declared.number.Mantissa.{Mantissa}
 use Rattle.registers.specs.declared.suffix.Power.{Power}
 use Rattle.registers.proofs.number.Laws.{sign-end}
-use Rattle.registers.proofs.number.Whole.{verdict, none-is, number-is}
+use Rattle.registers.proofs.number.Verdict.{verdict, none-is, number-is}
 use Rattle.registers.proofs.text.Laws.{end-drop}
 use Rattle.registers.proofs.number.read.Statement.{statement}
 use Rattle.registers.proofs.number.read.Tie as tie
@@ -55,12 +57,6 @@ says c =
     (entry p .args .quantity) (w .result) (end-drop white t (exponent-of p .end) (w .result) (w .ensures))
     ∙ rw (some, c .read .ensures)
 
-byte-at-requires : tie.Need-byte-at-requires
-byte-at-requires c κs = tt
-
-cast-read-mantissa : tie.Need-cast-read-mantissa
-cast-read-mantissa c = tt
-
 read-mantissa-requires : tie.Need-read-mantissa-requires
 read-mantissa-requires c κs = start-is c .1
 
@@ -72,21 +68,9 @@ returns c =
 read-exponent-requires : tie.Need-read-exponent-requires
 read-exponent-requires c κs = c .before .before .read-mantissa .ensures .within
 
-white-end-requires : tie.Need-white-end-requires
-white-end-requires c κs = tt
-
-read-requires : tie.Need-read-requires
-read-requires c κs = tt
-
-enum-known-scale : tie.Need-enum-known-scale
-enum-known-scale c = c .match .keys1
-
 returns-2 : tie.Need-returns-2
 unfolding verdict check _>>=_ _>>_
 returns-2 c = sym (says (c .before .before .before) ∙ rw (c .before .scale .given .1))
-
-enum-known-scale-2 : tie.Need-enum-known-scale-2
-enum-known-scale-2 c = c .match .keys2
 
 valued-requires : tie.Need-valued-requires
 valued-requires c κs =
@@ -101,15 +85,15 @@ pub read-spec : {M : Type 1} → statement M
 read-spec =
     tie.close
     (tie.spec
-    byte-at-requires
-    cast-read-mantissa
+    (λ c κs. tt)
+    (λ c. tt)
     read-mantissa-requires
     returns
     read-exponent-requires
-    white-end-requires
-    read-requires
-    enum-known-scale
+    (λ c κs. tt)
+    (λ c κs. tt)
+    (λ c. c .match .keys1)
     returns-2
-    enum-known-scale-2
+    (λ c. c .match .keys2)
     valued-requires
     returns-3)

@@ -1,3 +1,5 @@
+-- Invariant `DigitsLeft`: the digits left at place `i`, read after the held value so far, make the held value of all. Holding at
+-- each turn is holding once at the end (`held-before`). Measure: the bytes left.
 use mathlib.Core.Path.{_≡_, refl, sym, _∙_}
 use mathlib.Core.Bool.{true}
 use mathlib.Core.Logic.{⊎-elim}

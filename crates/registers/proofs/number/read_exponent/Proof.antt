@@ -1,3 +1,5 @@
+-- Three cases: no `E`; an `E` without a digit, which is no exponent either; and an exponent. `start-is` says where the digits begin,
+-- after the `E` and the sign that may follow it.
 use mathlib.Core.Path.{_≡_, sym, ap, _∙_}
 use native.Mathlib.Omega.{arith}
 use lib.Dec.{eqb}
@@ -15,23 +17,11 @@ use Rattle.registers.proofs.number.read_exponent.Tie as tie
 letter-e : (c : tie.Else1) → let a = c .before .before .before .before .args in capital (first (drop (a .at) (a .text .now))) ≡ 69
 letter-e c = sym (c .before .in-capitals .ensures ∙ ap capital (c .before .before .byte-at .ensures)) ∙ c .if1 .left
 
-byte-at-requires : tie.Need-byte-at-requires
-byte-at-requires c κs = tt
-
-in-capitals-requires : tie.Need-in-capitals-requires
-in-capitals-requires c κs = tt
-
 returns : tie.Need-returns
 returns c =
     let a = c .before .before .before .before .args in
     let is = c .before .in-capitals .ensures ∙ ap capital (c .before .before .byte-at .ensures) in
     exponent-none (a .text .now) (a .at) (omega arith) (exponent-no (a .text .now) (a .at) (λ e. c .if1 .taken (is ∙ e)))
-
-add-byte-at : tie.Need-add-byte-at
-add-byte-at c = omega arith
-
-byte-at-requires-2 : tie.Need-byte-at-requires-2
-byte-at-requires-2 c κs = tt
 
 -- where the digits begin
 start-is : (c : tie.After-byte-at2)
@@ -43,12 +33,6 @@ start-is c =
     let is = eq-eqb (capital (first (drop (a .at) (a .text .now)))) 69 (letter-e (c .before)) in
     let l = first-within (λ b. eqb (capital b) 69) (a .text .now) (a .at) zero-capital is in
     sign-end (a .text .now) (a .at + 1) (c .byte-at2 .result) (c .byte-at2 .ensures) (omega arith)
-
-add-s : tie.Need-add-s
-add-s c = omega arith
-
-cast-s : tie.Need-cast-s
-cast-s c = tt
 
 add-s-2 : tie.Need-add-s-2
 add-s-2 c = omega (arith, start-is c .1)
@@ -76,13 +60,13 @@ pub read-exponent-spec : {M : Type 1} → statement M
 read-exponent-spec =
     tie.close
     (tie.spec
-    byte-at-requires
-    in-capitals-requires
+    (λ c κs. tt)
+    (λ c κs. tt)
     returns
-    add-byte-at
-    byte-at-requires-2
-    add-s
-    cast-s
+    (λ c. omega arith)
+    (λ c κs. tt)
+    (λ c. omega arith)
+    (λ c. tt)
     add-s-2
     read-digits-requires
     returns-2

@@ -1,3 +1,5 @@
+-- Two cases, by the byte after the whole digits: without a point these are the mantissa (`no-point`); with one, the digits after it
+-- go on from the same number (`with-point`), and the point, being there, is within the text.
 use mathlib.Core.Path.{refl, sym, _∙_}
 use native.Mathlib.Omega.{arith}
 use lib.ListN.{drop}
@@ -9,23 +11,11 @@ use Rattle.registers.proofs.text.Laws.{first-within}
 use Rattle.registers.proofs.number.read_mantissa.Statement.{statement}
 use Rattle.registers.proofs.number.read_mantissa.Tie as tie
 
-read-digits-requires : tie.Need-read-digits-requires
-read-digits-requires c κs = omega arith
-
-byte-at-requires : tie.Need-byte-at-requires
-byte-at-requires c κs = tt
-
-sub-t8 : tie.Need-sub-t8
-sub-t8 c = omega arith
-
 returns : tie.Need-returns
 returns c =
     let w = c .before .before .read-digits in
     let a = c .before .before .before .before .args in
     no-point (a .text .now) (a .at) (w .result) (w .ensures) (λ e. c .if1 .taken (c .before .byte-at .ensures ∙ e))
-
-add-read-digits : tie.Need-add-read-digits
-add-read-digits c = omega arith
 
 read-digits-requires-2 : tie.Need-read-digits-requires-2
 read-digits-requires-2 c κs =
@@ -34,18 +24,6 @@ read-digits-requires-2 c κs =
     let is = eq-eqb (first (drop (w .result .end) t)) 46 (sym (c .before .byte-at .ensures) ∙ c .if1 .left) in
     let l = first-within point t (w .result .end) refl is in
     (omega arith, omega (arith, w .ensures .value))
-
-sub-t9 : tie.Need-sub-t9
-sub-t9 c = omega arith
-
-sub-t10 : tie.Need-sub-t10
-sub-t10 c = omega arith
-
-sub-t11 : tie.Need-sub-t11
-sub-t11 c = omega arith
-
-sub-t12 : tie.Need-sub-t12
-sub-t12 c = omega arith
 
 returns-2 : tie.Need-returns-2
 returns-2 c =
@@ -60,14 +38,14 @@ pub read-mantissa-spec : {M : Type 1} → statement M
 read-mantissa-spec =
     tie.close
     (tie.spec
-    read-digits-requires
-    byte-at-requires
-    sub-t8
+    (λ c κs. omega arith)
+    (λ c κs. tt)
+    (λ c. omega arith)
     returns
-    add-read-digits
+    (λ c. omega arith)
     read-digits-requires-2
-    sub-t9
-    sub-t10
-    sub-t11
-    sub-t12
+    (λ c. omega arith)
+    (λ c. omega arith)
+    (λ c. omega arith)
+    (λ c. omega arith)
     returns-2)

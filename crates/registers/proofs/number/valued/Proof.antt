@@ -1,3 +1,5 @@
+-- The two refusals compute from their tests. Where neither comes (`within`), the value is the definition's by the sign of the
+-- exponent: powers of ten only ever add up, or one is taken from the other as far as it goes.
 use mathlib.Core.Path.{_≡_}
 use native.Mathlib.Nat.{zero-add}
 use native.Mathlib.Omega.{arith}
@@ -31,38 +33,14 @@ returns-2 c =
     let a = c .before .before .args in
     rw (lt-ltb (a .mantissa .value) held (c .before .if1 .left), lt-leb (a .exponent .size) 9 (c .if2 .taken))
 
-cast-up : tie.Need-cast-up
-cast-up c = search needs
-
-cast-down : tie.Need-cast-down
-cast-down c = search needs
-
-add-t13 : tie.Need-add-t13
-add-t13 c = omega arith
-
-add-t14 : tie.Need-add-t14
-add-t14 c = search needs
-
 returns-3 : tie.Need-returns-3
 unfolding decimalOf scaled if_then_else_
 returns-3 c =
     let e = c .before .before .before in
     rw (within e, c .if3 .taken, zero-add (e .before .before .args .power .up))
 
-above-requires : tie.Need-above-requires
-above-requires c κs = tt
-
 cast-t17 : tie.Need-cast-t17
 cast-t17 c = rw (c .above .ensures) (omega arith)
-
-add-t18 : tie.Need-add-t18
-add-t18 c = search needs
-
-above-requires-2 : tie.Need-above-requires-2
-above-requires-2 c κs = tt
-
-add-t20 : tie.Need-add-t20
-add-t20 c = search needs
 
 returns-4 : tie.Need-returns-4
 unfolding decimalOf scaled if_then_else_
@@ -76,14 +54,14 @@ valued-spec =
     (tie.spec
     returns
     returns-2
-    cast-up
-    cast-down
-    add-t13
-    add-t14
+    (λ c. search needs)
+    (λ c. search needs)
+    (λ c. omega arith)
+    (λ c. search needs)
     returns-3
-    above-requires
+    (λ c κs. tt)
     cast-t17
-    add-t18
-    above-requires-2
-    add-t20
+    (λ c. search needs)
+    (λ c κs. tt)
+    (λ c. search needs)
     returns-4)

@@ -1,3 +1,5 @@
+-- The value in steps comes held, in 64 bits, and the limits have 32: each is read back from its bits, and then the code's comparison
+-- is check 7's (`fit-yes`, `fit-no`): holding changes it for no limits of 32 bits.
 use mathlib.Core.Path.{_≡_}
 use mathlib.Core.Bool.{true}
 use Prim.Native.Nat.{_^_}

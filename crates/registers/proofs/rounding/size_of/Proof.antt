@@ -6,25 +6,10 @@ use Rattle.registers.proofs.rounding.Sides.{held-up, held-down}
 use Rattle.registers.proofs.rounding.size_of.Statement.{statement}
 use Rattle.registers.proofs.rounding.size_of.Tie as tie
 
-raised-requires : tie.Need-raised-requires
-raised-requires c κs = tt
-
 returns : tie.Need-returns
 returns c =
     let a = c .before .before .args in
     held-up (a .x) (a .up) (a .down) (c .raised .result) (omega arith) (c .raised .ensures)
-
-sub-lowered : tie.Need-sub-lowered
-sub-lowered c = omega arith
-
-sub-lowered-2 : tie.Need-sub-lowered-2
-sub-lowered-2 c = omega arith
-
-lowered-requires : tie.Need-lowered-requires
-lowered-requires c κs = tt
-
-raised-requires-2 : tie.Need-raised-requires-2
-raised-requires-2 c κs = tt
 
 returns-2 : tie.Need-returns-2
 returns-2 c =
@@ -37,10 +22,10 @@ pub size-of-spec : {M : Type 1} → statement M
 size-of-spec =
     tie.close
     (tie.spec
-    raised-requires
+    (λ c κs. tt)
     returns
-    sub-lowered
-    sub-lowered-2
-    lowered-requires
-    raised-requires-2
+    (λ c. omega arith)
+    (λ c. omega arith)
+    (λ c κs. tt)
+    (λ c κs. tt)
     returns-2)

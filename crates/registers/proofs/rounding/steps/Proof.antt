@@ -1,4 +1,5 @@
-use mathlib.Core.Path.{_≡_, ap, sym, _∙_}
+-- The size is held at a bound (`low`), so that it has its sign in 64 bits: `held-minus` and `held-plus` then say that value and side
+-- are those of the definition.
 use mathlib.Core.Bool.{true}
 use Prim.Native.Nat.{_+_, _*_, _^_, _≤_}
 use native.Mathlib.Omega.{arith}
@@ -15,15 +16,6 @@ low c =
     let a = c .before .before .args in
     sized-small (a .d .digits * 10 ^ (a .d .up + a .tens)) (10 ^ a .d .down) (c .size-of .result) (c .size-of .ensures)
 
-cast-up : tie.Need-cast-up
-cast-up c = omega arith
-
-add-up : tie.Need-add-up
-add-up c = omega arith
-
-size-of-requires : tie.Need-size-of-requires
-size-of-requires c κs = tt
-
 cast-size : tie.Need-cast-size
 cast-size c = let l = low (c .before) in omega arith
 
@@ -32,9 +24,6 @@ sub-t12 c =
     let n = c .before .before .size-of .result .size in
     let l = low (c .before .before) in
     rw (minus-bits n l) (signed-fits true n l)
-
-turned-requires : tie.Need-turned-requires
-turned-requires c κs = tt
 
 returns : tie.Need-returns
 returns c =
@@ -56,11 +45,11 @@ pub steps-spec : {M : Type 1} → statement M
 steps-spec =
     tie.close
     (tie.spec
-    cast-up
-    add-up
-    size-of-requires
+    (λ c. omega arith)
+    (λ c. omega arith)
+    (λ c κs. tt)
     cast-size
     sub-t12
-    turned-requires
+    (λ c κs. tt)
     returns
     returns-2)

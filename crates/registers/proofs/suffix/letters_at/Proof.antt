@@ -7,24 +7,6 @@ use Rattle.registers.proofs.text.Laws.{rest-at}
 use Rattle.registers.proofs.suffix.letters_at.Statement.{statement}
 use Rattle.registers.proofs.suffix.letters_at.Tie as tie
 
-sub-t4 : tie.Need-sub-t4
-sub-t4 c = omega arith
-
-capital-at-requires : tie.Need-capital-at-requires
-capital-at-requires c κs = tt
-
-add-capital-at : tie.Need-add-capital-at
-add-capital-at c = omega arith
-
-capital-at-requires-2 : tie.Need-capital-at-requires-2
-capital-at-requires-2 c κs = tt
-
-add-capital-at-2 : tie.Need-add-capital-at-2
-add-capital-at-2 c = omega arith
-
-capital-at-requires-3 : tie.Need-capital-at-requires-3
-capital-at-requires-3 c κs = tt
-
 returns : tie.Need-returns
 unfolding lettersOf
 returns c =
@@ -45,10 +27,10 @@ pub letters-at-spec : {M : Type 1} → statement M
 letters-at-spec =
     tie.close
     (tie.spec
-    sub-t4
-    capital-at-requires
-    add-capital-at
-    capital-at-requires-2
-    add-capital-at-2
-    capital-at-requires-3
+    (λ c. omega arith)
+    (λ c κs. tt)
+    (λ c. omega arith)
+    (λ c κs. tt)
+    (λ c. omega arith)
+    (λ c κs. tt)
     returns)

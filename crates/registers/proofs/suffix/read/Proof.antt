@@ -1,3 +1,5 @@
+-- The first byte decides: a letter begins a suffix, any other byte is -121, and nothing at all multiplies by one. `told` says that
+-- the code's test of the byte is the definition's.
 use mathlib.Core.Path.{_≡_, sym, ap, _∙_}
 use lib.ListN.{length, drop}
 use borrow.Author.Tests.{lt-leb, le-leb}

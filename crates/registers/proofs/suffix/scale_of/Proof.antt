@@ -1,5 +1,8 @@
+-- A case for each quantity, and for hertz one for each suffix: the definition's search computes once the quantity is known and each
+-- test before has failed (`no-hz`, `no-khz`).
 use mathlib.Core.Path.{_≡_, sym, _∙_}
 use mathlib.Core.Bool.{false}
+use Prim.Native.Char.{code}
 use Rattle.registers.specs.Text.{if_then_else_, bytes}
 use Rattle.registers.specs.Suffix.{suffixes, noSuffix}
 use Rattle.registers.specs.SuffixParts.{alike, powerBy, scaleTo, milliTo}
@@ -7,60 +10,33 @@ use Rattle.registers.proofs.suffix.scale_of.Statement.{statement}
 use Rattle.registers.proofs.suffix.scale_of.Tie as tie
 
 -- hertz: what the tests before left
-no-hz : (e : tie.Else1) → alike (e .before .before .before .before .args .letters) 2 72 90 0 ≡ false
+no-hz : (e : tie.Else1) → alike (e .before .before .before .before .args .letters) 2 (code "H") (code "Z") 0 ≡ false
 no-hz e = sym (e .before .spell .ensures) ∙ e .if1 .left
 
-no-khz : (e : tie.Else2) → alike (e .before .before .before .before .before .before .args .letters) 3 75 72 90 ≡ false
+no-khz : (e : tie.Else2) → alike (e .before .before .before .before .before .before .args .letters) 3 (code "K") (code "H") (code "Z") ≡ false
 no-khz e = sym (e .before .spell2 .ensures) ∙ e .if2 .left
-
-enum-told : tie.Need-enum-told
-enum-told c = c .match .keys1
 
 returns : tie.Need-returns
 unfolding scaleTo powerBy suffixes noSuffix
 returns c = rw (c .enum-told .given .1)
 
-enum-told-2 : tie.Need-enum-told-2
-enum-told-2 c = c .match .keys2
-
-with-milli-requires : tie.Need-with-milli-requires
-with-milli-requires c κs = tt
-
 returns-2 : tie.Need-returns-2
 unfolding scaleTo powerBy suffixes noSuffix bytes milliTo
 returns-2 c = rw (c .before .enum-told2 .given .1) (c .with-milli .ensures)
-
-enum-told-3 : tie.Need-enum-told-3
-enum-told-3 c = c .match .keys3
-
-with-milli-requires-2 : tie.Need-with-milli-requires-2
-with-milli-requires-2 c κs = tt
 
 returns-3 : tie.Need-returns-3
 unfolding scaleTo powerBy suffixes noSuffix bytes milliTo
 returns-3 c = rw (c .before .enum-told3 .given .1) (c .with-milli2 .ensures)
 
-enum-told-4 : tie.Need-enum-told-4
-enum-told-4 c = c .match .keys4
-
-spell-requires : tie.Need-spell-requires
-spell-requires c κs = tt
-
 returns-4 : tie.Need-returns-4
 unfolding scaleTo powerBy suffixes noSuffix bytes if_then_else_
 returns-4 c = rw (c .before .before .enum-told4 .given .1, sym (c .before .spell .ensures) ∙ c .if1 .taken)
-
-spell-requires-2 : tie.Need-spell-requires-2
-spell-requires-2 c κs = tt
 
 returns-5 : tie.Need-returns-5
 unfolding scaleTo powerBy suffixes noSuffix bytes if_then_else_
 returns-5 c =
     let e = c .before .before in
     rw (e .before .before .enum-told4 .given .1, no-hz e, sym (c .before .spell2 .ensures) ∙ c .if2 .taken)
-
-spell-requires-3 : tie.Need-spell-requires-3
-spell-requires-3 c κs = tt
 
 returns-6 : tie.Need-returns-6
 unfolding scaleTo powerBy suffixes noSuffix bytes if_then_else_
@@ -76,12 +52,6 @@ returns-7 c =
     let e = k .before .before in
     rw (e .before .before .enum-told4 .given .1, no-hz e, no-khz k, sym (c .before .spell3 .ensures) ∙ c .if3 .left)
 
-enum-told-5 : tie.Need-enum-told-5
-enum-told-5 c = c .match .keys5
-
-spell-requires-4 : tie.Need-spell-requires-4
-spell-requires-4 c κs = tt
-
 returns-8 : tie.Need-returns-8
 unfolding scaleTo powerBy suffixes noSuffix bytes if_then_else_
 returns-8 c = rw (c .before .before .enum-told5 .given .1, sym (c .before .spell4 .ensures) ∙ c .if4 .taken)
@@ -94,23 +64,23 @@ pub scale-of-spec : {M : Type 1} → statement M
 scale-of-spec =
     tie.close
     (tie.spec
-    enum-told
+    (λ c. c .match .keys1)
     returns
-    enum-told-2
-    with-milli-requires
+    (λ c. c .match .keys2)
+    (λ c κs. tt)
     returns-2
-    enum-told-3
-    with-milli-requires-2
+    (λ c. c .match .keys3)
+    (λ c κs. tt)
     returns-3
-    enum-told-4
-    spell-requires
+    (λ c. c .match .keys4)
+    (λ c κs. tt)
     returns-4
-    spell-requires-2
+    (λ c κs. tt)
     returns-5
-    spell-requires-3
+    (λ c κs. tt)
     returns-6
     returns-7
-    enum-told-5
-    spell-requires-4
+    (λ c. c .match .keys5)
+    (λ c κs. tt)
     returns-8
     returns-9)

@@ -1,7 +1,7 @@
 use mathlib.Core.Path.{_≡_, refl}
 use Prim.Native.Nat.{_+_, zero-le}
 use native.Mathlib.Omega.{arith}
-use Rattle.registers.proofs.status.Means.{raised-queued}
+use Rattle.registers.proofs.status.Meaning.{raised-queued}
 use Rattle.interpreter.specs.Events.{take as takes}
 use Rattle.interpreter.proofs.state.Records.{could, short-from}
 use Rattle.interpreter.proofs.state.Events.{refused-4, happens-on, withStatus, withoutAnswer, take-none, take-short, take-all}

@@ -4,6 +4,7 @@ use lib.ListN.{getD}
 use lib.IntN.{pos}
 use mir.Syntax.{w32}
 use mir.Facts.{toZ-ofZ}
+use Rattle.registers.specs.Settings.{table}
 use Rattle.registers.proofs.settings.Laws.{high-read, high-behind, high-narrow, high-other}
 use Rattle.registers.proofs.settings.Settings.highest.Statement.{statement}
 use Rattle.registers.proofs.settings.Settings.highest.Tie as tie
@@ -24,6 +25,7 @@ array-copy-out-result : tie.Need-array-copy-out-result
 array-copy-out-result c = omega arith
 
 returns-2 : tie.Need-returns-2
+unfolding table
 returns-2 c =
     let s = c .before .before .before .before .args .t1 in
     let b = toZ-ofZ {w = w32} {z = getD (s .values) 5 (pos 0)} (record { sfits = c .before .before .before .range .given }) in

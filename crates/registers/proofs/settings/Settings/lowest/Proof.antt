@@ -1,4 +1,5 @@
 use native.Mathlib.Omega.{arith}
+use Rattle.registers.specs.Settings.{table}
 use Rattle.registers.proofs.settings.Laws.{low-read, low-behind}
 use Rattle.registers.proofs.settings.Settings.lowest.Statement.{statement}
 use Rattle.registers.proofs.settings.Settings.lowest.Tie as tie
@@ -10,6 +11,7 @@ array-copy-out-result : tie.Need-array-copy-out-result
 array-copy-out-result c = omega arith
 
 returns : tie.Need-returns
+unfolding table
 returns c = low-read (c .before .before .args .row)
 
 returns-2 : tie.Need-returns-2

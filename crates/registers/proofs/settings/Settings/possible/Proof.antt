@@ -1,12 +1,14 @@
+-- Invariant: every row below `row` is within its limits. Measure: the rows left. A row outside decides at once (`impossible`).
 use native.Mathlib.Omega.{arith}
 use mathlib.Core.Path.{_≡_, refl, sym, _∙_}
 use mathlib.Core.Bool.{true}
-use Prim.Native.Nat.{_≤_, _-_}
+use Prim.Native.Nat.{ℕ, _≤_, _-_}
 use mir.Syntax.{w32}
 use mir.Facts.{toZ-ofZ}
 use borrow.Author.Tests.{not-true, not-false}
 use Rattle.registers.specs.Text.{below}
 use Rattle.registers.specs.Settings.{count, within, valueAt}
+use Rattle.registers.specs.declared.settings.Settings.{Settings}
 use Rattle.registers.proofs.Tests.{below-more}
 use Rattle.registers.proofs.settings.Laws.{impossible, all-possible}
 use borrow.Author.Needs.{needs}
@@ -22,37 +24,26 @@ abbrev μ-loop : tie.MeasureT-loop
 loop-holds : tie.Need-loop-holds Inv-loop μ-loop
 loop-holds c = (search needs, refl, refl)
 
-mul-value : tie.Need-mul-value Inv-loop μ-loop
-mul-value c = omega arith
+-- at a row that is tested: the settings, the row, and what the test tells
+abbrev self : tie.After-within Inv-loop μ-loop → Settings
+self t = t .before .before .before .before .before .args .self
 
-array-copy-out-value : tie.Need-array-copy-out-value Inv-loop μ-loop
-array-copy-out-value c = omega arith
+abbrev row : tie.After-within Inv-loop μ-loop → ℕ
+row t = t .before .before .before .loop .row
 
-within-requires : tie.Need-within-requires Inv-loop μ-loop
-within-requires c κs = tt
+told : (t : tie.After-within Inv-loop μ-loop) → within (self t) (row t) (valueAt (self t) (row t)) ≡ t .within .result
+told t =
+    let b = toZ-ofZ {w = w32} {z = valueAt (self t) (row t)} (record { sfits = t .before .value .given }) in
+    sym (rw b at (t .within .ensures))
 
 returns : tie.Need-returns Inv-loop μ-loop
-returns c =
-    let s = c .before .before .before .before .before .before .args .self in
-    let i = c .before .before .before .before .loop .row in
-    let b = toZ-ofZ {w = w32} {z = valueAt s i} (record { sfits = c .before .before .value .given }) in
-    impossible s i (omega arith) (sym (rw b at (c .before .within .ensures)) ∙ not-true _ (c .if1 .taken))
-
-add-row : tie.Need-add-row Inv-loop μ-loop
-add-row c = omega arith
-
-loop-less : tie.Need-loop-less Inv-loop μ-loop
-loop-less c = omega arith
+returns c = let t = c .before in impossible (self t) (row t) (omega arith) (told t ∙ not-true _ (c .if1 .taken))
 
 loop-again : tie.Need-loop-again Inv-loop μ-loop
 loop-again c =
-    let s = c .before .before .before .before .before .before .args .self in
-    let i = c .before .before .before .before .loop .row in
-    let b = toZ-ofZ {w = w32} {z = valueAt s i} (record { sfits = c .before .before .value .given }) in (
-      search needs,
-      refl,
-      below-more i (λ k. within s k (valueAt s k)) (c .before .before .before .before .loop .inv .2) (sym (rw b at (c .before .within .ensures)) ∙ not-false _ (c .if1 .left)),
-    )
+    let t = c .before in
+    let so-far = t .before .before .before .loop .inv .2 in
+    (search needs, refl, below-more (row t) (λ k. within (self t) k (valueAt (self t) k)) so-far (told t ∙ not-false _ (c .if1 .left)))
 
 returns-2 : tie.Need-returns-2 Inv-loop μ-loop
 returns-2 c = all-possible (c .before .before .before .args .self) (c .before .loop .row) (omega arith) (c .before .loop .inv .2)
@@ -64,11 +55,11 @@ possible-spec =
     Inv-loop
     μ-loop
     loop-holds
-    mul-value
-    array-copy-out-value
-    within-requires
+    (λ c. omega arith)
+    (λ c. omega arith)
+    (λ c κs. tt)
     returns
-    add-row
-    loop-less
+    (λ c. omega arith)
+    (λ c. omega arith)
     loop-again
     returns-2)

@@ -1,3 +1,5 @@
+-- A case for each way out: stored, in conflict, outside the limits, and past the table, where storing at that place changes nothing
+-- anyway. In each the value is first read back from its bits.
 use mathlib.Core.Path.{_≡_, sym, _∙_}
 use lib.ListN.{length, set}
 use lib.Seq.{set-out}
@@ -11,18 +13,6 @@ use native.Mathlib.Omega.{arith}
 use borrow.Author.Needs.{needs}
 use Rattle.registers.proofs.settings.Settings.store.Statement.{statement}
 use Rattle.registers.proofs.settings.Settings.store.Tie as tie
-
-within-requires : tie.Need-within-requires
-within-requires c κs = tt
-
-conflicts-requires : tie.Need-conflicts-requires
-conflicts-requires c κs = tt
-
-mul-value : tie.Need-mul-value
-mul-value c = omega arith
-
-element-set-from-value : tie.Need-element-set-from-value
-element-set-from-value c = omega arith
 
 returns : tie.Need-returns
 returns c =
@@ -56,10 +46,10 @@ pub store-spec : {M : Type 1} → statement M
 store-spec =
     tie.close
     (tie.spec
-    within-requires
-    conflicts-requires
-    mul-value
-    element-set-from-value
+    (λ c κs. tt)
+    (λ c κs. tt)
+    (λ c. omega arith)
+    (λ c. omega arith)
     returns
     returns-2
     returns-3

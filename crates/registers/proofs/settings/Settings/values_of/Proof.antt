@@ -1,6 +1,7 @@
 use native.Mathlib.Omega.{arith}
 use borrow.Author.Tests.{ne-eqb}
 use Rattle.registers.specs.Text.{if_then_else_}
+use Rattle.registers.specs.Settings.{table}
 use Rattle.registers.specs.SettingsParts.{valuesFrom}
 use Rattle.registers.proofs.settings.Laws.{kind-at, behind-is}
 use Rattle.registers.proofs.settings.Settings.values_of.Statement.{statement}
@@ -13,19 +14,19 @@ array-read-kind : tie.Need-array-read-kind
 array-read-kind c = omega arith
 
 returns-2 : tie.Need-returns-2
-unfolding valuesFrom if_then_else_
+unfolding table valuesFrom if_then_else_
 returns-2 c = rw (c .match .keys1) at (kind-at (c .before .before .args .row))
 
 returns-3 : tie.Need-returns-3
-unfolding valuesFrom if_then_else_
+unfolding table valuesFrom if_then_else_
 returns-3 c = rw (c .match .keys2) at (kind-at (c .before .before .args .row))
 
 returns-4 : tie.Need-returns-4
-unfolding valuesFrom if_then_else_
+unfolding table valuesFrom if_then_else_
 returns-4 c = rw (c .match .keys3) at (kind-at (c .before .before .args .row))
 
 returns-5 : tie.Need-returns-5
-unfolding valuesFrom if_then_else_
+unfolding table valuesFrom if_then_else_
 returns-5 c =
     let r = c .match .rest in
     rw (ne-eqb _ 0 (r .0 .0 .1), ne-eqb _ 1 (r .0 .1), ne-eqb _ 2 (r .1)) at (kind-at (c .before .before .args .row))

@@ -1,5 +1,4 @@
 use Rattle.registers.specs.Status.{clearedIn}
-use borrow.Author.Needs.{needs}
 use Rattle.registers.proofs.status.Status.clear.Statement.{statement}
 use Rattle.registers.proofs.status.Status.clear.Tie as tie
 

@@ -1,7 +1,5 @@
 use Rattle.registers.proofs.status.Laws.{place-within}
-use mathlib.Core.Path.{_≡_}
 use native.Mathlib.Omega.{arith}
-use borrow.Author.Needs.{needs}
 use Rattle.registers.proofs.status.Status.group.Statement.{statement}
 use Rattle.registers.proofs.status.Status.group.Tie as tie
 

@@ -1,5 +1,3 @@
-use mathlib.Core.Path.{_≡_, refl, sym, _∙_, ap}
-use borrow.Author.Needs.{needs}
 use Rattle.registers.proofs.status.Status.read_event.Statement.{statement}
 use Rattle.registers.proofs.status.Status.read_event.Tie as tie
 

@@ -1,32 +1,9 @@
-use mathlib.Core.Path.{_≡_, refl, sym, _∙_, ap}
+-- A case for each register; the definition computes to the field once the case is known, for a set's registers by what `group`
+-- promises.
 use Rattle.registers.specs.Status.{registerIn}
 use borrow.Author.Needs.{needs}
 use Rattle.registers.proofs.status.Status.register.Statement.{statement}
 use Rattle.registers.proofs.status.Status.register.Tie as tie
-
-enum-told : tie.Need-enum-told
-enum-told c = search needs
-
-enum-told-2 : tie.Need-enum-told-2
-enum-told-2 c = search needs
-
-enum-known-register : tie.Need-enum-known-register
-enum-known-register c = search needs
-
-group-requires : tie.Need-group-requires
-group-requires c κs = tt
-
-enum-known-register-2 : tie.Need-enum-known-register-2
-enum-known-register-2 c = search needs
-
-group-requires-2 : tie.Need-group-requires-2
-group-requires-2 c κs = tt
-
-enum-known-register-3 : tie.Need-enum-known-register-3
-enum-known-register-3 c = search needs
-
-group-requires-3 : tie.Need-group-requires-3
-group-requires-3 c κs = tt
 
 returns : tie.Need-returns
 unfolding registerIn
@@ -52,14 +29,14 @@ pub register-spec : {M : Type 1} → statement M
 register-spec =
     tie.close
     (tie.spec
-    enum-told
-    enum-told-2
-    enum-known-register
-    group-requires
-    enum-known-register-2
-    group-requires-2
-    enum-known-register-3
-    group-requires-3
+    (λ c. search needs)
+    (λ c. search needs)
+    (λ c. search needs)
+    (λ c κs. tt)
+    (λ c. search needs)
+    (λ c κs. tt)
+    (λ c. search needs)
+    (λ c κs. tt)
     returns
     returns-2
     returns-3

@@ -1,6 +1,5 @@
-use mathlib.Core.Path.{_≡_, refl, sym, _∙_, ap}
+use mathlib.Core.Path.{sym}
 use Rattle.registers.proofs.status.Laws.{reported-yes, reported-no}
-use borrow.Author.Needs.{needs}
 use Rattle.registers.proofs.status.Status.report.Statement.{statement}
 use Rattle.registers.proofs.status.Status.report.Tie as tie
 

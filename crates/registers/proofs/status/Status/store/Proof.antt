@@ -1,4 +1,6 @@
-use mathlib.Core.Path.{_≡_, refl, sym, _∙_, ap}
+-- A value that is too wide changes nothing. Otherwise (`fits`) a case for each register, in which the definition computes; a set's
+-- register by what `group` and `with_group` promise.
+use mathlib.Core.Path.{_≡_, sym, _∙_}
 use lib.Bits.{and-le-l}
 use Prim.Native.Nat.{_<_}
 use Rattle.registers.specs.Status.{registersOf, withRegisters, storedIn, registerSet, withoutBit6, widest}
@@ -13,21 +15,12 @@ fits : (e : tie.Else1)
     registerSet (a .register) (a .value) (a .self) ≡ withRegisters (storedIn (a .register) (a .value) (registersOf (a .self))) (a .self)
 fits e = let a = e .before .before .args in set-yes (a .self) (a .value) (a .register) (rw (e .before .widest .ensures) at (e .if1 .left))
 
-widest-requires : tie.Need-widest-requires
-widest-requires c κs = tt
-
 returns : tie.Need-returns
 returns c = let a = c .before .before .args in let h : widest (a .register) < a .value = rw (c .before .widest .ensures) at (c .if1 .taken) in sym (set-no (a .self) (a .value) (a .register) h)
-
-enum-told : tie.Need-enum-told
-enum-told c = search needs
 
 returns-2 : tie.Need-returns-2
 unfolding storedIn
 returns-2 c = sym (fits (c .before .before) ∙ rw (c .enum-told .given .1))
-
-enum-told-2 : tie.Need-enum-told-2
-enum-told-2 c = search needs
 
 sub-self : tie.Need-sub-self
 sub-self c = and-le-l (c .before .before .before .before .args .value) _
@@ -36,40 +29,13 @@ returns-3 : tie.Need-returns-3
 unfolding storedIn withoutBit6
 returns-3 c = sym (fits (c .before .before) ∙ rw (c .enum-told2 .given .1))
 
-enum-known-register : tie.Need-enum-known-register
-enum-known-register c = search needs
-
-group-requires : tie.Need-group-requires
-group-requires c κs = tt
-
-with-group-requires : tie.Need-with-group-requires
-with-group-requires c κs = tt
-
 returns-4 : tie.Need-returns-4
 unfolding storedIn
 returns-4 c = let e = c .before .before .before .before .before in sym (fits e ∙ rw (c .before .before .before .register .given .1, c .with-group .ensures, c .before .group .ensures))
 
-enum-known-register-2 : tie.Need-enum-known-register-2
-enum-known-register-2 c = search needs
-
-group-requires-2 : tie.Need-group-requires-2
-group-requires-2 c κs = tt
-
-with-group-requires-2 : tie.Need-with-group-requires-2
-with-group-requires-2 c κs = tt
-
 returns-5 : tie.Need-returns-5
 unfolding storedIn
 returns-5 c = let e = c .before .before .before .before .before in sym (fits e ∙ rw (c .before .before .before .register2 .given .1, c .with-group2 .ensures, c .before .group2 .ensures))
-
-enum-known-register-3 : tie.Need-enum-known-register-3
-enum-known-register-3 c = search needs
-
-group-requires-3 : tie.Need-group-requires-3
-group-requires-3 c κs = tt
-
-with-group-requires-3 : tie.Need-with-group-requires-3
-with-group-requires-3 c κs = tt
 
 returns-6 : tie.Need-returns-6
 unfolding storedIn
@@ -79,22 +45,22 @@ pub store-spec : {M : Type 1} → statement M
 store-spec =
     tie.close
     (tie.spec
-    widest-requires
+    (λ c κs. tt)
     returns
-    enum-told
+    (λ c. search needs)
     returns-2
-    enum-told-2
+    (λ c. search needs)
     sub-self
     returns-3
-    enum-known-register
-    group-requires
-    with-group-requires
+    (λ c. search needs)
+    (λ c κs. tt)
+    (λ c κs. tt)
     returns-4
-    enum-known-register-2
-    group-requires-2
-    with-group-requires-2
+    (λ c. search needs)
+    (λ c κs. tt)
+    (λ c κs. tt)
     returns-5
-    enum-known-register-3
-    group-requires-3
-    with-group-requires-3
+    (λ c. search needs)
+    (λ c κs. tt)
+    (λ c κs. tt)
     returns-6)

@@ -1,7 +1,5 @@
 use native.Mathlib.Omega.{arith}
 use Rattle.registers.proofs.status.Laws.{place-within}
-use mathlib.Core.Path.{_≡_}
-use borrow.Author.Needs.{needs}
 use Rattle.registers.proofs.status.Status.with_group.Statement.{statement}
 use Rattle.registers.proofs.status.Status.with_group.Tie as tie
 

@@ -1,11 +1,12 @@
+-- Invariant: up to place `i` the new array is the old one without its first number, and zeros follow. Measure: the places left.
 use mathlib.Core.Path.{_≡_, refl, _∙_}
 use mathlib.Core.List.{_++_}
 use Prim.Native.Nat.{_≤_, _-_}
 use native.Mathlib.Omega.{arith}
 use lib.ListN.{replicate, take, drop}
-use Rattle.registers.proofs.status.Laws.{shift-turn, shift-end}
-use Rattle.registers.proofs.status.shifted.Statement.{statement}
-use Rattle.registers.proofs.status.shifted.Tie as tie
+use Rattle.registers.proofs.queue.Laws.{shift-turn, shift-end}
+use Rattle.registers.proofs.queue.shifted.Statement.{statement}
+use Rattle.registers.proofs.queue.shifted.Tie as tie
 
 abbrev Inv-loop : tie.InvT-loop
 Inv-loop errors next₀ i₀ next i = (i ≤ 15) × (next ≡ take i (drop 1 errors) ++ replicate (16 - i) 0)
@@ -15,27 +16,6 @@ abbrev μ-loop : tie.MeasureT-loop
 
 loop-holds : tie.Need-loop-holds Inv-loop μ-loop
 loop-holds c = (omega arith, refl)
-
-add-next : tie.Need-add-next Inv-loop μ-loop
-add-next c = omega arith
-
-mul-next : tie.Need-mul-next Inv-loop μ-loop
-mul-next c = omega arith
-
-array-read-next : tie.Need-array-read-next Inv-loop μ-loop
-array-read-next c = omega arith
-
-mul-next-2 : tie.Need-mul-next-2 Inv-loop μ-loop
-mul-next-2 c = omega arith
-
-array-write-next : tie.Need-array-write-next Inv-loop μ-loop
-array-write-next c = omega arith
-
-add-i : tie.Need-add-i Inv-loop μ-loop
-add-i c = omega arith
-
-loop-less : tie.Need-loop-less Inv-loop μ-loop
-loop-less c = omega arith
 
 loop-again : tie.Need-loop-again Inv-loop μ-loop
 loop-again c =
@@ -55,12 +35,12 @@ shifted-spec =
     Inv-loop
     μ-loop
     loop-holds
-    add-next
-    mul-next
-    array-read-next
-    mul-next-2
-    array-write-next
-    add-i
-    loop-less
+    (λ c. omega arith)
+    (λ c. omega arith)
+    (λ c. omega arith)
+    (λ c. omega arith)
+    (λ c. omega arith)
+    (λ c. omega arith)
+    (λ c. omega arith)
     loop-again
     returns)

@@ -11,8 +11,9 @@ use lib.ListN.{length, take, drop, set, length-take, length-set}
 use lib.Seq.{take-suc-set, take-all, take-take, take-append-le}
 use borrow.Author.Tests.{lt-ltb, le-ltb, ltb-true, ltb-false, eqb-true, eqb-false}
 use Rattle.registers.specs.Text.{if_then_else_, rest}
-use Rattle.registers.specs.Errors.{overflow}
-use Rattle.registers.specs.Status.{registersOf, troubleOf, raised, noTrouble, completed, eventsRead, oldestRead, allRead, raisedIn, clearedIn, eventsIn, oldestReadIn, most}
+use Rattle.registers.specs.Error.{overflow}
+use Rattle.registers.specs.Status.{registersOf, troubleOf, raised, noTrouble, completed, eventsRead, oldestRead, allRead, raisedIn, clearedIn, eventsIn, oldestReadIn}
+use Rattle.registers.specs.Queue.{most}
 use Rattle.registers.specs.declared.status.Status.{Status}
 use Rattle.registers.proofs.status.Laws.{raised-more, raised-full, oldest-none, oldest-some}
 

@@ -1,8 +1,9 @@
--- Check 6 by the tests that the reader makes on what it found.
+-- Check 6 by the tests that the reader makes on what it found. The definition's answer is brought, part by part, to a `verdict` over
+-- what the functions read; its tests of digits and exponent are then comparisons of held numbers.
 use mathlib.Core.Path.{_≡_, refl, ap, sym, _∙_}
-use mathlib.Core.Bool.{Bool, true, false, not, _&&_}
-use mathlib.Core.List.{[], _∷_, _++_}
-use Prim.Native.Nat.{ℕ, suc, _+_, min}
+use mathlib.Core.Bool.{Bool, true, false, not}
+use mathlib.Core.List.{[], _∷_}
+use Prim.Native.Nat.{ℕ, suc, min}
 use native.Mathlib.Omega.{arith}
 use lib.Dec.{T, leb, ltb, eqb}
 use lib.ListN.{length, drop}
@@ -55,7 +56,7 @@ fraction-digits u = go (point (first u))
     go true = start-passes digit (rest u)
     go false = tt
 
--- the reader found the mantissa behind the sign
+-- the reader found the mantissa after the sign
 module _ {t : Text} {s : ℕ} {m : Mantissa} (sign : drop s t ≡ afterSign t) (mantissa : MantissaRead t s m) where
   abbrev digits : Text
   digits = mantissaOf (afterSign t)
@@ -67,7 +68,7 @@ module _ {t : Text} {s : ℕ} {m : Mantissa} (sign : drop s t ≡ afterSign t) (
   unfolding number written check _>>_
   none-is q e = rw (none, e)
 
--- and its first byte, and the exponent behind the mantissa
+-- and its first byte, and the exponent after the mantissa
 module _ {t : Text} {b s : ℕ} {m : Mantissa} {x : Exponent} (byte : b ≡ first t) (sign : drop s t ≡ afterSign t)
     (mantissa : MantissaRead t s m) (exponent : ExponentRead t (m .end) x) where
   abbrev all : Text
@@ -88,7 +89,7 @@ module _ {t : Text} {b s : ℕ} {m : Mantissa} {x : Exponent} (byte : b ≡ firs
   places-is : m .places ≡ length (fractionOf (after digit (afterSign t)))
   places-is = mantissa .places ∙ ap (λ (u : Text). length (fractionOf (after digit u))) sign
 
-  -- check 6 of the text, where e is the place behind the white space that follows the number
+  -- check 6 of the text, where e is the place after the white space that follows the number
   pub number-is : (q : Quantity) (e : ℕ) → drop e t ≡ after white (drop (x .end) t)
       → number q t ≡ verdict (eqb (m .count) 0) (remains q (drop e t)) b m x
   unfolding number written valueOf chain verdict valueRead

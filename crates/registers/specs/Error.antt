@@ -1,6 +1,5 @@
--- "Registers and queue": the errors that 01 raises, their numbers, the event bit of each, their texts in SCPI-99, and the numbers
--- that may stand in the queue. 222 stands for -222.
-use mathlib.Core.Bool.{Bool, false, _||_}
+-- "Registers and queue": the errors that 01 raises, their numbers, the event bit of each, and their texts in SCPI-99. 222 stands for
+-- -222.
 use mathlib.Core.List.{List, [], _∷_, _++_}
 use Prim.Native.Nat.{ℕ, _^_}
 use Prim.Native.Char.{code}
@@ -74,15 +73,3 @@ messageIn (m ∷ ms) n = if eqb (m .0) n then m .1 else messageIn ms n
 unfoldable pub errorText : ℕ → Text
 errorText n =
     (if eqb n 0 then [] else code "-" ∷ []) ++ decimal n ++ code "," ∷ code "\"" ∷ bytes (messageIn messages n) ++ code "\"" ∷ []
-
--- the numbers that 01 puts into the queue: refusal 4 speaks of "a number this paper never puts there"
-unfoldable pub queueable : List ℕ
-queueable = 101 ∷ 102 ∷ 104 ∷ 108 ∷ 109 ∷ 113 ∷ 121 ∷ 123 ∷ 124 ∷ 131 ∷ 138 ∷ 141 ∷ 221 ∷ 222 ∷ 350 ∷ 363 ∷ 410 ∷ 420 ∷ 430 ∷ []
-
--- a number is in a list
-abbrev pub among : ℕ → List ℕ → Bool
-among n [] = false
-among n (x ∷ xs) = eqb x n || among n xs
-
-unfoldable pub known : ℕ → Bool
-known n = among n queueable

@@ -1,0 +1,85 @@
+-- Laws of the queue of error numbers. Which numbers may stand there: a search for one by its place, the same test of each that
+-- waits, and that every error raised passes it. And how the numbers move up when the oldest is removed: with `i` of them moved, the
+-- array is all but the first up to place `i` and zeros after that.
+use mathlib.Core.Path.{_≡_, refl, sym}
+use mathlib.Core.Bool.{true, false}
+use mathlib.Core.List.{List, [], _∷_, _++_}
+use Prim.Native.Nat.{ℕ, suc, _+_, _-_, _≤_, _<_}
+use native.Mathlib.Numerals.{add-one}
+use native.Mathlib.Omega.{arith}
+use lib.ListN.{length, take, drop, getD, set, replicate, length-take, length-drop, drop-of-length-le}
+use lib.Seq.{drop-cons, set-at, take-suc, take-all, append-snoc, getD-take}
+use borrow.Author.Tests.{eq-eqb, ne-eqb}
+use Rattle.registers.specs.Text.{every}
+use Rattle.registers.specs.Error.{numberOf}
+use Rattle.registers.specs.Queue.{among, mayBeQueued, queueable}
+use Rattle.registers.specs.declared.error.Error.{Error}
+use Rattle.registers.specs.declared.error.Error.the-variants.{InvalidCharacter, Syntax, DataType, ParameterNotAllowed, MissingParameter, UndefinedHeader, InvalidCharacterInNumber, ExponentTooLarge, TooManyDigits, InvalidSuffix, SuffixNotAllowed, InvalidCharacterData, SettingsConflict, DataOutOfRange, InputBufferOverrun, QueryInterrupted, QueryUnterminated, QueryDeadlocked}
+use Rattle.registers.proofs.Tests.{every-skip, every-miss}
+
+-- ---- the numbers that may stand there
+
+module _ (n : ℕ) (l : List ℕ) (i : ℕ) (h : i < length l) where
+  pub among-skip : (getD l i 0 ≡ n → ⊥) → among n (drop i l) ≡ among n (drop (i + 1) l)
+  among-skip ne = rw (drop-cons l i 0 h, add-one i, ne-eqb (getD l i 0) n ne)
+
+  pub among-hit : getD l i 0 ≡ n → among n (drop i l) ≡ true
+  among-hit e = rw (drop-cons l i 0 h, eq-eqb (getD l i 0) n e)
+
+-- every error that can be raised may stand in the queue
+pub raised-queueable : (e : Error) → mayBeQueued (numberOf e) ≡ true
+unfolding mayBeQueued queueable
+raised-queueable InvalidCharacter = refl
+raised-queueable Syntax = refl
+raised-queueable DataType = refl
+raised-queueable ParameterNotAllowed = refl
+raised-queueable MissingParameter = refl
+raised-queueable UndefinedHeader = refl
+raised-queueable InvalidCharacterInNumber = refl
+raised-queueable ExponentTooLarge = refl
+raised-queueable TooManyDigits = refl
+raised-queueable InvalidSuffix = refl
+raised-queueable SuffixNotAllowed = refl
+raised-queueable InvalidCharacterData = refl
+raised-queueable SettingsConflict = refl
+raised-queueable DataOutOfRange = refl
+raised-queueable InputBufferOverrun = refl
+raised-queueable QueryInterrupted = refl
+raised-queueable QueryUnterminated = refl
+raised-queueable QueryDeadlocked = refl
+
+-- the loop over the numbers that wait
+module _ (errors : List ℕ) (count i : ℕ) (long : length errors ≡ 16) (h : count ≤ 16) where
+  waiting : length (take count errors) ≡ count
+  waiting = rw length-take (omega arith)
+
+  module _ (k : i < count) where
+    within : i < length (take count errors)
+    within = let w = waiting in omega arith
+
+    pub queued-one : mayBeQueued (getD errors i 0) ≡ true → every mayBeQueued (drop i (take count errors)) ≡ every mayBeQueued (drop (i + 1) (take count errors))
+    queued-one e = every-skip mayBeQueued (take count errors) i within (rw (getD-take count errors i 0 k) e)
+
+    pub queued-none : mayBeQueued (getD errors i 0) ≡ false → every mayBeQueued (drop i (take count errors)) ≡ false
+    queued-none e = every-miss mayBeQueued (take count errors) i within (rw (getD-take count errors i 0 k) e)
+
+  pub queued-all : count ≤ i → every mayBeQueued (drop i (take count errors)) ≡ true
+  queued-all k = let w = waiting in let past : length (take count errors) ≤ i = omega arith in rw (drop-of-length-le (take count errors) past)
+
+-- ---- the oldest removed
+
+-- a turn of the loop, and its end
+pub shift-turn : (e : List ℕ) (i : ℕ) → length e ≡ 16 → i < 15
+    → set (take i (drop 1 e) ++ replicate (16 - i) 0) i (getD e (i + 1) 0) ≡ take (i + 1) (drop 1 e) ++ replicate (16 - (i + 1)) 0
+shift-turn [] i long h = absurd (omega arith)
+shift-turn (x ∷ l) i long h =
+    let hl : i < length l = omega arith in
+    let n : 16 - i ≡ suc (15 - i) = omega arith in
+    let m : 16 - suc i ≡ 15 - i = omega arith in
+    let t : length (take i l) ≡ i = rw length-take (omega arith) in
+    rw (add-one i, n, m, set-at (take i l) 0 (replicate (15 - i) 0) (getD l i 0) i t, take-suc l i 0 hl)
+    (sym (append-snoc (take i l) (getD l i 0) (replicate (15 - i) 0)))
+
+pub shift-end : (e : List ℕ) (i : ℕ) → length e ≡ 16 → i ≡ 15
+    → take i (drop 1 e) ++ replicate (16 - i) 0 ≡ drop 1 e ++ 0 ∷ []
+shift-end e i long h = rw (h, take-all 15 (drop 1 e) (rw length-drop (omega arith)))

@@ -1,0 +1,22 @@
+-- "Registers and queue": how many errors wait at most, and which numbers may stand in the queue. 222 stands for -222.
+use mathlib.Core.Bool.{Bool, false, _||_}
+use mathlib.Core.List.{List, [], _∷_}
+use Prim.Native.Nat.{ℕ}
+use lib.Dec.{eqb}
+
+-- "The queue holds 16 numbers"
+abbrev pub most : ℕ
+most = 16
+
+-- the numbers that 01 puts into the queue: refusal 4 speaks of "a number this paper never puts there"
+unfoldable pub queueable : List ℕ
+queueable = 101 ∷ 102 ∷ 104 ∷ 108 ∷ 109 ∷ 113 ∷ 121 ∷ 123 ∷ 124 ∷ 131 ∷ 138 ∷ 141 ∷ 221 ∷ 222 ∷ 350 ∷ 363 ∷ 410 ∷ 420 ∷ 430 ∷ []
+
+-- a number is in a list
+abbrev pub among : ℕ → List ℕ → Bool
+among n [] = false
+among n (x ∷ xs) = eqb x n || among n xs
+
+-- whether a number is one of them
+unfoldable pub mayBeQueued : ℕ → Bool
+mayBeQueued n = among n queueable
