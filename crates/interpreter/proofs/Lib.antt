@@ -1,5 +1,6 @@
 pub mod Choices
 pub mod Lists
 pub mod Possible
+pub mod Edges
 pub mod Examples
 pub mod demands

@@ -14,10 +14,10 @@ ghost use Rattle.interpreter.specs.Events.{received, take, condition, lo
 ghost use Rattle.interpreter.specs.State.{numberOf, Happens, Started};
 ghost use Rattle.interpreter.specs.StateParts.{Tested, flowOf, stateOf};
 
-// The room of a line before its newline, and of an answer with its newline.
-pub const LINE: usize = 512;
+// The room of a line before its newline, and of an answer with its newline (02, #106).
+pub const LINE: usize = 4096;
 
-pub const ANSWER: usize = 1024;
+pub const ANSWER: usize = 4096;
 
 // Everything that the box keeps from one event to the next.
 pub struct State {

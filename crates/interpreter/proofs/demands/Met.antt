@@ -3,7 +3,6 @@ use mathlib.Core.Path.{_≡_, refl, sym, _∙_, ap}
 use mathlib.Core.Bool.{Bool, true, false}
 use mathlib.Core.List.{List, [], _∷_, _++_, map}
 use Prim.Native.Nat.{ℕ, zero, suc, _+_, _<_}
-use Prim.Native.Char.{code}
 use Prim.Native.String.{String}
 use native.Mathlib.Omega.{arith}
 use lib.ListN as L
@@ -27,7 +26,7 @@ use Rattle.interpreter.specs.Header.{Header, here, name, placed, header,
 use Rattle.interpreter.specs.Rows.{settingRows, otherRows, rows, fitsRow, findRow}
 use Rattle.interpreter.specs.Parameter.{parameters, least, greatest, findWord, parameter, valueGiven, settingDeed, deedOf}
 use Rattle.interpreter.specs.Unit.{Read, readUnit}
-use Rattle.interpreter.specs.Box.{Box, box, powerUp}
+use Rattle.interpreter.specs.Box.{Box, box, mostLine, powerUp}
 use Rattle.interpreter.specs.Deeds.{permitted, changed, replyTo, inquiryReply, joined, fitsAnswer, reply, perform}
 use Rattle.interpreter.specs.Line.{attempt, refuse, runUnits, interrupted, finished, unitsOf, runLine, endLine, held, byte, piece}
 use Rattle.interpreter.specs.Events.{Event, received, take, condition, look, Result, result, taken, reported, happens, possibleCore, possible, Own, after}
@@ -40,6 +39,7 @@ use Rattle.interpreter.specs.declared.deed.Role.the-variants.{Setting}
 use Rattle.interpreter.specs.Demand2.{Spelling, Sends, Trip, Premises, queried, sentBack, takenFrom}
 use Rattle.interpreter.specs.Lock.{leavesKey}
 use Rattle.interpreter.proofs.Possible.{power-up-own}
+use Rattle.interpreter.proofs.Edges.{lineOf, under-way, overlong-is}
 
 abbrev text : String → Event
 text s = received (bytes s)
@@ -65,7 +65,7 @@ atThird = text "VOLT 5;VOLT?;FREQ 1;FREQ 60" ∷ []
 
 -- overlong: n = 0
 abbrev tooLong : List Event
-tooLong = received (replicate 513 (code "X")) ∷ []
+tooLong = lineOf (mostLine + 1)
 
 abbrev later : List Event
 later = text "*CLS\nVOLT?\n" ∷ take [] ∷ []
@@ -238,6 +238,18 @@ pub record MetLock : Type 0 where
   pub stays : settingAfter voltage (locking ++ tried ++ switched) ≡ pos 50
   pub errors : after powerUp (locking ++ tried ++ switched) .trouble .queue ≡ 221 ∷ 221 ∷ 221 ∷ 221 ∷ 420 ∷ []
 
+-- the overlong line is too long to be computed
+too-long : Cut [] tooLong 363 []
+unfolding lineRefusal cutLine powerUp after if_then_else_
+too-long =
+    let long = overlong-is (mostLine + 1) in
+    let refused : lineRefusal (atEnd [] tooLong) ≡ 363 = rw long in
+    record {
+      line = record { begins = (refl, refl); underWay = under-way (mostLine + 1); other = λ e. absurd (omega (arith, sym refused ∙ e)) };
+      refusedBy = refused;
+      cutTo = rw long;
+    }
+
 -- ---- computed
 
 record Computed : Type 0 where
@@ -265,7 +277,6 @@ unfolding if_then_else_ bytes same white printable digit letter wordByte small c
 computed =
     let two : lineRefusal (atEnd [] during) ≡ 113 = refl in
     let three : lineRefusal (atEnd earlier atThird) ≡ 222 = refl in
-    let long : lineRefusal (atEnd [] tooLong) ≡ 363 = refl in
     let spelled : Spelling 4 (bytes "VOLT") = record { read = _; reads = refl; sets = refl; row = refl } in
     let sent : (b : Box) (a : Text) → b .core .overlong ≡ false → b .core .line ≡ bytes "VOLT" ++ (bytes " " ++ (a ++ [])) → Sends 4 a b =
     λ b a w l. record {
@@ -294,11 +305,7 @@ computed =
           cutTo = refl;
         };
         thirdAnswers = refl;
-        overlong = record {
-          line = record { begins = (refl, refl); underWay = refl; other = λ e. absurd (omega (arith, sym long ∙ e)) };
-          refusedBy = long;
-          cutTo = refl;
-        };
+        overlong = too-long;
         comesFirst = refl;
         inPieces = refl;
         cutInPieces = refl;

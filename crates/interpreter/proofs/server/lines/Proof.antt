@@ -4,6 +4,7 @@ use Prim.Native.Nat.{_-_}
 use native.Mathlib.Omega.{arith}
 use lib.ListN.{length}
 use borrow.Author.Needs.{needs}
+use Rattle.interpreter.specs.Box.{mostAnswer}
 use Rattle.interpreter.specs.FlowParts.{flowBox}
 use Rattle.interpreter.specs.Server.{service}
 use Rattle.interpreter.proofs.server.Laws.{Serving, serve-begun, more-input, more-room, serve-further, serve-on, serve-end}
@@ -31,7 +32,7 @@ feed-line-requires c κs = let g = c .before .before .before .before .loop .inv 
 paste-requires : tie.Need-paste-requires Inv-loop μ-loop
 paste-requires c κs =
     let few = c .before .before .before .feed-line .ensures .fits .waiting in
-    let outs : length (c .before .before .before .feed-line .last .1 .1 .1 .0) ≡ 1024 = search needs in
+    let outs : length (c .before .before .before .feed-line .last .1 .1 .1 .0) ≡ mostAnswer = search needs in
     let free = more-room _ _ _ _ _ _ _ _ (c .before .before .before .before .before .before .before .before .loop .inv) (c .before .before .before .before .before .before .if1 .taken) in
     (omega arith, omega arith)
 
