@@ -19,7 +19,7 @@ import sys
 TESTS = os.path.dirname(os.path.abspath(__file__))
 ROOT = os.path.dirname(TESTS)
 NO_ERROR = '0,"No error"'
-# No answer is longer, and the player lends no more.
+# No answer is longer.
 ROOM = 4096
 # The player's letter of a condition, and its value.
 CONDITIONS = {'key turned': ('k', 1), 'key back': ('k', 0), 'operation begins': ('c', 1), 'warning begins': ('w', 1)}

@@ -3,8 +3,8 @@
 use crate::error::Error;
 use crate::text::NEWLINE;
 
-/// With its final newline.
-pub const ANSWER_LIMIT: usize = 1024;
+/// With its final newline (02, #106).
+pub const ANSWER_LIMIT: usize = 4096;
 
 #[derive(Clone, Debug, PartialEq, Eq)]
 pub struct Answer {

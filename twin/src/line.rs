@@ -1,7 +1,7 @@
 //! The line as it comes in.
 
-/// Bytes before the newline.
-pub const LINE_LIMIT: usize = 512;
+/// Bytes before the newline (02, #106).
+pub const LINE_LIMIT: usize = 4096;
 
 #[derive(Clone, Debug, PartialEq, Eq)]
 pub struct Line {

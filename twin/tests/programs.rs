@@ -47,7 +47,7 @@ fn bench24_answers_each_line_by_itself() {
     assert_eq!(lines.lines().count(), 20_000);
     let mut state = State::power_up();
     let mut expected = Vec::new();
-    let mut buffer = [0; 1024];
+    let mut buffer = [0; ANSWER_LIMIT];
     for line in lines.split_inclusive('\n') {
         state.piece(line.as_bytes()).unwrap();
         if state.look().unwrap() & 16 != 0 {
@@ -79,10 +79,10 @@ fn play_lines(lines: &str) -> Vec<(usize, usize)> {
 
 #[test]
 fn kinds_of_lines() {
-    let lines = |kind: &[&str]| run(HISTORIES, &[&["6", "500"], kind].concat(), b"");
+    let lines = |kind: &[&str]| run(HISTORIES, &[&["6", "200"], kind].concat(), b"");
     let all = |kind: &[&str], holds: fn((usize, usize)) -> bool| {
         let results = play_lines(&lines(kind));
-        assert_eq!(results.len(), 500, "{kind:?}");
+        assert_eq!(results.len(), 200, "{kind:?}");
         assert!(results.into_iter().all(holds), "{kind:?}");
     };
     all(&["settings"], |(errors, answer)| errors == 0 && answer == 0);
@@ -92,10 +92,15 @@ fn kinds_of_lines() {
     all(&["long", "400"], |(errors, answer)| {
         errors == 0 && answer > 0
     });
-    let long = lines(&["long", "400"]);
-    for (line, (_, answer)) in long.lines().zip(play_lines(&long)) {
-        assert!((340..=400).contains(&line.len()), "{line}");
-        assert!(answer <= line.len() + 1, "{line}");
+    all(&["long", "4000"], |(errors, answer)| {
+        errors == 0 && answer > 0
+    });
+    for length in [400, 4000] {
+        let long = lines(&["long", &length.to_string()]);
+        for (line, (_, answer)) in long.lines().zip(play_lines(&long)) {
+            assert!((length - 60..=length).contains(&line.len()), "{line}");
+            assert!(answer <= line.len() + 1, "{line}");
+        }
     }
 }
 
@@ -141,7 +146,7 @@ fn player_events() {
 fn player_hand_made_records() {
     let script = "x setting.13 -81\nl\nt 3\np 0A0A\nc 40000\nx setting.13 -80\nl\n\
                   x queued 17\nx error.0 101\ns\nx queued 2\nx error.1 350\nl\n\
-                  x line 600\ns\nx line 2\nx answer 3\ns";
+                  x line 4096\ns\nx line 2\nx answer 3\ns";
     let reports = play(script);
     let settings = "0,0,1,2,0,0,500,10,1,1,1,1,40,-80,50,0,0";
     let rest = "128 0 0 0 0 0 32767 0";
@@ -156,7 +161,7 @@ fn player_hand_made_records() {
         format!("s {settings} {rest} {queue} 0 - - {SETS}")
     );
     assert_eq!(reports[12], "l 0 4");
-    let zeros = "00".repeat(512);
+    let zeros = "00".repeat(4096);
     assert_eq!(
         reports[14],
         format!("s {settings} {rest} 101,350 0 {zeros} - {SETS}")
@@ -195,7 +200,7 @@ fn player_on_what_it_cannot_read() {
         "p  ",
         "t",
         "t ",
-        "t 4097",
+        "t 8193",
         "t -1",
         "t +1",
         "t 1 2",
@@ -242,7 +247,7 @@ fn player_on_what_it_cannot_read() {
         "p",
         "p ",
         "t 0",
-        "t 4096",
+        "t 8192",
         "x setting.0 -2147483648",
         "x setting.16 1",
         "k 32768",
@@ -259,7 +264,20 @@ fn player_takes_long_lines() {
     let script = format!("p {}\ns", "41".repeat(20_000));
     let reports = play(&script);
     assert_eq!(reports[0], "p 0 0");
-    assert!(reports[1].ends_with(&format!(" - 1 {} - {SETS}", "41".repeat(512))));
+    assert!(reports[1].ends_with(&format!(" - 1 {} - {SETS}", "41".repeat(4096))));
+}
+
+#[test]
+fn player_writes_a_full_state_whole() {
+    let query = "2A49444E3F3B".repeat(186) + "564F4C543F0A";
+    let script = format!("p {query}\np {}\ns\nt 8192", "42".repeat(4096));
+    let reports = play(&script);
+    let answer = "434F555253452C42454E434832342C302C342E30303B".repeat(186) + "302E300A";
+    let line = "42".repeat(4096);
+    assert_eq!(answer.len(), 2 * 4096);
+    assert!(reports[2].ends_with(&format!(" - 0 {line} {answer} {SETS}")));
+    let rest = "AA".repeat(4096);
+    assert_eq!(reports[3], format!("t 0 4096 {answer}{rest}"));
 }
 
 #[test]

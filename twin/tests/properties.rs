@@ -100,7 +100,7 @@ fn pieces_may_be_cut_anywhere() {
         for _ in 0..12 {
             bytes.extend_from_slice(random_line(&mut dice).join(";").as_bytes());
             let padding = if dice.below(10) == 0 {
-                500 + dice.below(30)
+                4080 + dice.below(30)
             } else {
                 0
             };
@@ -518,18 +518,18 @@ fn agrees_with_a_cut(before: &State, after: &State, line: &str) -> bool {
 #[test]
 fn nothing_panics() {
     let mut dice = Dice(5);
-    for _ in 0..20_000 {
+    for _ in 0..5000 {
         let mut state = State::power_up();
         for _ in 0..dice.below(4) {
             overwrite_something(&mut state, &mut dice);
         }
         for _ in 0..4 {
-            let length = *dice.pick(&[0, 1, 5, 30, 520]);
+            let length = *dice.pick(&[0, 1, 5, 30, 60, 90, 520, 4100]);
             let piece: Vec<u8> = (0..length).map(|_| random_byte(&mut dice)).collect();
             let newlines = piece.iter().filter(|&&byte| byte == b'\n').count();
             let result = state.piece(&piece);
             assert!(result.is_err() || result == Ok(newlines));
-            let _ = state.take(&mut vec![0; dice.below(1100)]);
+            let _ = state.take(&mut vec![0; dice.below(4200)]);
             let name = *dice.pick(&SetName::ALL);
             let _ = state.condition(name, dice.below(65_536) as u16);
             let _ = state.look();
@@ -547,7 +547,7 @@ fn random_byte(dice: &mut Dice) -> u8 {
 
 fn overwrite_something(state: &mut State, dice: &mut Dice) {
     let odd = *dice.pick(&[
-        0, 1, 16, 17, 64, 255, 256, 512, 513, 1024, 1025, 32_768, 65_535,
+        0, 1, 16, 17, 64, 255, 256, 513, 1025, 4096, 4097, 32_768, 65_535,
     ]);
     let status = &mut state.instrument.status;
     match dice.below(8) {

@@ -23,19 +23,19 @@ mod lines_and_units {
         for line in ["", " ", "\r", "\0", "\t\0 \r\x0B\x1F"] {
             assert!(same(&after(line).state, &State::power_up()), "{line:?}");
         }
-        let blanks = after(" ".repeat(512));
+        let blanks = after(" ".repeat(4096));
         assert!(same(&blanks.state, &State::power_up()));
-        refused(" ".repeat(513), 363);
-        let full = format!("VOLT {}5\r", "0".repeat(505));
-        assert_eq!(full.len(), 512);
+        refused(" ".repeat(4097), 363);
+        let full = format!("VOLT {}5\r", "0".repeat(4089));
+        assert_eq!(full.len(), 4096);
         sets(&full, VOLTAGE, 50);
-        refused(format!("VOLT {}5\r", "0".repeat(506)), 363);
+        refused(format!("VOLT {}5\r", "0".repeat(4090)), 363);
     }
 
     #[test]
     fn interrupted() {
         let mut bench = after("VOLT?");
-        bench.send(" ".repeat(513));
+        bench.send(" ".repeat(4097));
         assert_eq!(bench.errors(), [410, 363]);
         assert_eq!(bench.answer(), None);
 
@@ -81,8 +81,8 @@ mod lines_and_units {
     #[test]
     fn stored_line_never_exceeds_its_limit() {
         let mut bench = Bench::power_up();
-        assert_eq!(bench.state.piece(&[b'A'; 2000]), Ok(0));
-        assert_eq!(bench.state.line.length, 512);
+        assert_eq!(bench.state.piece(&[b'A'; 5000]), Ok(0));
+        assert_eq!(bench.state.line.length, 4096);
         assert!(bench.state.line.overlong);
         assert_eq!(bench.state.look(), Ok(0));
     }
@@ -287,6 +287,7 @@ mod parameters_and_numbers {
         sets("DISP:BRIG 0.0000000000001", BRIGHTNESS, 0);
         sets(format!("VOLT {}7", "0".repeat(500)), VOLTAGE, 70);
         sets(format!("DISP:BRIG .{}7", "0".repeat(499)), BRIGHTNESS, 0);
+        sets(format!("DISP:BRIG .{}7", "0".repeat(4080)), BRIGHTNESS, 0);
         sets(format!("VOLT 7.{}", "0".repeat(11)), VOLTAGE, 70);
         sets("VOLT 5.00000000000", VOLTAGE, 50);
         refused("VOLT 5.000000000000", 124);
@@ -351,20 +352,20 @@ mod answers_status_queue {
 
     #[test]
     fn answer_limit() {
-        let line = units(&[(46, "*IDN?"), (3, "VOLT?")]);
+        let line = units(&[(186, "*IDN?"), (1, "VOLT?")]);
         let mut bench = after(&line);
         assert_eq!(bench.errors(), []);
-        assert_eq!(bench.state.instrument.answer.length, 1024);
+        assert_eq!(bench.state.instrument.answer.length, 4096);
         assert_eq!(bench.state.look(), Ok(16));
-        assert_eq!(bench.answer().unwrap().len(), 1023);
+        assert_eq!(bench.answer().unwrap().len(), 4095);
 
-        let line = units(&[(46, "*IDN?"), (2, "VOLT?"), (1, "FREQ?")]);
+        let line = units(&[(186, "*IDN?"), (1, "FREQ?")]);
         refused(line, 430);
     }
 
     #[test]
     fn deadlocked() {
-        let line = units(&[(1, "VOLT 5"), (60, "*IDN?"), (1, "VOLT 6")]);
+        let line = units(&[(1, "VOLT 5"), (200, "*IDN?"), (1, "VOLT 6")]);
         let mut bench = after(line);
         assert_eq!(bench.errors(), [430]);
         assert_eq!(bench.setting(VOLTAGE), 50);
@@ -375,18 +376,13 @@ mod answers_status_queue {
     #[test]
     fn query_that_does_not_fit_is_not_performed() {
         let mut bench = after("FOO");
-        bench.send(units(&[(46, "*IDN?"), (1, "SYST:ERR?")]));
+        bench.send(units(&[(186, "*IDN?"), (1, "SYST:ERR?")]));
         assert_eq!(bench.errors(), [113, 430]);
         bench.state.condition(SetName::Operation, 1).unwrap();
         let before = bench.state.instrument.status.clone();
-        bench.send(units(&[
-            (46, "*IDN?"),
-            (2, "VOLT?"),
-            (1, "*OPC?"),
-            (1, "*ESR?"),
-        ]));
+        bench.send(units(&[(186, "*IDN?"), (1, "*OPC?"), (1, "*ESR?")]));
         assert_eq!(bench.esr(), before.esr);
-        bench.send(units(&[(46, "*IDN?"), (3, "VOLT?"), (1, "STAT:OPER?")]));
+        bench.send(units(&[(186, "*IDN?"), (1, "VOLT?"), (1, "STAT:OPER?")]));
         assert_eq!(
             bench.state.instrument.status.set(SetName::Operation).event,
             1

@@ -56,7 +56,7 @@ fn three_condition_too_large() {
 fn refused_by_four(state: &State) {
     assert_eq!(Refusal::NotTheBoxs.number(), 4);
     let mut played = state.clone();
-    let mut buffer = [0xAA; 2000];
+    let mut buffer = [0xAA; 5000];
     assert_eq!(played.piece(b""), Err(Refusal::NotTheBoxs));
     assert_eq!(played.piece(b"VOLT?\n\n"), Err(Refusal::NotTheBoxs));
     assert_eq!(played.take(&mut buffer), Err(Refusal::NotTheBoxs));
@@ -66,7 +66,7 @@ fn refused_by_four(state: &State) {
         assert_eq!(played.condition(name, u16::MAX), Err(Refusal::NotTheBoxs));
     }
     assert_eq!(played.look(), Err(Refusal::NotTheBoxs));
-    assert_eq!(buffer, [0xAA; 2000]);
+    assert_eq!(buffer, [0xAA; 5000]);
     assert_eq!(&played, state);
 }
 
@@ -78,7 +78,7 @@ fn not_refused_by_four(state: &State) {
     assert_eq!(played.piece(b"VOLT?;*STB?;SYST:ERR?\n"), Ok(1));
     assert!(played.look().is_ok());
     let mut played = state.clone();
-    assert_ne!(played.take(&mut [0; 2000]), Err(Refusal::NotTheBoxs));
+    assert_ne!(played.take(&mut [0; 5000]), Err(Refusal::NotTheBoxs));
     for name in SetName::ALL {
         assert_eq!(played.condition(name, 1), Ok(()));
     }
@@ -190,16 +190,16 @@ fn four_lengths() {
     };
     not_refused_by_four(&queue(16));
     let line = |length| overwritten(|state| state.line.length = length);
-    not_refused_by_four(&line(512));
+    not_refused_by_four(&line(4096));
     let answer = |length| overwritten(|state| state.instrument.answer.length = length);
-    not_refused_by_four(&answer(1024));
+    not_refused_by_four(&answer(4096));
     for length in [17, 18, 65_535, usize::MAX] {
         refused_by_four(&queue(length));
     }
-    for length in [513, 600, 65_535, usize::MAX] {
+    for length in [4097, 5000, 65_535, usize::MAX] {
         refused_by_four(&line(length));
     }
-    for length in [1025, 65_535, usize::MAX] {
+    for length in [4097, 65_535, usize::MAX] {
         refused_by_four(&answer(length));
     }
 }
@@ -212,11 +212,11 @@ fn four_not_otherwise() {
         state.instrument.status.errors = [7; 16]
     }));
     not_refused_by_four(&overwritten(|state| {
-        state.line.length = 512;
-        state.line.bytes = [10; 512];
+        state.line.length = 4096;
+        state.line.bytes = [10; 4096];
     }));
     not_refused_by_four(&overwritten(|state| {
-        state.instrument.answer.length = 1024;
-        state.instrument.answer.bytes = [255; 1024];
+        state.instrument.answer.length = 4096;
+        state.instrument.answer.bytes = [255; 4096];
     }));
 }

@@ -309,8 +309,8 @@ mod lock_and_warning_registers {
         for (name, header, _) in SETS {
             let mut bench = Bench::power_up();
             bench.state.condition(name, 1).unwrap();
-            let filling = ["*IDN?;".repeat(46), "VOLT?;".repeat(3)].concat();
-            bench.send(format!("{filling}STAT:{header}?"));
+            let filling = "*IDN?;".repeat(186);
+            bench.send(format!("{filling}VOLT?;STAT:{header}?"));
             assert_eq!(bench.errors(), [430]);
             assert_eq!(bench.state.instrument.status.set(name).event, 1);
         }
@@ -486,6 +486,47 @@ mod no_changes_under_lock {
         bench.send("*CLS");
         bench.send("VOLT 5");
         assert_eq!(bench.errors(), [221]);
+    }
+}
+
+/// #106: longer lines and answers.
+mod longer_lines {
+    use super::*;
+    use twin::Refusal;
+
+    #[test]
+    fn forty_commands_in_one_line() {
+        let units: Vec<String> = (1..=40)
+            .map(|n| format!(":DISPlay:BRIGhtness {n}"))
+            .collect();
+        let line = units.join(";");
+        assert!(line.len() > 512);
+        sets(line, BRIGHTNESS, 40);
+    }
+
+    #[test]
+    fn line_limit() {
+        sets("VOLT 5".to_string() + &" ".repeat(4090), VOLTAGE, 50);
+        refused("VOLT 5".to_string() + &" ".repeat(4091), 363);
+        let mut bench = Bench::power_up();
+        assert_eq!(bench.state.piece(&[b' '; 4096]), Ok(0));
+        assert!(!bench.state.line.overlong);
+        assert_eq!(bench.state.piece(b" "), Ok(0));
+        assert!(bench.state.line.overlong);
+        assert_eq!(bench.state.line.length, 4096);
+    }
+
+    #[test]
+    fn answer_limit() {
+        let filling = "*IDN?;".repeat(186);
+        let mut bench = after(format!("{filling}VOLT?"));
+        assert_eq!(bench.errors(), []);
+        let refusal = Err(Refusal::BufferTooShort { needed: 4096 });
+        assert_eq!(bench.state.take(&mut [0; 4095]), refusal);
+        assert_eq!(bench.state.take(&mut [0; 4096]), Ok(4096));
+        refused(format!("{filling}FREQ?"), 430);
+        refused(format!("{filling}VOLT?;*TST?"), 430);
+        assert_eq!(after(format!("{filling}VOLT?;*WAI")).errors(), []);
     }
 }
 

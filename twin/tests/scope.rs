@@ -54,11 +54,11 @@ fn other_lines_to_try() {
 
 #[test]
 fn line_limit() {
-    let line = format!("VOLT {}5", "0".repeat(506));
-    assert_eq!(line.len(), 512);
+    let line = format!("VOLT {}5", "0".repeat(4090));
+    assert_eq!(line.len(), 4096);
     sets(&line, VOLTAGE, 50);
-    refused(format!("VOLT {}5", "0".repeat(507)), 363);
-    refused("VOLT 5".to_string() + &" ".repeat(3000), 363);
+    refused(format!("VOLT {}5", "0".repeat(4091)), 363);
+    refused("VOLT 5".to_string() + &" ".repeat(9000), 363);
 }
 
 #[test]

@@ -2,5 +2,6 @@ pub mod Choices
 pub mod Lists
 pub mod Checks
 pub mod Possible
+pub mod Edges
 pub mod Examples
 pub mod demands

@@ -2,7 +2,7 @@
 use mathlib.Core.Path.{_≡_, refl, _∙_}
 use mathlib.Core.Bool.{Bool, true, false, false≢true}
 use mathlib.Core.List.{List, [], _∷_}
-use Prim.Native.Nat.{ℕ, _≤_, zero-le}
+use Prim.Native.Nat.{ℕ, _-_, _≤_, zero-le}
 use native.Mathlib.Omega.{arith}
 use lib.Dec.{leb, ltb, eqb}
 use lib.ListN.{length, length-append, length-set}
@@ -54,7 +54,7 @@ pub record Fit (k : ℕ) (b : Box) : Type 0 where
 
 -- while a line runs its answer leaves room for the newline
 abbrev pub running : ℕ
-running = 1023
+running = mostAnswer - 1
 
 fit : (k : ℕ) (c : Core) (t : Trouble) → FitCore k c → status.Good t → Fit k (box c t)
 fit k c t f g = record { core = f; trouble = g }

@@ -8,18 +8,18 @@ use Rattle.registers.specs.Settings.{atReset}
 use Rattle.registers.specs.Status.{Registers, Trouble, raised, registersOf, troubleOf, atStart}
 use Rattle.registers.specs.declared.settings.Settings.{Settings}
 
--- "A line holds at most 512 bytes before its newline"
+-- "A line holds at most 512 bytes before its newline", by 02 (#106) 4,096
 abbrev pub mostLine : ℕ
-mostLine = 512
+mostLine = 4096
 
--- check 9: an answer of the line with its newline doesn't "pass 1,024 bytes"
+-- check 9: an answer of the line with its newline doesn't "pass 1,024 bytes", by 02 (#106) 4,096
 abbrev pub mostAnswer : ℕ
-mostAnswer = 1024
+mostAnswer = 4096
 
 pub record Core : Type 0 where
   pub settings : Settings
   pub registers : Registers
-  pub line : Text  -- the bytes of the line so far, at most 512
+  pub line : Text  -- the bytes of the line so far, at most mostLine
   pub overlong : Bool  -- further bytes were dropped
   pub answer : Text  -- the waiting answer; while a line runs, the answers of its units so far
 

@@ -41,7 +41,7 @@ inquiryReply NextError b = errorText (first (b .trouble .queue))
 unfoldable pub joined : Text → Text → Text
 joined a t = if empty a then t else a ++ code ";" ∷ t
 
--- -430 where "the answer with its separator and the final newline would pass 1,024 bytes"
+-- -430 where "the answer with its separator and the final newline would pass 1,024 bytes", by 02 (#106) 4,096
 unfoldable pub fitsAnswer : Text → Text → Bool
 fitsAnswer a t = ltb (length (joined a t)) mostAnswer
 

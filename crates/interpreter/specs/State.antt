@@ -34,7 +34,8 @@ boxOf s =
     }) (troubleOf (s .status))
 
 -- number 4 on the record's own numbers: "a setting outside its limits, a queue above 16 .., a line above 512, an answer
--- above 1,024, a register above its width .., *SRE with bit 6, a voltage above its range; not otherwise"
+-- above 1,024, a register above its width .., *SRE with bit 6, a voltage above its range; not otherwise"; line and answer by 02 (#106)
+-- above 4,096
 unfoldable pub possibleParts : Settings → Status → ℕ → ℕ → Bool
 possibleParts settings status filled waiting =
     possibleSettings settings && possibleStatus status && leb filled mostLine && leb waiting mostAnswer

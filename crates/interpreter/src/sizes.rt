@@ -1,4 +1,4 @@
-// The sizes that 01 gives: a line before its newline, and an answer with its newline.
-pub(crate) const LINE: usize = 512;
+// The sizes that 02 gives (#106), where 01 had 512 and 1,024: a line before its newline, and an answer with its newline.
+pub(crate) const LINE: usize = 4096;
 
-pub(crate) const ANSWER: usize = 1024;
+pub(crate) const ANSWER: usize = 4096;

@@ -15,7 +15,7 @@ ghost use Rattle.interpreter.specs.Events.{received, take, condition, lo
 ghost use Rattle.interpreter.specs.State.{numberOf, Happens, Started};
 ghost use Rattle.interpreter.specs.StateParts.{Tested, flowOf, stateOf};
 
-// The room of a line before its newline, and of an answer with its newline.
+// The room of a line before its newline, and of an answer with its newline (02, #106).
 pub const LINE: usize = sizes::LINE;
 
 pub const ANSWER: usize = sizes::ANSWER;

@@ -16,12 +16,12 @@ pub(crate) struct Played {
 }
 
 // The longest buffer that take is lent, and what each of its bytes is before.
-const BUFFER: usize = 4096;
+const BUFFER: usize = 8192;
 
 const UNTOUCHED: u8 = 0xAA;
 
 // The most bytes that a script line spells.
-const PIECE: usize = 8192;
+const PIECE: usize = 65536;
 
 pub(crate) fn unreadable(state: State) -> Played {
     Played { state, length: 0 }

@@ -3,7 +3,7 @@
 //
 //     u               power-up                                 writes u
 //     p 564F4C540A    a piece, two hex digits to a byte        p NUMBER COUNT
-//     t 16            take into so many bytes (0 to 4096)      t NUMBER LENGTH BUFFER
+//     t 16            take into so many bytes (0 to 8192)      t NUMBER LENGTH BUFFER
 //     c 5             operation condition, 0 to 65535          c NUMBER
 //     k 5             lock condition                           k NUMBER
 //     w 5             warning condition                        w NUMBER
@@ -25,8 +25,8 @@
 // setting also with a minus: 32 bits signed for a setting, else 0 to 65535.
 //
 // A line that can't be read is answered by `?` and its number, from 1, and passed over. One blank
-// parts the fields; a piece may be empty; hex digits may be small letters; a line has at most 16,384
-// bytes before its newline, and the last may lack the newline.
+// parts the fields; a piece may be empty; hex digits may be small letters; a line has at most
+// 131,072 bytes before its newline, and the last may lack the newline.
 //
 // The contracts here say little: that nothing goes wrong and every run ends. What the reports say is
 // held to the twin's, on the stored script (tests/make-player-script) and on random ones.
@@ -37,8 +37,9 @@ mod script;
 
 use interpreter::state::State;
 
-// The room for a script line, and for a report: the longest is take's, of 8,192 hex digits.
-const ROOM: usize = 16384;
+// The room for a script line, and for a report. The longest reports are that of a state whose line
+// and answer are full and that of take's longest buffer, each of 16,384 hex digits and some more.
+const ROOM: usize = 131072;
 
 // The box, and how far the script was read.
 struct Player {

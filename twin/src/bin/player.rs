@@ -5,7 +5,7 @@ use std::io::{self, BufRead, BufWriter, Write};
 
 use twin::{Refusal, RegisterSet, SetName, State, QUEUE_LIMIT, SETTINGS};
 
-const LONGEST_BUFFER: usize = 4096;
+const LONGEST_BUFFER: usize = 8192;
 const LONGEST_LENGTH: usize = 65_535;
 const UNTOUCHED: u8 = 0xAA;
 

@@ -2,7 +2,7 @@
 
 #![allow(dead_code)]
 
-use twin::{State, SETTINGS};
+use twin::{State, ANSWER_LIMIT, SETTINGS};
 
 pub const VOLTAGE: usize = 4;
 pub const RANGE: usize = 5;
@@ -36,7 +36,7 @@ impl Bench {
         if self.state.look().unwrap() & 16 == 0 {
             return None;
         }
-        let mut buffer = [0; 1024];
+        let mut buffer = [0; ANSWER_LIMIT];
         let length = self.state.take(&mut buffer).unwrap();
         assert_eq!(buffer[length - 1], b'\n');
         Some(String::from_utf8(buffer[..length - 1].to_vec()).unwrap())

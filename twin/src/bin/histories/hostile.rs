@@ -18,7 +18,8 @@ pub fn write(script: &mut Script, count: usize) -> io::Result<()> {
             0..=3 => send_line(script, |dice| lines.good(dice))?,
             4 => send_line(script, |dice| lines.faulty(dice))?,
             5 => send_line(script, odd_bytes)?,
-            6 | 7 => send_line(script, |dice| full_line(dice, &lines))?,
+            6 if script.dice.chance(50) => send_line(script, |dice| full_line(dice, &lines))?,
+            6 | 7 => send_line(script, |dice| lines.long(dice, 400))?,
             8 | 9 => send_line(script, full_answer)?,
             10 => send_line(script, many_units)?,
             11 | 12 => send_line(script, near_miss)?,
@@ -31,11 +32,11 @@ pub fn write(script: &mut Script, count: usize) -> io::Result<()> {
             19 | 20 => under_lock(script, &lines)?,
             _ => script.between()?,
         }
-        let length = match script.dice.below(10) {
-            0 => script.dice.below(4097),
-            1 => script.dice.between(1018, 1026) as usize,
-            2 => script.dice.below(12),
-            _ => 1024,
+        let length = match script.dice.below(100) {
+            0 => script.dice.below(8193),
+            1 => script.dice.between(4090, 4098) as usize,
+            2..=19 => script.dice.below(12),
+            _ => script.enough(),
         };
         if script.dice.chance(25) {
             script.state()?;
@@ -58,7 +59,7 @@ fn send_line(script: &mut Script, line: impl Fn(&mut Dice) -> Vec<u8>) -> io::Re
 }
 
 fn odd_bytes(dice: &mut Dice) -> Vec<u8> {
-    let length = dice.pick(&[0, 1, 2, 3, 8, 20, 60, 600]);
+    let length = dice.pick(&[0, 0, 1, 1, 2, 2, 3, 3, 8, 8, 20, 20, 60, 60, 600, 4200]);
     let bytes = (0..length).map(|_| match dice.below(4) {
         0 => dice.below(256) as u8,
         1 => dice.pick(b"\n\0\r\t ;;::**??,,..+-__##\"'"),
@@ -68,12 +69,12 @@ fn odd_bytes(dice: &mut Dice) -> Vec<u8> {
     bytes.collect()
 }
 
-/// A line whose length is near 512.
+/// A line whose length is near 4,096, or near what was the limit before #106.
 fn full_line(dice: &mut Dice, lines: &Lines) -> Vec<u8> {
     let length = match dice.below(4) {
-        0 => dice.pick(&[510, 511, 512, 513, 514, 515]),
-        1 => dice.pick(&[600, 1023, 1024, 1025, 2000]),
-        _ => dice.pick(&[511, 512, 513]),
+        0 => dice.pick(&[4094, 4095, 4096, 4097, 4098, 4099]),
+        1 => dice.pick(&[511, 512, 513, 2000, 5000, 8200]),
+        _ => dice.pick(&[4095, 4096, 4097]),
     };
     let unit = match dice.below(4) {
         0 => Vec::new(),
@@ -98,9 +99,9 @@ fn zeros(start: &str, length: usize, end: &str) -> Vec<u8> {
     format!("{start}{}{end}", "0".repeat(count)).into_bytes()
 }
 
-/// A line whose answer is near 1,024 bytes: 46 times *IDN? and 3 times VOLT? make just that.
+/// A line whose answer is near 4,096 bytes: 186 times *IDN? and once VOLT? make just that.
 fn full_answer(dice: &mut Dice) -> Vec<u8> {
-    let mut units = vec!["*IDN?"; dice.pick(&[30, 44, 45, 46, 46, 46, 47])];
+    let mut units = vec!["*IDN?"; dice.pick(&[30, 47, 184, 185, 186, 186, 186, 187])];
     for _ in 0..dice.below(6) {
         units.push(dice.pick(&[
             "VOLT?",
@@ -134,7 +135,9 @@ fn full_answer(dice: &mut Dice) -> Vec<u8> {
 }
 
 fn many_units(dice: &mut Dice) -> Vec<u8> {
-    let count = dice.pick(&[5, 40, 85, 100, 128, 170, 511, 512, 513]);
+    let count = dice.pick(&[
+        5, 5, 40, 40, 85, 100, 128, 170, 511, 512, 513, 819, 4095, 4096, 4097,
+    ]);
     let unit = dice.pick(&[
         "", "*WAI", "*OPC", ":VOLT 1", "*RST", "VOLT?", "*SRE 255", "*ESR?",
     ]);
@@ -239,10 +242,10 @@ static SUFFIXES: [&str; 24] = [
 fn odd_number(dice: &mut Dice) -> Vec<u8> {
     let header = dice.pick(&NUMBER_HEADERS);
     let sign = dice.pick(&["", "", "", "+", "-", "-", "--", "+ ", "-+"]);
-    let whole_zeros = dice.pick(&[0, 0, 0, 0, 1, 3, 200, 480]);
+    let whole_zeros = dice.pick(&[0, 0, 0, 0, 0, 0, 1, 3, 200, 480, 4060]);
     let whole = digits(dice);
     let point = dice.pick(&["", ".", ".", ".", "..", ","]);
-    let fraction_zeros = dice.pick(&[0, 0, 0, 0, 1, 9, 12, 13, 200, 470]);
+    let fraction_zeros = dice.pick(&[0, 0, 0, 0, 0, 0, 1, 9, 12, 13, 200, 470, 4060]);
     let fraction = digits(dice);
     let exponent = dice.pick(&[
         "",
@@ -347,13 +350,10 @@ fn query_that_does_not_fit(script: &mut Script) -> io::Result<()> {
         ":STAT:LOCK?",
         ":STAT:WARN:EVEN?",
     ]);
-    let before = script.dice.pick(&[
-        "VOLT?;VOLT?;VOLT?",
-        "VOLT?;VOLT?;*TST?",
-        "VOLT?;*TST?",
-        "*TST?",
-    ]);
-    let line = format!("{}{before};{query}\n", "*IDN?;".repeat(46));
+    let before = script
+        .dice
+        .pick(&["VOLT?;", "*TST?;*TST?;", "*TST?;", "*WAI;"]);
+    let line = format!("{}{before}{query}\n", "*IDN?;".repeat(186));
     script.send(line.as_bytes())?;
     script.state()?;
     if script.dice.chance(80) {
@@ -419,7 +419,8 @@ fn under_lock(script: &mut Script, lines: &Lines) -> io::Result<()> {
             1 => send_line(script, near_limit)?,
             _ => send_line(script, |dice| dice.pick(&LINES_AND_LOCK).into())?,
         }
-        script.collect(1024)?;
+        let length = script.enough();
+        script.collect(length)?;
     }
     script.state()?;
     if script.dice.chance(80) {
@@ -446,7 +447,8 @@ fn full_queue(script: &mut Script) -> io::Result<()> {
     }
     for _ in 0..script.dice.pick(&[0, 1, 2, 17]) {
         script.send(b"SYST:ERR?;*ESR?\n")?;
-        script.take(1024)?;
+        let length = script.enough();
+        script.take(length)?;
     }
     Ok(())
 }
@@ -518,11 +520,11 @@ fn hand_made_from_power_up(script: &mut Script, lines: &Lines) -> io::Result<()>
             0 => {
                 let length = script
                     .dice
-                    .pick(&[1, 3, 500, 510, 511, 512, 513, 600, 65_535]);
+                    .pick(&[1, 3, 500, 513, 4000, 4095, 4096, 4097, 65_535]);
                 script.overwrite(Field::Line, length)?;
             }
             1 => {
-                let length = script.dice.pick(&[1, 3, 1000, 1023, 1024, 1025, 65_535]);
+                let length = script.dice.pick(&[1, 3, 1025, 4095, 4096, 4097, 65_535]);
                 script.overwrite(Field::Answer, length)?;
             }
             2 => hand_made_queue(script)?,

@@ -15,7 +15,8 @@ pub fn write(script: &mut Script, count: usize) -> io::Result<()> {
             bytes.extend(random_line(script, &lines));
         }
         script.send(&bytes)?;
-        script.collect(1024)?;
+        let length = script.enough();
+        script.collect(length)?;
         script.empty_queue()?;
         if script.dice.chance(15) {
             script.between()?;

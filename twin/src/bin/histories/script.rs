@@ -107,6 +107,11 @@ impl<'output> Script<'output> {
         Ok(())
     }
 
+    /// The length of a buffer that holds what waits, and hardly more: a report shows all of it.
+    pub fn enough(&mut self) -> usize {
+        self.box_state.instrument.answer.length + self.dice.below(9)
+    }
+
     /// Reads or clears a queue that is filling up, now and then.
     pub fn empty_queue(&mut self) -> io::Result<()> {
         while self.box_state.instrument.status.queued > 6 && self.dice.chance(40) {
@@ -114,7 +119,8 @@ impl<'output> Script<'output> {
                 .dice
                 .pick(&["SYST:ERR?\n", "*CLS\n", "SYST:ERR?;ERR?;ERR?\n"]);
             self.send(line.as_bytes())?;
-            self.collect(1024)?;
+            let length = self.enough();
+            self.collect(length)?;
         }
         Ok(())
     }
@@ -137,7 +143,10 @@ impl<'output> Script<'output> {
                 let length = self.dice.below(30);
                 self.take(length)
             }
-            _ => self.take(1024),
+            _ => {
+                let length = self.enough();
+                self.take(length)
+            }
         }
     }
 

@@ -1,13 +1,12 @@
 -- Demand 3 holds of something: lines that meet its premises, each outcome of what comes first afterwards, and both histories in pieces of
--- their own. All computed from the definitions.
+-- their own. All computed from the definitions, but for the overlong line, which has too many bytes for that and is by the law of
+-- bytes that are held.
 use mathlib.Core.Path.{_≡_, refl, sym, _∙_}
 use mathlib.Core.List.{List, [], _∷_, _++_, map}
-use Prim.Native.Nat.{ℕ}
-use Prim.Native.Char.{code}
+use Prim.Native.Nat.{ℕ, _+_}
 use Prim.Native.String.{String}
 use native.Mathlib.Omega.{arith}
 use lib.ListN as L
-use lib.ListN.{replicate}
 use Rattle.registers.specs.Text.{Text, if_then_else_, bytes, same, white, printable, digit, letter, wordByte, small, capital}
 use Rattle.registers.specs.Check.{_>>=_, _>>_, check}
 use Rattle.registers.specs.Words.{shortForm, longForm, matches}
@@ -24,13 +23,14 @@ use Rattle.interpreter.specs.Header.{name, placed, header, spells}
 use Rattle.interpreter.specs.Rows.{settingRows, otherRows, rows, fitsRow, findRow}
 use Rattle.interpreter.specs.Parameter.{parameters, least, greatest, findWord, parameter, valueGiven, settingDeed, deedOf}
 use Rattle.interpreter.specs.Unit.{readUnit}
-use Rattle.interpreter.specs.Box.{powerUp}
+use Rattle.interpreter.specs.Box.{mostLine, powerUp}
 use Rattle.interpreter.specs.Perform.{permitted, changed, perform}
 use Rattle.interpreter.specs.Reply.{replyTo, inquiryReply, joined, fitsAnswer, reply}
 use Rattle.interpreter.specs.Line.{attempt, refuse, runUnits, interrupted, finished, unitsOf, runLine, endLine, held, byte, piece}
 use Rattle.interpreter.specs.Events.{Event, received, take, taken, reported, happens, after}
 use Rattle.interpreter.specs.Histories.{moments, Recut, resultsOf}
 use Rattle.interpreter.specs.Demand3.{obeyed, refusal, joinUnits, cutLine, lineRefusal, keep, inLine, atEnd, asSent, asCut, ALine, Watch, neither, asked, cleared, watchUnits, watchLine, watchByte, watchPiece, watchEvent, watch}
+use Rattle.interpreter.proofs.Edges.{lineOf, under-way, overlong-is}
 
 abbrev pub text : String → Event
 text s = received (bytes s)
@@ -54,7 +54,7 @@ atThird = text "VOLT 5;VOLT?;FREQ 1;FREQ 60" ∷ []
 
 -- overlong by one byte, so that nothing of it is kept
 abbrev tooLong : List Event
-tooLong = received (replicate 513 (code "X")) ∷ []
+tooLong = lineOf (mostLine + 1)
 
 abbrev later : List Event
 later = text "*CLS\nVOLT?\n" ∷ take [] ∷ []
@@ -73,6 +73,17 @@ pub record Met3 : Type 0 where
   pub inPieces : Recut (text "VOLT 5;VO" ∷ take [] ∷ text "LTA 6\n*C" ∷ text "LS\nVOLT?\n" ∷ take [] ∷ []) (asSent [] during ++ later)
   pub cutInPieces : Recut (text "VOL" ∷ text "T 5" ∷ take [] ∷ text "\n*CLS\nVOLT?\n" ∷ take [] ∷ []) (asCut [] during ++ later)
 
+too-long : Cut [] tooLong 363 []
+unfolding lineRefusal cutLine powerUp after if_then_else_
+too-long =
+    let long = overlong-is (mostLine + 1) in
+    let refused : lineRefusal (atEnd [] tooLong) ≡ 363 = rw long in
+    record {
+      line = record { begins = (refl, refl); underWay = under-way (mostLine + 1); other = λ e. absurd (omega (arith, sym refused ∙ e)) };
+      refusedBy = refused;
+      cutTo = rw long;
+    }
+
 pub met3 : Met3
 unfolding if_then_else_ bytes same white printable digit letter wordByte small capital _>>=_ _>>_ check shortForm longForm matches
     afterSign fractionOf afterFraction exponentOf afterExponent lowering written numeralFrom decimalOf valueOf scaled suffixes noSuffix powerIn remains number switchedOn
@@ -86,7 +97,6 @@ unfolding if_then_else_ bytes same white printable digit letter wordByte small c
 met3 =
     let two : lineRefusal (atEnd [] during) ≡ 113 = refl in
     let three : lineRefusal (atEnd earlier atThird) ≡ 222 = refl in
-    let long : lineRefusal (atEnd [] tooLong) ≡ 363 = refl in
     record {
       second = record {
         line = record { begins = (refl, refl); underWay = refl; other = λ e. absurd (omega (arith, sym two ∙ e)) };
@@ -99,11 +109,7 @@ met3 =
         cutTo = refl;
       };
       thirdAnswers = refl;
-      overlong = record {
-        line = record { begins = (refl, refl); underWay = refl; other = λ e. absurd (omega (arith, sym long ∙ e)) };
-        refusedBy = long;
-        cutTo = refl;
-      };
+      overlong = too-long;
       comesFirst = refl;
       inPieces = refl;
       cutInPieces = refl;

@@ -1,6 +1,7 @@
 use native.Mathlib.Omega.{arith}
 use mathlib.Core.Path.{_≡_}
 use lib.ListN.{length}
+use Rattle.interpreter.specs.Box.{mostLine}
 use Rattle.interpreter.proofs.flow.Laws.{held-fed}
 use borrow.Author.Needs.{needs}
 use Rattle.interpreter.proofs.flow.hold.Statement.{statement}
@@ -23,7 +24,7 @@ returns c =
     let a = c .before .before .before .before .before .before .args in
     let p = c .before .before .before .before .before .before .pre in
     let laid = c .before .before .paste in
-    let long : length (a .line .now) ≡ 512 = search needs in
+    let long : length (a .line .now) ≡ mostLine = search needs in
     held-fed (a .flow) (a .line .now) (a .part .now) (p .0) long (p .2) (c .before .before .before .before .smaller .result) (laid .result) _ (c .before .before .before .before .smaller .ensures) (laid .ensures .0) (laid .ensures .1)
 
 pub hold-spec : {M : Type 1} → statement M

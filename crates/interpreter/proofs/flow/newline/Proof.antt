@@ -5,6 +5,7 @@ use native.Mathlib.Omega.{arith}
 use lib.ListN.{length, take}
 use borrow.Author.Needs.{needs}
 use Rattle.registers.specs.Text.{if_then_else_}
+use Rattle.interpreter.specs.Box.{mostAnswer}
 use Rattle.interpreter.specs.Line.{byte, piece, newlines}
 use Rattle.interpreter.proofs.line.Newline.{ended}
 use Rattle.interpreter.proofs.flow.newline.Statement.{statement}
@@ -40,7 +41,7 @@ returns c =
     let a = c .before .before .before .before .before .before .before .before .args in
     let f = a .flow in
     let g = c .before .before .before .run-line-arg2 .given in
-    let outs : length (a .out .now) ≡ 1024 = search needs in
+    let outs : length (a .out .now) ≡ mostAnswer = search needs in
     let room : 0 < length (a .out .now) = omega arith in
     let few = c .before .before .before .before .before .before .before .before .pre .1 .few in
     let d = c .before .before .before .before .before .discard in

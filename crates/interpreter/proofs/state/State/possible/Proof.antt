@@ -1,4 +1,5 @@
 use borrow.Author.Needs.{length-unmapped}
+use Rattle.interpreter.specs.Box.{mostAnswer}
 use Rattle.interpreter.specs.State.{possibleParts}
 use Rattle.interpreter.proofs.state.State.possible.Statement.{statement}
 use Rattle.registers.specs.Settings.{count}
@@ -19,7 +20,7 @@ returns c =
       is = rw (c .before .before .before .possible .ensures, c .before .before .possible2 .ensures);
       values = length-unmapped _ (s .settings .values) count (g .0 .1 .1 .0 .1 .0 .1);
       errors = length-unmapped _ (s .status .errors) 16 (g .1 .0 .1 .1 .1 .1 .1 .1 .1 .0 .1 .0 .1);
-      answer = length-unmapped _ (s .answer) 1024 (g .1 .1 .1 .1 .1 .0 .1 .0 .1);
+      answer = length-unmapped _ (s .answer) mostAnswer (g .1 .1 .1 .1 .1 .0 .1 .0 .1);
     }
 
 pub possible-spec : {M : Type 1} → statement M

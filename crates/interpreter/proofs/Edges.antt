@@ -1,0 +1,52 @@
+-- The longest line and the longest answer, and one byte more of each (02, #106). So many bytes are more than the check computes one at a
+-- time: what is held of a line is by its law here.
+use mathlib.Core.Path.{_≡_, refl}
+use mathlib.Core.Bool.{true, false}
+use mathlib.Core.List.{List, [], _∷_}
+use Prim.Native.Nat.{ℕ, zero, suc, zero-le}
+use Prim.Native.Char.{code}
+use lib.Dec.{ltb}
+use lib.ListN.{replicate, length-replicate}
+use Rattle.registers.specs.Text.{Text, if_then_else_, every}
+use Rattle.interpreter.specs.Box.{powerUp, mostLine, mostAnswer}
+use Rattle.interpreter.specs.Reply.{joined, fitsAnswer}
+use Rattle.interpreter.specs.Line.{newlines}
+use Rattle.interpreter.specs.Events.{Event, received, happens, after}
+use Rattle.interpreter.specs.Demand3.{inLine}
+use Rattle.interpreter.proofs.flow.Laws.{piece-held}
+
+-- so many times the letter X
+abbrev letters : ℕ → Text
+letters n = replicate n (code "X")
+
+-- a line of so many bytes behind power-up, before its newline
+abbrev pub lineOf : ℕ → List Event
+lineOf n = received (letters n) ∷ []
+
+pub record Edges : Type 0 where
+  pub longestLine : after powerUp (lineOf 4096) .core .overlong ≡ false
+  pub longerLine : after powerUp (lineOf 4097) .core .overlong ≡ true
+  -- its newline comes on top
+  pub longestAnswer : fitsAnswer [] (letters 4095) ≡ true
+  pub longerAnswer : fitsAnswer [] (letters 4096) ≡ false
+
+no-newline : (n : ℕ) → newlines (letters n) ≡ 0
+unfolding newlines if_then_else_
+no-newline zero = refl
+no-newline (suc n) = no-newline n
+
+pub under-way : (n : ℕ) → every inLine (lineOf n) ≡ true
+unfolding inLine
+under-way zero = refl
+under-way (suc n) = under-way n
+
+pub overlong-is : (n : ℕ) → after powerUp (lineOf n) .core .overlong ≡ ltb mostLine n
+unfolding powerUp happens after
+overlong-is n = rw (piece-held (letters n) powerUp (no-newline n) zero-le, length-replicate n (code "X"))
+
+fits-is : (n : ℕ) → fitsAnswer [] (letters n) ≡ ltb n mostAnswer
+unfolding joined fitsAnswer if_then_else_
+fits-is n = rw (length-replicate n (code "X"))
+
+pub edges : Edges
+edges = record { longestLine = overlong-is 4096; longerLine = overlong-is 4097; longestAnswer = fits-is 4095; longerAnswer = fits-is 4096 }
