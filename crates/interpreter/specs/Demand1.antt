@@ -66,7 +66,7 @@ discarded b =
     let c = box (withLine [] false (b .core)) (b .trouble) in
     if empty (b .core .answer) then c else raise 410 (answerIs [] c)
 
--- what a line's units leave: those that are obeyed run, and the one behind them, if there is one, raises its error
+-- what a line's units leave: those that are obeyed run, and the one after them, if there is one, raises its error
 abbrev pub unitsLeave : List Text → Box → Box
 unitsLeave us b =
     let c = runUnits (obeyed us [] b) [] b in

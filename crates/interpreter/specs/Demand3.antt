@@ -81,7 +81,7 @@ asCut before during = before ++ keep (length (cutLine (atEnd before during))) du
 abbrev pub Fresh : Core → Type 0
 Fresh c = (c .line ≡ []) × (c .overlong ≡ false)
 
--- a line begins at power-up and behind every newline
+-- a line begins at power-up and after every newline
 abbrev pub LinesBegin : Type 0
 LinesBegin = Fresh (powerUp .core) × ((es : List Event) → Fresh (after powerUp (es ++ newline ∷ []) .core))
 
@@ -173,7 +173,7 @@ pub record Demand3 (before during later : List Event) (a b : Box) (these those :
   pub state : Agree (watch (after powerUp (asSent before during)) later) a b
   -- "every answer taken agrees meanwhile"
   pub taken : AgreeAnswers (watch (after powerUp (asSent before during)) later) (these isTake) (those isTake)
-  -- "from that *CLS on .. all results agree": those behind the results of the events before it
+  -- "from that *CLS on .. all results agree": those after the results of the events before it
   pub results : (meanwhile onward : List Event) → later ≡ meanwhile ++ onward
       → watch (after powerUp (asSent before during)) meanwhile ≡ cleared
       → drop (others (before ++ during ++ meanwhile)) (these noPiece) ≡ drop (others (before ++ during ++ meanwhile)) (those noPiece)

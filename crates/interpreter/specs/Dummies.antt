@@ -105,13 +105,13 @@ abbrev pub fixedAnswer : Text → Program
 fixedAnswer a =
     record { Memory = Box; start = powerUp; tells = λ b e. happens b e .result; keeps = λ b e. answering a (happens b e .box) }
 
--- ---- "one that obeys the first line and afterwards only reports success": behind a first line, a piece leaves it as it was
+-- ---- "one that obeys the first line and afterwards only reports success": after a first line, a piece leaves it as it was
 
 abbrev pub OnlyFirstLine : Program → Type 0
 OnlyFirstLine p = (l xs : Text) →
     let m = reached p (p .start) (received (l ++ 10 ∷ []) ∷ []) in p .keeps m (received xs) ≡ m
 
--- it is the box until the first newline, which it obeys too, and drops all bytes behind it
+-- it is the box until the first newline, which it obeys too, and drops all bytes after it
 unfoldable pub firstByte : Box × Bool → ℕ → Box × Bool
 firstByte m x = if m .1 then m else (byte (m .0) x, eqb x 10)
 

@@ -1,5 +1,5 @@
 -- 01's "Lines to try" that are marked P, and lines of 02: exam mode (#107), suffixes (#101), the lock and warning registers (#104) and
--- the lock (#105). One table: each line is run from power-up, behind other events where its row says so, and compared with what it
+-- the lock (#105). One table: each line is run from power-up, after other events where its row says so, and compared with what it
 -- must leave.
 use mathlib.Core.Path.{_≡_}
 use mathlib.Core.List.{List, [], _∷_, _++_, map}
@@ -24,8 +24,8 @@ pub record Example : Type 0 where
 abbrev example : String → String → List ℕ → List (ℕ × ℤ) → Example
 example l a e s = record { before = []; line = l; answer = a; errors = e; sets = s; bits = 0 }
 
-abbrev behind : List Event → String → String → List ℕ → List (ℕ × ℤ) → ℕ → Example
-behind h l a e s n = record { before = h; line = l; answer = a; errors = e; sets = s; bits = n }
+abbrev following : List Event → String → String → List ℕ → List (ℕ × ℤ) → ℕ → Example
+following h l a e s n = record { before = h; line = l; answer = a; errors = e; sets = s; bits = n }
 
 -- a line with its newline, received in one piece
 abbrev sent : String → Event
@@ -83,37 +83,37 @@ examples =
     -- the lock and warning registers: each set has the five commands of STATus:OPERation and its own condition event
     ∷ example "STAT:LOCK:COND?;ENAB?;NTR?;PTR?;:STAT:WARN:ENAB?;NTR?;PTR?" "0;0;0;32767;0;0;32767\n" [] []
     ∷ example "STAT:LOC?" "" (113 ∷ []) []
-    ∷ behind (condition Lock 4 ∷ condition Warning 3 ∷ []) "STAT:LOCK:COND?;EVEN?;:STAT:WARN:COND?;EVEN?;:STAT:OPER?" "4;4;3;3;0\n" [] [] 0
-    ∷ behind (condition Warning 4 ∷ []) "STAT:WARN?;WARN?;WARN:COND?" "4;0;4\n" [] [] 0
-    ∷ behind (sent "STAT:LOCK:NTR 4;PTR 0" ∷ condition Lock 4 ∷ condition Lock 0 ∷ []) "STAT:LOCK:COND?;EVEN?" "0;4\n" [] [] 0
-    ∷ behind (condition Lock 32768 ∷ []) "STAT:LOCK:COND?;EVEN?" "0;0\n" [] [] 0
-    ∷ behind (condition Operation 1 ∷ condition Lock 2 ∷ condition Warning 4 ∷ []) "*CLS;:STAT:OPER?;LOCK?;WARN?;WARN:COND?" "0;0;0;4\n" [] [] 0
-    ∷ behind (condition Operation 1 ∷ condition Lock 2 ∷ condition Lock 0 ∷ condition Warning 4 ∷ []) "*RST;:STAT:OPER?;LOCK?;WARN?" "1;2;4\n" [] [] 0
+    ∷ following (condition Lock 4 ∷ condition Warning 3 ∷ []) "STAT:LOCK:COND?;EVEN?;:STAT:WARN:COND?;EVEN?;:STAT:OPER?" "4;4;3;3;0\n" [] [] 0
+    ∷ following (condition Warning 4 ∷ []) "STAT:WARN?;WARN?;WARN:COND?" "4;0;4\n" [] [] 0
+    ∷ following (sent "STAT:LOCK:NTR 4;PTR 0" ∷ condition Lock 4 ∷ condition Lock 0 ∷ []) "STAT:LOCK:COND?;EVEN?" "0;4\n" [] [] 0
+    ∷ following (condition Lock 32768 ∷ []) "STAT:LOCK:COND?;EVEN?" "0;0\n" [] [] 0
+    ∷ following (condition Operation 1 ∷ condition Lock 2 ∷ condition Warning 4 ∷ []) "*CLS;:STAT:OPER?;LOCK?;WARN?;WARN:COND?" "0;0;0;4\n" [] [] 0
+    ∷ following (condition Operation 1 ∷ condition Lock 2 ∷ condition Lock 0 ∷ condition Warning 4 ∷ []) "*RST;:STAT:OPER?;LOCK?;WARN?" "1;2;4\n" [] [] 0
     -- their summaries: WARNing in bit 1, LOCK in bit 0, where the event is enabled
-    ∷ behind (sent "STAT:WARN:ENAB 5" ∷ condition Warning 4 ∷ []) "*STB?" "2\n" [] [] 2
-    ∷ behind (sent "STAT:LOCK:ENAB 5" ∷ condition Lock 4 ∷ []) "*STB?" "1\n" [] [] 1
-    ∷ behind (condition Lock 4 ∷ condition Warning 4 ∷ []) "*STB?" "0\n" [] [] 0
-    ∷ behind (sent "STAT:LOCK:ENAB 1;*SRE 1" ∷ condition Lock 1 ∷ []) "" "" [] [] 65
+    ∷ following (sent "STAT:WARN:ENAB 5" ∷ condition Warning 4 ∷ []) "*STB?" "2\n" [] [] 2
+    ∷ following (sent "STAT:LOCK:ENAB 5" ∷ condition Lock 4 ∷ []) "*STB?" "1\n" [] [] 1
+    ∷ following (condition Lock 4 ∷ condition Warning 4 ∷ []) "*STB?" "0\n" [] [] 0
+    ∷ following (sent "STAT:LOCK:ENAB 1;*SRE 1" ∷ condition Lock 1 ∷ []) "" "" [] [] 65
     -- the lock: after the value's checks and before check 8, whatever the value is; *RST after -108
-    ∷ behind (locked ∷ []) "VOLT 99" "" (222 ∷ []) [] 0
-    ∷ behind (sent "SYST:EXAM 1" ∷ locked ∷ []) "VOLT 5.05" "" (222 ∷ []) ((16, pos 1) ∷ []) 0
-    ∷ behind (locked ∷ []) "VOLT 5" "" (221 ∷ []) [] 0
-    ∷ behind (locked ∷ []) "VOLT 0" "" (221 ∷ []) [] 0
-    ∷ behind (sent "VOLT:RANG R24V;LEV 20" ∷ locked ∷ []) "VOLT:RANG R12V" "" (221 ∷ []) ((4, pos 200) ∷ (5, pos 1) ∷ []) 0
-    ∷ behind (sent "VOLT 5" ∷ locked ∷ []) "*RST" "" (221 ∷ []) ((4, pos 50) ∷ []) 0
-    ∷ behind (locked ∷ []) "*RST 1" "" (108 ∷ []) [] 0
+    ∷ following (locked ∷ []) "VOLT 99" "" (222 ∷ []) [] 0
+    ∷ following (sent "SYST:EXAM 1" ∷ locked ∷ []) "VOLT 5.05" "" (222 ∷ []) ((16, pos 1) ∷ []) 0
+    ∷ following (locked ∷ []) "VOLT 5" "" (221 ∷ []) [] 0
+    ∷ following (locked ∷ []) "VOLT 0" "" (221 ∷ []) [] 0
+    ∷ following (sent "VOLT:RANG R24V;LEV 20" ∷ locked ∷ []) "VOLT:RANG R12V" "" (221 ∷ []) ((4, pos 200) ∷ (5, pos 1) ∷ []) 0
+    ∷ following (sent "VOLT 5" ∷ locked ∷ []) "*RST" "" (221 ∷ []) ((4, pos 50) ∷ []) 0
+    ∷ following (locked ∷ []) "*RST 1" "" (108 ∷ []) [] 0
     -- "switching off is never blocked", in any spelling; no other bool can be switched off, and the rest of a refused line is dropped
-    ∷ behind (sent "OUTP 1" ∷ locked ∷ []) "OUTP:STAT OFF" "" [] [] 0
-    ∷ behind (sent "OUTP 1" ∷ locked ∷ []) "OUTP 0.4" "" [] [] 0
-    ∷ behind (sent "OUTP 1" ∷ locked ∷ []) "OUTP 1;OUTP 0" "" (221 ∷ []) ((0, pos 1) ∷ []) 0
-    ∷ behind (sent "OUTP:PON 1" ∷ locked ∷ []) "OUTP:PON 0" "" (221 ∷ []) ((1, pos 1) ∷ []) 0
-    ∷ behind (sent "SYST:KLOC 1" ∷ locked ∷ []) "SYST:KLOC 0" "" (221 ∷ []) ((15, pos 1) ∷ []) 0
+    ∷ following (sent "OUTP 1" ∷ locked ∷ []) "OUTP:STAT OFF" "" [] [] 0
+    ∷ following (sent "OUTP 1" ∷ locked ∷ []) "OUTP 0.4" "" [] [] 0
+    ∷ following (sent "OUTP 1" ∷ locked ∷ []) "OUTP 1;OUTP 0" "" (221 ∷ []) ((0, pos 1) ∷ []) 0
+    ∷ following (sent "OUTP:PON 1" ∷ locked ∷ []) "OUTP:PON 0" "" (221 ∷ []) ((1, pos 1) ∷ []) 0
+    ∷ following (sent "SYST:KLOC 1" ∷ locked ∷ []) "SYST:KLOC 0" "" (221 ∷ []) ((15, pos 1) ∷ []) 0
     -- queries, register commands, *CLS, *OPC and *WAI work
-    ∷ behind (sent "OUTP 2,3" ∷ locked ∷ []) "VOLT?;*ESE 4;*OPC;*WAI;*CLS;*ESE?;:STAT:LOCK:PTR 5;PTR?" "0.0;4;5\n" [] [] 0
+    ∷ following (sent "OUTP 2,3" ∷ locked ∷ []) "VOLT?;*ESE 4;*OPC;*WAI;*CLS;*ESE?;:STAT:LOCK:PTR 5;PTR?" "0.0;4;5\n" [] [] 0
     -- an event that is left over doesn't lock, and a masked PTR doesn't unlock
-    ∷ behind (locked ∷ condition Lock 0 ∷ []) "VOLT 5;:STAT:LOCK?" "4\n" [] ((4, pos 50) ∷ []) 0
-    ∷ behind (sent "STAT:LOCK:PTR 0" ∷ condition Lock 16384 ∷ []) "STAT:LOCK?;:VOLT 5" "0\n" (221 ∷ []) [] 0
-    ∷ behind (condition Operation 4 ∷ condition Warning 4 ∷ []) "VOLT 5" "" [] ((4, pos 50) ∷ []) 0
+    ∷ following (locked ∷ condition Lock 0 ∷ []) "VOLT 5;:STAT:LOCK?" "4\n" [] ((4, pos 50) ∷ []) 0
+    ∷ following (sent "STAT:LOCK:PTR 0" ∷ condition Lock 16384 ∷ []) "STAT:LOCK?;:VOLT 5" "0\n" (221 ∷ []) [] 0
+    ∷ following (condition Operation 4 ∷ condition Warning 4 ∷ []) "VOLT 5" "" [] ((4, pos 50) ∷ []) 0
     ∷ []
 
 -- what is compared: the answer, the queue, every setting, and the status byte that look then sees

@@ -2,6 +2,7 @@
 use mathlib.Core.Path.{_≡_}
 use mathlib.Core.Bool.{Bool, true, false}
 use mathlib.Core.List.{List, [], _∷_, _++_, map}
+use Prim.Native.Char.{code}
 use Prim.Native.Nat.{ℕ, _+_, _≤_, _<_}
 use lib.Dec.{eqb}
 use lib.ListN.{length, take, drop}
@@ -27,11 +28,11 @@ abbrev pub asksIn : Text → Bool
 asksIn t = asks (start visible t)
 
 unfoldable pub namesIn : Bool → Text → List Text
-namesIn joined t = if joined then cutAt 58 (bodyOf (start visible t)) else bodyOf (start visible t) ∷ []
+namesIn joined t = if joined then cutAt (code ":") (bodyOf (start visible t)) else bodyOf (start visible t) ∷ []
 
 -- a `?` that starts a text is skipped
 unfoldable pub unasked : Text → Text
-unasked t = if eqb (first t) 63 then rest t else t
+unasked t = if eqb (first t) (code "?") then rest t else t
 
 -- ---- the path as numbers
 
@@ -55,7 +56,7 @@ abbrev pub orZero : Bool → ℕ → ℕ
 orZero true n = n
 orZero false n = 0
 
--- a number is entered behind others, as long as so many are held
+-- a number is added to others, as long as so many are held
 pub record Entered (keys : List ℕ) (count key r : ℕ) (keys′ : List ℕ) : Type 0 where
   pub is : take r keys′ ≡ take mostNames (take count keys ++ key ∷ [])
   pub few : r ≤ mostNames
@@ -63,11 +64,11 @@ pub record Entered (keys : List ℕ) (count key r : ℕ) (keys′ : List ℕ) : 
 
 pub record TailRead (t : Text) (at held : ℕ) (r : Names) : Type 0 where
   pub good : r .good ≡ empty (start visible (unasked (drop at t)))
-  pub asked : r .asked ≡ eqb (first (drop at t)) 63
-  pub end : r .end ≡ at + boolByte (eqb (first (drop at t)) 63)
+  pub asked : r .asked ≡ eqb (first (drop at t)) (code "?")
+  pub end : r .end ≡ at + boolByte (eqb (first (drop at t)) (code "?"))
   pub count : r .count ≡ held
 
--- a header's names from a place on are entered behind those of the path
+-- a header's names, which start at a place, are added to those of the path
 pub record NamesGood (joined : Bool) (t : Text) (at : ℕ) (path : List ℕ) (r : Names) (keys : List ℕ) : Type 0 where
   pub asked : r .asked ≡ asksIn (drop at t)
   pub end : r .end ≡ at + length (start visible (drop at t))

@@ -89,7 +89,7 @@ sent (take buffer ∷ es) = sent es
 sent (condition x n ∷ es) = sent es
 sent (look ∷ es) = sent es
 
--- all that its takes copied, one answer behind the other; a refused take copies nothing
+-- all that its takes copied, one answer after the other; a refused take copies nothing
 unfoldable pub copied : List Result → Text
 copied [] = []
 copied (r ∷ rs) = (if eqb (r .number) 0 then L.take (r .value) (r .buffer) else []) ++ copied rs

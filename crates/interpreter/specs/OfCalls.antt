@@ -38,7 +38,7 @@ PiecesOfCalls = (s t t′ : State) (h g : List Event) (rs qs : List Result) → 
     × (chosen noPiece h rs ≡ chosen noPiece g qs)
     × (summed (chosen isPiece h rs) ≡ summed (chosen isPiece g qs))
 
--- behind the newline of a query alone in its line
+-- after the newline of a query alone in its line
 abbrev pub AnsweredOfCalls : Type 0
 AnsweredOfCalls = (s t : State) (i : ℕ) (before h : List Event) (rs : List Result) → Ran s t h rs → Recut h (queried before)
     → Asks i (after (boxOf s) before)

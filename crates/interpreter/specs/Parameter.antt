@@ -28,7 +28,7 @@ use Rattle.interpreter.specs.declared.deed.Query.the-variants.{Limit, Va
 use Rattle.interpreter.specs.declared.deed.Role.{Role}
 use Rattle.interpreter.specs.declared.deed.Role.the-variants.{Setting as setting, Register as register, Order, Question}
 
--- check 2: "commas part the parameters"; none where nothing stands behind the header
+-- check 2: "commas part the parameters"; none where nothing follows the header
 unfoldable pub parameters : Text → List Text
 parameters t = if empty t then [] else map trim (cutAt (code ",") t)
 

@@ -74,11 +74,11 @@ ReplyTo Clear p answers r = r ≡ Nothing
 ReplyTo (Query q) p answers r = RepliesWith (replyTo q (coreIn (p .settings) (p .status))) r
 ReplyTo (Inquire q) p answers r = RepliesWith (inquiryText q (p .status) answers) r
 
--- the answers so far with a reply behind them
+-- the answers so far with a reply after them
 unfoldable pub answeredWith : Reply → Text → Text
 answeredWith r a = if said r then joined a (textOf r) else a
 
--- check 9 on a reply behind the answers that stand in out: they end at r then, and r is the end of out if it leaves no room
+-- check 9 on a reply after the answers that stand in out: they end at r then, and r is the end of out if it leaves no room
 pub record GivenTo (reply : Reply) (answered : ℕ) (out : Text) (r : ℕ) (out′ : Text) : Type 0 where
   pub stands : r < mostAnswer
       → (length (answeredWith reply (take answered out)) < mostAnswer) × (take r out′ ≡ answeredWith reply (take answered out))

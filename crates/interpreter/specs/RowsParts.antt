@@ -173,7 +173,7 @@ startOf x = firstFit (λ r. canMark x (boolByte (r .star)) (r .nodes)) rows
 unfoldable pub startTable : Text
 startTable = listFrom 0 256 startOf
 
--- the table that is searched: the parameters' words, and behind them what finds a header's row
+-- the table that is searched: the parameters' words, and after them what finds a header's row
 unfoldable pub searchTable : Text
 searchTable = rowTable ++ (keyTable ++ (codeTable ++ startTable))
 

@@ -12,12 +12,12 @@ use Rattle.interpreter.specs.Events.{Event, Happened, happens, received,
 use Rattle.interpreter.specs.State.{boxOf, possibleState}
 use Rattle.interpreter.specs.declared.state.State.{State}
 
--- the bytes cut behind every newline
+-- the bytes cut after every newline
 unfoldable pub linesOf : Text → List Text
 linesOf [] = []
 linesOf (x ∷ xs) = if eqb x 10 then (x ∷ []) ∷ linesOf xs else joinFirst x (linesOf xs)
 
--- how far it got: the box, the bytes read, the answers, and the output's bytes behind them
+-- how far it got: the box, the bytes read, the answers, and the output's bytes after them
 pub record Service : Type 0 where
   pub box : Box
   pub read : ℕ
@@ -27,7 +27,7 @@ pub record Service : Type 0 where
 abbrev pub service : Box → ℕ → Text → Text → Service
 service b n answers rest = record { box = b; read = n; answers = answers; rest = rest }
 
--- what the take left stands behind the answers before it
+-- what the take left stands after the answers before it
 abbrev pub tookBehind : ℕ → Text → Happened → Service
 tookBehind n answers h =
     service (h .box) n (answers ++ take (h .result .value) (h .result .buffer)) (drop (h .result .value) (h .result .buffer))
@@ -59,7 +59,7 @@ WholeLines n t = linesOf t ≡ linesOf (take n t) ++ linesOf (drop n t)
 
 -- ---- the same as lists of events
 
--- further events, behind a take into the lent bytes if an answer waits
+-- further events, after a take into the lent bytes if an answer waits
 abbrev pub takingFirst : Box → Text → List Event → List Event
 takingFirst b room es = if empty (b .core .answer) then es else takes room ∷ es
 

@@ -1,5 +1,5 @@
 -- Checks 1 to 7 on one unit. They see the settings, the path and the unit's bytes, and nothing else of the box. The lock and check 8
--- come behind them: see Perform.permitted.
+-- come after them: see Perform.permitted.
 use mathlib.Core.Bool.{Bool, not, _&&_, _||_}
 use mathlib.Core.List.{List, [], _∷_}
 use Prim.Native.Nat.{ℕ}

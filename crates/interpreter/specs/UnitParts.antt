@@ -29,7 +29,7 @@ use Rattle.interpreter.specs.declared.parameter.Decision.the-variants.{R
 unfoldable pub roleFound : ℕ → Checked Role
 roleFound row = if ltb row rowCount then passed (roleAt row) else refused 113
 
--- the checks behind the header
+-- the checks after the header
 unfoldable pub decided : Settings → ℕ → Bool → Text → Checked Deed
 decided s row asked t =
     check 102 (every (λ p. not (empty p)) (parameters t)) >>
@@ -38,7 +38,7 @@ decided s row asked t =
     check 109 (leb (least r asked) (length (parameters t))) >>
     deedOf s r asked (parameters t)
 
--- check 1 on the text behind a header, and then those
+-- check 1 on the text after a header, and then those
 unfoldable pub decidedText : Settings → ℕ → Bool → Text → Checked Deed
 decidedText s row asked t = check 101 (every (λ b. white b || printable b) t) >> decided s row asked t
 

@@ -58,7 +58,7 @@ pub enum Role {
     Question(Deed),
 }
 
-// A register set by its place; behind the last it is the last.
+// Names a register set by its place; past the last place it is the last set.
 fn set_at(place: usize) -> RegisterSet
     ensures { λ r. ⌜ r ≡ setAt place ⌝ }
 {
@@ -69,7 +69,7 @@ fn set_at(place: usize) -> RegisterSet
     }
 }
 
-// What a row of a register set is for, by its place among the set's five.
+// Tells what a row of a register set is for, by its place among the set's five.
 fn of_set(set: RegisterSet, place: usize) -> Role
     ensures { λ r. ⌜ r ≡ roleOfSet set place ⌝ }
 {
@@ -87,7 +87,7 @@ const COMMON_ROWS: usize = 12;
 
 const SET_ROWS: usize = 5;
 
-// What a row is for: the settings, then 'Registers and queue', the register sets last.
+// Tells what a row is for: the settings stand first, then 'Registers and queue', and the register sets last.
 pub(crate) fn role_of(row: usize) -> Role
     requires { ⌜ row < rowCount ⌝ }
     ensures { λ r. ⌜ r ≡ roleAt row ⌝ }

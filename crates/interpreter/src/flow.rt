@@ -22,7 +22,6 @@ pub(crate) struct Flow {
     pub(crate) count: usize,
 }
 
-// The smaller of two numbers.
 fn smaller(a: usize, b: usize) -> usize
     ensures { λ r. ⌜ r ≡ min a b ⌝ }
 {
@@ -32,7 +31,7 @@ fn smaller(a: usize, b: usize) -> usize
     b
 }
 
-// Lays the first n bytes of a text over another from a place on; the place behind them.
+// Lays the first n bytes of a text over another at a place, and gives the place after them.
 pub(crate) fn paste(text: &[u8], n: usize, into: &mut [u8], at: usize) -> usize
     requires { ⌜ (n ≤ length (now text)) × (at + n ≤ length (now into)) ⌝ }
     ensures { λ r. ⌜ r ≡ at + n ⌝ }
@@ -41,7 +40,7 @@ pub(crate) fn paste(text: &[u8], n: usize, into: &mut [u8], at: usize) -> usize
     at + bytes::copy(&text[0..n], &mut into[at..])
 }
 
-// Bytes without a newline go behind what the line holds; "further bytes are dropped".
+// Adds bytes without a newline to the line, as many as it has room for; "further bytes are dropped".
 fn hold(mut flow: Flow, line: &mut [u8; LINE], part: &[u8]) -> Flow
     requires { ⌜ FlowFits flow × (flow .read + length (now part) < 2 ^ 63) × (newlines (now part) ≡ 0) ⌝ }
     ensures { λ r. ⌜ ((out : Text) → FlowFed flow (now (line .entry)) out (now (part .entry)) r (now (line .exit)) out) ⌝ }
@@ -54,7 +53,7 @@ fn hold(mut flow: Flow, line: &mut [u8; LINE], part: &[u8]) -> Flow
     flow
 }
 
-// A newline: a waiting answer is first discarded, and the line that was held is run.
+// Ends a line: a waiting answer is first discarded, then the line that was held is run.
 fn newline(table: &[u8], flow: Flow, line: &[u8; LINE], out: &mut [u8; ANSWER]) -> Flow
     requires { ⌜ (now table ≡ commandTable) × FlowFits flow × (flow .read < 2 ^ 63) ⌝ }
     ensures { λ r. ⌜ FlowFed flow (now (line .entry)) (now (out .entry)) (10 ∷ []) r (now (line .entry)) (now (out .exit)) ⌝ }
@@ -72,7 +71,7 @@ fn newline(table: &[u8], flow: Flow, line: &[u8; LINE], out: &mut [u8; ANSWER]) 
     }
 }
 
-// Takes in the next line: its bytes up to a newline and with it, or all there are.
+// Takes in the next line, its bytes with their newline, or all there are where none ends it.
 pub(crate) fn feed_line(
     table: &[u8],
     flow: Flow,
@@ -92,7 +91,7 @@ pub(crate) fn feed_line(
     held
 }
 
-// Takes bytes in, line by line, with the line and the answer in place.
+// Takes bytes in, line by line.
 pub(crate) fn feed(
     table: &[u8],
     mut flow: Flow,

@@ -1,7 +1,7 @@
 // Checks 2 and 3 on a header: its grammar, the path, and the row that spells it.
 //
-// The path is the numbers of its names. One scan finds a header's end, its grammar and its names, which are entered behind the
-// path; the path that is left is all of them but the last.
+// The path is the numbers of its names. One scan finds a header's end, its grammar and its names, which are added to the path;
+// the path that is left is all of them but the last.
 use crate::name;
 use crate::rows;
 use registers::text;
@@ -35,14 +35,14 @@ pub(crate) enum Looked {
     },
 }
 
-// A number, or 0.
+// Keeps a number or makes it 0, without a branch in the caller.
 fn or_zero(keep: bool, n: usize) -> usize
     ensures { λ r. ⌜ r ≡ orZero keep n ⌝ }
 {
     if keep { n } else { 0 }
 }
 
-// Enters a name behind others, and answers how many there are then.
+// Adds a name to the path, unless that is full, and gives how many names there are then.
 fn enter(path: &mut [u64], count: usize, key: u64) -> usize
     requires { ⌜ (count ≤ mostNames) × (length (now path) ≡ mostNames) ⌝ }
     ensures { λ r. ⌜ Entered (now (path .entry)) count key r (now (path .exit)) ⌝ }
@@ -54,11 +54,11 @@ fn enter(path: &mut [u64], count: usize, key: u64) -> usize
     count + 1
 }
 
-// What stands behind a header's last name: "with an optional `?` at the end", and "the header runs to the first white space".
+// Reads what follows a header's last name: "with an optional `?` at the end", and "the header runs to the first white space".
 fn read_tail(text: &[u8], at: usize, count: usize) -> Names
     ensures { λ r. ⌜ TailRead (now (text .entry)) at count r ⌝ }
 {
-    let asked = text::byte_at(text, at) == 63;
+    let asked = text::byte_at(text, at) == b'?';
     let end = at + asked as usize;
     if text.len() <= end {
         return Names {
@@ -76,7 +76,7 @@ fn read_tail(text: &[u8], at: usize, count: usize) -> Names
     }
 }
 
-// Reads a name, or names joined by single colons, from a place on, and enters them behind the path.
+// Reads a name that starts at a place, or names joined by single colons, and adds them to the path.
 fn read_names(
     table: &[u8],
     text: &[u8],
@@ -102,22 +102,22 @@ fn read_names(
         }
         count = enter(path, count, name.key);
         let end = name.end;
-        if !joined | (text::byte_at(text, end) != 58) {
+        if !joined | (text::byte_at(text, end) != b':') {
             return read_tail(text, end, count);
         }
         i = end + 1;
     }
 }
 
-// The row of the header that a text starts with, and the path that it leaves. A common command is entered behind the path too,
+// Finds the row of the header that a text starts with, and the path that it leaves. A common command is added to the path too,
 // and the search begins with it.
 pub(crate) fn look_up(table: &[u8], path: &mut [u64], used: usize, text: &[u8]) -> Looked
     requires { ⌜ (now table ≡ commandTable) × (used < mostNames) × (length (now path) ≡ mostNames) ⌝ }
     ensures { λ r. ⌜ ((names : List Text) → Holds names (now (path .entry)) used → LookedUp names (now (text .entry)) r (now (path .exit))) ⌝ }
 {
     let lead = text::byte_at(text, 0);
-    let star = lead == 42;
-    let root = lead == 58;
+    let star = lead == b'*';
+    let root = lead == b':';
     let from = or_zero(!root, used);
     let names = read_names(table, text, (star | root) as usize, !star, path, from);
     if !names.good {

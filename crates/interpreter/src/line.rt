@@ -70,7 +70,7 @@ fn run_unit(table: &[u8], done: Done, path: &mut [u64; MOST], unit: &[u8], out: 
     }
 }
 
-// The units of a line, which is cut at every `;`, up to the first that is refused. The path lives as long as
+// Runs the units of a line, which is cut at every `;`, up to the first that is refused. The path lives as long as
 // its line: it starts at the root, and is gone at the newline.
 fn run_units(table: &[u8], present: Present, line: &[u8], out: &mut [u8]) -> Present
     requires { ⌜ (now table ≡ commandTable) × (present .answered ≡ 0) ⌝ }
@@ -95,7 +95,8 @@ fn run_units(table: &[u8], present: Present, line: &[u8], out: &mut [u8]) -> Pre
     }
 }
 
-// "at the newline -363 is raised and no unit runs"; a blank line does nothing; answers are ended by a newline.
+// Runs a line at its newline: an overlong one raises -363 "and no unit runs", a blank one does nothing, and
+// answers are ended by a newline.
 pub(crate) fn run_line(
     table: &[u8],
     present: Present,

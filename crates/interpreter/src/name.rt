@@ -15,7 +15,7 @@ pub(crate) struct Name {
     pub(crate) end: usize,
 }
 
-// A byte of a name as a number below 32, the same for a letter in either case; 0 for a byte that no name has.
+// Gives a byte of a name as a number below 32, the same for a letter in either case; 0 for a byte that no name has.
 fn code(table: &[u8], b: u8) -> u64
     requires { ⌜ now table ≡ commandTable ⌝ }
     ensures { λ r. ⌜ r ≡ codeOf b ⌝ }
@@ -23,7 +23,7 @@ fn code(table: &[u8], b: u8) -> u64
     table[FIRST_CODE + b as usize] as u64
 }
 
-// A number with one byte more. What doesn't fit into 64 bits is shifted out.
+// Adds a byte to a number. What doesn't fit into 64 bits is shifted out.
 fn with_code(key: u64, code: u64) -> u64
     requires { ⌜ code < 32 ⌝ }
     ensures { λ r. ⌜ r ≡ withCode key code ⌝ }
@@ -31,7 +31,7 @@ fn with_code(key: u64, code: u64) -> u64
     key % 576460752303423488 * 32 + code
 }
 
-// The bytes of a name from a place on.
+// Reads the rest of a name after its first letter.
 fn read_rest(table: &[u8], text: &[u8], at: usize) -> Name
     requires { ⌜ now table ≡ commandTable ⌝ }
     ensures { λ r. ⌜ RestRead (now (text .entry)) at r ⌝ }

@@ -85,7 +85,7 @@ pub(crate) fn count(text: &[u8]) -> Counted
     }
 }
 
-// What a setting takes.
+// Tells what a setting takes.
 fn setting_takes(row: usize) -> Takes
     requires { ⌜ row < count ⌝ }
     ensures { λ r. ⌜ TakesOf (wordsOf (kindOf row)) (takesNumbers (kindOf row)) (quantityOf row) r ⌝ }
@@ -98,7 +98,7 @@ fn setting_takes(row: usize) -> Takes
     }
 }
 
-// Check 5 on a parameter that starts with a letter. A word with other bytes than letters, digits and
+// Makes check 5 on a parameter that starts with a letter. A word with other bytes than letters, digits and
 // underscore is none of the table, so the search refuses it by the same number.
 fn find_word(table: &[u8], words: Words, text: &[u8]) -> Parameter
     requires { ⌜ (now table ≡ commandTable) × (words .first + words .count ≤ wordCount) ⌝ }
@@ -114,7 +114,7 @@ fn find_word(table: &[u8], words: Words, text: &[u8]) -> Parameter
     Parameter::Refused(Error::InvalidCharacterData)
 }
 
-// Checks 5 and 6. A digit, a sign or a point starts a number, and no query takes one.
+// Makes checks 5 and 6. A digit, a sign or a point starts a number, and no query takes one.
 fn read_parameter(table: &[u8], takes: Takes, asked: bool, text: &[u8]) -> Parameter
     requires { ⌜ (now table ≡ commandTable) × (takes .words .first + takes .words .count ≤ wordCount) ⌝ }
     ensures { λ r. ⌜ meantGiven r ≡ parameter (taken (takes .words)) (takes .numbers && not asked) (takes .quantity) (now (text .entry)) ⌝ }
@@ -135,7 +135,7 @@ fn read_parameter(table: &[u8], takes: Takes, asked: bool, text: &[u8]) -> Param
     }
 }
 
-// Whether a setting's values are numbers.
+// Tells whether a setting's values are numbers, so that it has MINimum and MAXimum.
 fn is_number(row: usize) -> bool
     ensures { λ r. ⌜ r ≡ isNumber (kindOf row) ⌝ }
 {
@@ -146,8 +146,8 @@ fn is_number(row: usize) -> bool
     }
 }
 
-// The value of a number for a setting, where it is within the limits, and what was rounded off. A bool has
-// no step to be off. A row of words takes no number: check 5 refused it.
+// Rounds a number to a setting's step and compares it with the limits, and tells what was rounded off. A bool
+// has no step to be off. A row of words takes no number: check 5 refused it.
 fn figure_value(settings: Settings, row: usize, d: Decimal) -> Rounded
     ensures { λ r. ⌜ r ≡ roundedTo settings row (valueGiven settings row (kindOf row) (Figure d)) (sideGiven (kindOf row) (Figure d)) ⌝ }
 {
@@ -168,8 +168,8 @@ fn figure_value(settings: Settings, row: usize, d: Decimal) -> Rounded
     }
 }
 
-// The value of a word for a setting, which is within the limits. MINimum is the first of a number's two
-// words, MAXimum the other.
+// Gives the value of a word for a setting, which is within the limits. MINimum is the first of a number's
+// two words, MAXimum the other.
 fn word_value(settings: Settings, row: usize, word: usize) -> i32
     requires { ⌜ word < wordCount ⌝ }
     ensures { λ r. ⌜ r ≡ valueGiven settings row (kindOf row) (Word word) ⌝ }
@@ -183,8 +183,8 @@ fn word_value(settings: Settings, row: usize, word: usize) -> i32
     settings.highest(row)
 }
 
-// Check 4: the most parameters that a row may have in one of its forms. What sets takes as many as it
-// may have, a query does without.
+// Tells, for check 4, how many parameters a row may have at most in one of its forms. What sets takes as
+// many as it may have, a query does without.
 pub(crate) fn most(role: Role, asked: bool) -> usize
     ensures { λ r. ⌜ r ≡ greatest role asked ⌝ }
 {
@@ -201,7 +201,7 @@ fn obey_query(query: Query) -> Decision
     Decision::Obey(Deed::Query(query))
 }
 
-// Exam mode on a value of a setting, where the limits let one pass. A query asks for it.
+// Decides on a value of a setting: the limits let it pass or not, and so does exam mode. A query asks for it.
 fn decide_value(settings: Settings, row: usize, asked: bool, fit: Fit, side: Side) -> Decision
     ensures { λ r. ⌜ meantDeed r ≡ putFit settings row asked fit side ⌝ }
 {
@@ -219,7 +219,7 @@ fn decide_value(settings: Settings, row: usize, asked: bool, fit: Fit, side: Sid
     }
 }
 
-// Check 7 on a number for a register.
+// Decides on a number for a register, by check 7.
 fn decide_figure(register: Register, d: Decimal) -> Decision
     ensures { λ r. ⌜ meantDeed r ≡ storeTo register (rounded 1 d) (sideIn 1 d) ⌝ }
 {
@@ -236,7 +236,7 @@ fn decide_figure(register: Register, d: Decimal) -> Decision
     }
 }
 
-// Checks 5 to 7 on a setting, where check 4 let the number of parameters pass.
+// Makes checks 5 to 7 on a setting, where check 4 let the number of parameters pass.
 pub(crate) fn decide_setting(
     table: &[u8],
     settings: Settings,
@@ -268,7 +268,7 @@ pub(crate) fn decide_setting(
     }
 }
 
-// Checks 5 to 7 on a register, which takes no words.
+// Makes checks 5 to 7 on a register, which takes no words.
 pub(crate) fn decide_register(
     table: &[u8],
     register: Register,

@@ -16,8 +16,8 @@ ghost use Rattle.interpreter.specs.PresentParts.{coreIn};
 ghost use Rattle.interpreter.specs.PerformParts.{settingsLeft, StatusLeft, After};
 ghost use Rattle.interpreter.specs.UnitParts.{Allowed};
 
-// Whether a deed passes the lock, which lets the settings change only by switching the output off, and then check 8.
-// Both refuse by -221, so one answer serves for the two.
+// Tells whether a deed passes the lock, which lets the settings change only by switching the output off, and then
+// check 8. Both refuse by -221, so one answer serves for the two.
 pub(crate) fn is_permitted(present: Present, deed: Deed) -> bool
     ensures { λ r. ⌜ permitted deed (coreIn (present .settings) (present .status)) ≡ check 221 r ⌝ }
 {
@@ -35,7 +35,7 @@ pub(crate) fn is_permitted(present: Present, deed: Deed) -> bool
     }
 }
 
-// What a deed leaves of the settings.
+// Gives what a deed leaves of the settings.
 fn settings_after(settings: Settings, deed: Deed) -> Settings
     requires { ⌜ Allowed settings deed × (conflicting deed settings ≡ false) ⌝ }
     ensures { λ r. ⌜ r ≡ settingsLeft deed settings ⌝ }
@@ -50,7 +50,7 @@ fn settings_after(settings: Settings, deed: Deed) -> Settings
     }
 }
 
-// What a deed leaves of the status: reading an event register clears it, and reading an error removes it.
+// Gives what a deed leaves of the status: reading an event register clears it, and reading an error removes it.
 fn status_after(status: Status, deed: Deed) -> Status
     requires { ⌜ status .queued ≤ most ⌝ }
     ensures { λ r. ⌜ StatusLeft deed status r ⌝ }
@@ -78,7 +78,7 @@ fn status_after(status: Status, deed: Deed) -> Status
     }
 }
 
-// What a deed leaves: all but the answer, which is the reply's affair.
+// Gives what a deed leaves, all but the answer, which is the reply's affair.
 pub(crate) fn after(present: Present, deed: Deed) -> Present
     requires { ⌜ Allowed (present .settings) deed × (conflicting deed (present .settings) ≡ false) × (present .status .queued ≤ most) ⌝ }
     ensures { λ r. ⌜ After deed present r ⌝ }

@@ -1,4 +1,4 @@
-// Answers: what each query says, and how it is written behind what earlier units of the line wrote.
+// Answers: what each query says, and how it is written after what earlier units of the line wrote, with check 9.
 use crate::deed::Deed;
 use crate::deed::Inquiry;
 use crate::deed::Query;
@@ -40,7 +40,7 @@ pub(crate) enum Told {
     Refused(Error),
 }
 
-// The word of a setting by its place in the setting's list; at a place that has none it is no word of the table either.
+// Says a setting's word, by its place in the setting's list; at a place that has none it says no word of the table.
 fn of_word(row: usize, value: i32) -> Reply
     requires { ⌜ row < count ⌝ }
     ensures { λ r. ⌜ RepliesWith (placeText row value) r ⌝ }
@@ -52,7 +52,7 @@ fn of_word(row: usize, value: i32) -> Reply
     Reply::Word(words.first + value as usize)
 }
 
-// A value of a setting.
+// Says a setting's value as its kind is written: "0 or 1; plain integers; one decimal for step 0.1; words in short form".
 fn of_value(row: usize, value: i32) -> Reply
     ensures { λ r. ⌜ RepliesWith (answerOf (kindOf row) value) r ⌝ }
 {
@@ -64,7 +64,7 @@ fn of_value(row: usize, value: i32) -> Reply
     }
 }
 
-// What a query that sees settings and registers alone answers.
+// Says what a query answers that sees settings and registers alone.
 fn of_query(present: Present, query: Query) -> Reply
     ensures { λ r. ⌜ RepliesWith (replyTo query (coreIn (present .settings) (present .status))) r ⌝ }
 {
@@ -80,7 +80,7 @@ fn of_query(present: Present, query: Query) -> Reply
     }
 }
 
-// What an inquiry answers, which sees the event status register or the error queue.
+// Says what an inquiry answers, which sees the event status register or the error queue.
 fn of_inquiry(status: Status, answers: bool, inquiry: Inquiry) -> Reply
     ensures { λ r. ⌜ RepliesWith (inquiryText inquiry status answers) r ⌝ }
 {
@@ -91,7 +91,7 @@ fn of_inquiry(status: Status, answers: bool, inquiry: Inquiry) -> Reply
     }
 }
 
-// What a deed answers.
+// Says what a deed answers; one that asks nothing answers nothing.
 fn of_deed(present: Present, deed: Deed) -> Reply
     ensures { λ r. ⌜ ReplyTo deed present (not (eqb (present .answered) 0)) r ⌝ }
 {

@@ -23,7 +23,7 @@ fn row_cell(table: &[u8], row: usize, i: usize) -> u8
     table[FIRST_ROW + row * ROW_SIZE + i]
 }
 
-// Two bytes as a number, low byte first.
+// Reads two bytes as a number, low byte first.
 fn pair(bytes: &[u8], at: usize) -> u64
     requires { ⌜ at + 2 ≤ length (now bytes) ⌝ }
     ensures { λ r. ⌜ PairRead (now (bytes .entry)) at r ⌝ }
@@ -31,7 +31,7 @@ fn pair(bytes: &[u8], at: usize) -> u64
     bytes[at] as u64 + bytes[at + 1] as u64 * 256
 }
 
-// Four bytes, in the same way.
+// Reads four bytes in the same way.
 fn quad(bytes: &[u8], at: usize) -> u64
     requires { ⌜ at + 4 ≤ length (now bytes) ⌝ }
     ensures { λ r. ⌜ QuadRead (now (bytes .entry)) at r ⌝ }
@@ -39,7 +39,7 @@ fn quad(bytes: &[u8], at: usize) -> u64
     pair(bytes, at) + pair(bytes, at + 2) * 65536
 }
 
-// The number of a node's word: i is 0 for its short form, 1 for its long one.
+// Reads the number of a node's word: i is 0 for its short form, 1 for its long one.
 fn key_cell(table: &[u8], word: usize, i: usize) -> u64
     requires { ⌜ (now table ≡ commandTable) × (word < nodeCount) × (i < 2) ⌝ }
     ensures { λ r. ⌜ r ≡ keyCell word i ⌝ }
@@ -48,7 +48,7 @@ fn key_cell(table: &[u8], word: usize, i: usize) -> u64
     quad(table, at) + quad(table, at + 4) * 4294967296
 }
 
-// Whether a name's number is that of a word's short or long form.
+// Tells whether a name's number is that of a word's short or long form.
 fn spells(table: &[u8], key: u64, word: usize) -> bool
     requires { ⌜ (now table ≡ commandTable) × (word < nodeCount) ⌝ }
     ensures { λ r. ⌜ r ≡ keyMatches (nodeAt word) key ⌝ }
@@ -56,7 +56,7 @@ fn spells(table: &[u8], key: u64, word: usize) -> bool
     (key == key_cell(table, word, 0)) | (key == key_cell(table, word, 1))
 }
 
-// What is left of a node that no name spells: it is missed, unless it is optional.
+// Goes past a node that no name spells, if it is optional; otherwise the row is missed.
 fn leave_out(node: u8, at: usize) -> Walk
     ensures { λ r. ⌜ r ≡ leftOut node at ⌝ }
 {
@@ -80,7 +80,7 @@ fn take_node(table: &[u8], names: &[u64], count: usize, at: usize, node: u8) -> 
     leave_out(node, at)
 }
 
-// A header's form as a bit.
+// Gives a header's form as the bit that its row has for it.
 fn form_bit(star: bool, asked: bool) -> u8
     ensures { λ r. ⌜ r ≡ formBit star asked ⌝ }
 {
@@ -91,7 +91,7 @@ fn form_bit(star: bool, asked: bool) -> u8
     }
 }
 
-// The first letters of names as a mark below 256, which hardly any rows share.
+// Makes the names' first letters a mark below 256, which hardly any rows share.
 fn mark(names: &[u64], first: usize, count: usize, star: bool) -> usize
     requires { ⌜ count ≤ length (now names) ⌝ }
     ensures { λ r. ⌜ Marked star (drop first (take count (now (names .entry)))) r ⌝ }
@@ -105,7 +105,7 @@ fn mark(names: &[u64], first: usize, count: usize, star: bool) -> usize
     letters
 }
 
-// The second lookup: the first row that has names with these first letters, or ROWS.
+// Looks up the first row that can have names with these first letters, or ROWS: the second lookup of 02 (#113).
 fn start_row(table: &[u8], names: &[u64], first: usize, count: usize, star: bool) -> usize
     requires { ⌜ (now table ≡ commandTable) × (count ≤ length (now names)) ⌝ }
     ensures { λ r. ⌜ r ≡ startOf (markOf star (drop first (take count (now (names .entry))))) ⌝ }
@@ -113,8 +113,8 @@ fn start_row(table: &[u8], names: &[u64], first: usize, count: usize, star: bool
     table[FIRST_START + mark(names, first, count, star)] as usize
 }
 
-// The first row that spells the names from one on in the form asked for, or ROWS. No row before the one where it starts does. At
-// the first node that is missed the inner loop is left and the next row is tried.
+// Finds the first row that spells the names after the first so many, in the form asked for, or ROWS. No row before the one where it
+// starts does. At the first node that is missed the inner loop is left and the next row is tried.
 pub(crate) fn find(
     table: &[u8],
     names: &[u64],

@@ -1,4 +1,4 @@
-// A chunk of input served for a program: fed line by line, each answer taken behind the one before.
+// A chunk of input served for a program: fed line by line, each answer taken after the one before.
 use crate::flow;
 use crate::flow::Flow;
 use crate::sizes::ANSWER;
@@ -28,7 +28,7 @@ struct Progress {
 }
 
 // Serves lines while the output has room for one answer more: each is received, and an answer that then waits is
-// taken behind those before it.
+// taken after those before it.
 fn lines(
     table: &[u8],
     mut flow: Flow,

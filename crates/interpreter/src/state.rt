@@ -65,7 +65,7 @@ pub struct Seen {
 }
 
 impl Outcome {
-    // The refusal's number in 01's table, 0 where there is none.
+    // Gives the refusal's number in 01's table, 0 where there is none.
     pub fn number(self) -> u8
         ensures { λ r. ⌜ r ≡ numberOf self ⌝ }
     {
@@ -79,7 +79,7 @@ impl Outcome {
     }
 }
 
-// The small part of a state, with nothing taken in yet.
+// Takes a state apart: its small part, with no byte taken in yet.
 pub(crate) fn flow_of(state: State) -> Flow
     ensures { λ r. ⌜ r ≡ flowOf state ⌝ }
 {
@@ -98,7 +98,7 @@ pub(crate) fn flow_of(state: State) -> Flow
     }
 }
 
-// The state whose small part and arrays these are.
+// Puts a state together again from its small part and its arrays.
 pub(crate) fn state_of(flow: Flow, line: [u8; LINE], answer: [u8; ANSWER]) -> State
     ensures { λ r. ⌜ r ≡ stateOf flow line answer ⌝ }
 {
@@ -116,7 +116,7 @@ pub(crate) fn state_of(flow: Flow, line: [u8; LINE], answer: [u8; ANSWER]) -> St
 }
 
 impl State {
-    // Refusal 4.
+    // Tests for refusal 4, on the record's own numbers.
     pub(crate) fn possible(self) -> bool
         ensures { λ r. ⌜ Tested self r ⌝ }
     {
@@ -124,7 +124,7 @@ impl State {
         good & (self.filled <= LINE) & (self.waiting <= ANSWER)
     }
 
-    // The first state.
+    // Makes the first state.
     pub fn power_up() -> State
         ensures { λ r. ⌜ Started r ⌝ }
     {
@@ -139,7 +139,7 @@ impl State {
         }
     }
 
-    // Bytes of any length, also none; the count is that of their newlines.
+    // Takes in bytes of any number, also none; the count is that of their newlines.
     pub fn piece(self, bytes: &[u8]) -> Fed
         ensures { λ r. ⌜ Happens self (received (now (bytes .entry))) (result (numberOf (r .outcome)) (r .count) []) (r .state) ⌝ }
     {
@@ -166,7 +166,7 @@ impl State {
         }
     }
 
-    // The waiting answer is copied to the start of the buffer, and is then gone.
+    // Copies the waiting answer to the start of the buffer; it is then gone.
     pub fn take(mut self, buffer: &mut [u8]) -> Taken
         ensures { λ r. ⌜ Happens self (take (now (buffer .entry))) (result (numberOf (r .outcome)) (r .length) (now (buffer .exit))) (r .state) ⌝ }
     {
@@ -203,7 +203,7 @@ impl State {
         }
     }
 
-    // The box reports the condition register of a set.
+    // Takes the condition register of a set that the box reports.
     pub fn condition(mut self, set: RegisterSet, value: u16) -> Reported
         ensures { λ r. ⌜ Happens self (condition set value) (result (numberOf (r .outcome)) 0 []) (r .state) ⌝ }
     {
@@ -226,7 +226,7 @@ impl State {
         }
     }
 
-    // The status byte. It changes nothing, so the state is not handed back.
+    // Gives the status byte. It changes nothing, so the state is not handed back.
     pub fn look(self) -> Seen
         ensures { λ r. ⌜ Happens self look (result (numberOf (r .outcome)) (r .byte) []) self ⌝ }
     {

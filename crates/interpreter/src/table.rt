@@ -17,7 +17,7 @@ pub(crate) const ROW_SIZE: usize = 8;
 
 pub(crate) const KEYS_SIZE: usize = 16;
 
-// Where the rows begin, behind the parameters' words; then the numbers of the nodes' words, the codes of all bytes, and the
+// Where the rows begin, after the parameters' words; then the numbers of the nodes' words, the codes of all bytes, and the
 // rows where a search starts.
 pub(crate) const FIRST_ROW: usize = WORDS * WORD_SIZE;
 

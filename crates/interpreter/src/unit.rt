@@ -29,7 +29,7 @@ pub(crate) struct Reading {
     pub(crate) used: usize,
 }
 
-// Check 1. All bytes are looked at, without a branch: a unit is short and mostly good.
+// Makes check 1. All bytes are looked at, without a branch: a unit is short and mostly good.
 fn all_allowed(unit: &[u8]) -> bool
     ensures { λ r. ⌜ r ≡ every (λ b. white b || printable b) (now (unit .entry)) ⌝ }
 {
@@ -37,13 +37,13 @@ fn all_allowed(unit: &[u8]) -> bool
     let mut i: usize = 0;
     while i < unit.len() {
         let b = unit[i];
-        all = all & (b < 127) & (b != 10);
+        all = all & (b < 127) & (b != b'\n');
         i += 1;
     }
     all
 }
 
-// Where a text ends without the white space at its end.
+// Finds where a text ends without the white space at its end, which check 2 skips.
 fn trimmed_end(text: &[u8]) -> usize
     ensures { λ r. ⌜ (take r (now (text .entry)) ≡ trimEnd (now (text .entry))) × (r ≤ length (now (text .entry))) ⌝ }
 {
@@ -57,7 +57,7 @@ fn trimmed_end(text: &[u8]) -> usize
     0
 }
 
-// Checks 2 to 7 behind the header, on the parameters' text without white space around it.
+// Makes checks 2 to 7 after the header, on the parameters' text without white space around it.
 fn decide(table: &[u8], settings: Settings, row: usize, asked: bool, text: &[u8]) -> Decision
     requires { ⌜ (now table ≡ commandTable) × (row ≤ rowCount) × (trim (now text) ≡ now text) ⌝ }
     ensures { λ r. ⌜ meantDeed r ≡ decided settings row asked (now (text .entry)) ⌝ }
@@ -88,7 +88,7 @@ fn decide(table: &[u8], settings: Settings, row: usize, asked: bool, text: &[u8]
     }
 }
 
-// Check 1 too: white space is allowed, and so is every byte of a header, so that only the parameters' text is looked at.
+// Makes check 1 first: white space is allowed, and so is every byte of a header, so that only the parameters' text is looked at.
 fn decide_text(table: &[u8], settings: Settings, row: usize, asked: bool, text: &[u8]) -> Decision
     requires { ⌜ (now table ≡ commandTable) × (row ≤ rowCount) × (trim (now text) ≡ now text) ⌝ }
     ensures { λ r. ⌜ meantDeed r ≡ decidedText settings row asked (now (text .entry)) ⌝ }
@@ -99,8 +99,8 @@ fn decide_text(table: &[u8], settings: Settings, row: usize, asked: bool, text: 
     decide(table, settings, row, asked, text)
 }
 
-// The same on all that stands behind the header, which ends at a place of the unit.
-fn decide_behind(
+// Makes the same checks on all that follows the header, which ends at a place of the unit.
+fn decide_rest(
     table: &[u8],
     settings: Settings,
     row: usize,
@@ -112,12 +112,12 @@ fn decide_behind(
     ensures { λ r. ⌜ meantDeed r ≡ decidedText settings row asked (trim (drop at (now (unit .entry)))) ⌝ }
 {
     let start = text::white_end(unit, at);
-    let behind = &unit[start..];
-    let end = trimmed_end(behind);
-    decide_text(table, settings, row, asked, &behind[0..end])
+    let rest = &unit[start..];
+    let end = trimmed_end(rest);
+    decide_text(table, settings, row, asked, &rest[0..end])
 }
 
-// Checks 1 and 2 on a unit that starts with no header.
+// Tells which of checks 1 and 2 refuses a unit that starts with no header.
 fn header_error(unit: &[u8]) -> Error
     ensures { λ r. ⌜ numberOf r ≡ headerRefusal (now (unit .entry)) ⌝ }
 {
@@ -127,7 +127,7 @@ fn header_error(unit: &[u8]) -> Error
     Error::InvalidCharacter
 }
 
-// Reads a unit after the path.
+// Reads a unit, its header after the path.
 pub(crate) fn read(
     table: &[u8],
     settings: Settings,
@@ -154,7 +154,7 @@ pub(crate) fn read(
             end,
         } => {
             return Reading {
-                decision: decide_behind(table, settings, row, asked, unit, start + end),
+                decision: decide_rest(table, settings, row, asked, unit, start + end),
                 used: left,
             };
         }

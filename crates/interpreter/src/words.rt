@@ -35,7 +35,7 @@ fn word_cell(table: &[u8], word: usize, i: usize) -> u8
     table[word * WORD_SIZE + i]
 }
 
-// Whether a word's short or its long form has so many letters.
+// Tells whether a word's short or its long form has so many letters.
 fn has_length(table: &[u8], word: usize, n: usize) -> bool
     requires { ⌜ (now table ≡ commandTable) × (word < wordCount) ⌝ }
     ensures { λ r. ⌜ r ≡ formLength word n ⌝ }
@@ -45,7 +45,7 @@ fn has_length(table: &[u8], word: usize, n: usize) -> bool
     (n == short) | (n == long)
 }
 
-// How many first bytes of a text are a word's letters, in any letter case.
+// Counts how many first bytes of a text are a word's letters, in any letter case.
 fn agreed_letters(table: &[u8], text: &[u8], word: usize) -> usize
     requires { ⌜ (now table ≡ commandTable) × (word < wordCount) ⌝ }
     ensures { λ r. ⌜ r ≡ agreed (now (text .entry)) (longForm (wordAt word)) ⌝ }
@@ -64,7 +64,7 @@ fn agreed_letters(table: &[u8], text: &[u8], word: usize) -> usize
     n
 }
 
-// Whether a text spells a word, in its short or its long form. The short form is a start of the long one, so one walk over the letters
+// Tells whether a text spells a word, in its short or its long form. The short form is a start of the long one, so one walk over the letters
 // decides both: all bytes of the text were letters of the word, and one of the two forms has that many.
 pub(crate) fn is_word(table: &[u8], name: &[u8], word: usize) -> bool
     requires { ⌜ (now table ≡ commandTable) × (word < wordCount) ⌝ }
@@ -88,7 +88,7 @@ pub(crate) fn of_setting(row: usize) -> Words
 }
 
 impl Words {
-    // Whether a setting that takes these words takes numbers too.
+    // Tells whether a setting that takes these words takes numbers too.
     pub(crate) fn with_numbers(self) -> bool
         ensures { λ r. ⌜ r ≡ withNumbers self ⌝ }
     {

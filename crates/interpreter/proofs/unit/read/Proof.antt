@@ -68,14 +68,14 @@ returns c =
 enum-known-looked : tie.Need-enum-known-looked
 enum-known-looked c = search needs
 
-add-decide-behind : tie.Need-add-decide-behind
-add-decide-behind c =
+add-decide-rest : tie.Need-add-decide-rest
+add-decide-rest c =
     let h = entry (white-at (c .before)) .pre .1 in
     let e = row-found (c .before) (h .0) (h .1) .ends in
     omega (arith, entry (white-at (c .before)) .good)
 
-decide-behind-requires : tie.Need-decide-behind-requires
-decide-behind-requires c κs =
+decide-rest-requires : tie.Need-decide-rest-requires
+decide-rest-requires c κs =
     let h = entry (white-at (c .before)) .pre .1 in
     let f = row-found (c .before) (h .0) (h .1) in
     (entry (white-at (c .before)) .pre .0, f .within, f .ends)
@@ -86,7 +86,7 @@ returns-2 c =
     let a = entry (white-at l) .args in
     λ names h.
     let f = row-found l names h in
-    read-to (a .settings) names (a .unit .now) f (c .decide-behind .result) (rw (f .behind) at (c .decide-behind .ensures))
+    read-to (a .settings) names (a .unit .now) f (c .decide-rest .result) (rw (f .behind) at (c .decide-rest .ensures))
 
 pub read-spec : {M : Type 1} → statement M
 read-spec =
@@ -101,6 +101,6 @@ read-spec =
     header-error-requires
     returns
     enum-known-looked
-    add-decide-behind
-    decide-behind-requires
+    add-decide-rest
+    decide-rest-requires
     returns-2)

@@ -10,42 +10,42 @@ use Rattle.registers.specs.Text.{Text, white}
 use Rattle.registers.proofs.text.Laws.{end-drop, end-within}
 use Rattle.interpreter.specs.Cuts.{trimEnd, trim}
 use Rattle.interpreter.proofs.unit.Trims.{trim-twice}
-use Rattle.interpreter.proofs.unit.decide_behind.Statement.{statement}
-use Rattle.interpreter.proofs.unit.decide_behind.Tie as tie
+use Rattle.interpreter.proofs.unit.decide_rest.Statement.{statement}
+use Rattle.interpreter.proofs.unit.decide_rest.Tie as tie
 
 abbrev entry : tie.After-trimmed-end → tie.Start
 entry c = c .before .before .before .before .before
 
 -- what comes after the header
-abbrev behind-of : tie.After-trimmed-end → Text
-behind-of c = drop (entry c .args .at) (entry c .args .unit .now)
+abbrev rest-of : tie.After-trimmed-end → Text
+rest-of c = drop (entry c .args .at) (entry c .args .unit .now)
 
 -- the part of it that is handed on
 handed : (c : tie.After-trimmed-end)
     → let u = entry c .args .unit .now in
     let s = c .before .before .white-end .result in
-    take (c .trimmed-end .result - 0) (take (length u - s) (drop s u)) ≡ trim (behind-of c)
+    take (c .trimmed-end .result - 0) (take (length u - s) (drop s u)) ≡ trim (rest-of c)
 unfolding trim
 handed c =
     let u = entry c .args .unit .now in
     let w = c .before .before .white-end in
     let whole : c .trimmed-end .result - 0 ≡ c .trimmed-end .result = omega arith in
-    let behind = part-to-end u (w .result) ∙ end-drop white u (entry c .args .at) (w .result) (w .ensures) in
-    rw whole (c .trimmed-end .ensures .0 ∙ ap trimEnd behind)
+    let rest = part-to-end u (w .result) ∙ end-drop white u (entry c .args .at) (w .result) (w .ensures) in
+    rw whole (c .trimmed-end .ensures .0 ∙ ap trimEnd rest)
 
 white-end-requires : tie.Need-white-end-requires
 white-end-requires c κs = tt
 
-sub-behind : tie.Need-sub-behind
-sub-behind c =
+sub-rest : tie.Need-sub-rest
+sub-rest c =
     let s = c .before .before .before in
     end-within white (s .args .unit .now) (s .args .at) (c .white-end .result) (c .white-end .ensures) (s .pre .2)
 
-part-behind-start : tie.Need-part-behind-start
-part-behind-start c = sub-behind c
+part-rest-start : tie.Need-part-rest-start
+part-rest-start c = sub-rest c
 
-part-behind-end : tie.Need-part-behind-end
-part-behind-end c = le-refl _
+part-rest-end : tie.Need-part-rest-end
+part-rest-end c = le-refl _
 
 trimmed-end-requires : tie.Need-trimmed-end-requires
 trimmed-end-requires c κs = tt
@@ -62,19 +62,19 @@ part-decide-text-end c = omega arith
 decide-text-requires : tie.Need-decide-text-requires
 decide-text-requires c κs =
     let p = entry (c .before) .pre in
-    (p .0, p .1, rw (handed (c .before)) (trim-twice (behind-of (c .before))))
+    (p .0, p .1, rw (handed (c .before)) (trim-twice (rest-of (c .before))))
 
 returns : tie.Need-returns
 returns c = rw (handed (c .before .before)) at (c .decide-text .ensures)
 
-pub decide-behind-spec : {M : Type 1} → statement M
-decide-behind-spec =
+pub decide-rest-spec : {M : Type 1} → statement M
+decide-rest-spec =
     tie.close
     (tie.spec
     white-end-requires
-    sub-behind
-    part-behind-start
-    part-behind-end
+    sub-rest
+    part-rest-start
+    part-rest-end
     trimmed-end-requires
     sub-decide-text
     part-decide-text-start
