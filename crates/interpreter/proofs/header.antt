@@ -3,5 +3,5 @@ pub mod Scan
 pub mod Tail
 pub mod Entering
 pub mod Path
-pub mod Whole
+pub mod Grammar
 pub mod Bytes

@@ -1,7 +1,7 @@
 pub mod Cuts
 pub mod Counting
-pub mod Sorts
+pub mod ByKind
 pub mod Limits
 pub mod Words
-pub mod Deeds
+pub mod Decisions
 pub mod Exam

@@ -3,5 +3,5 @@ pub mod Trims
 pub mod HeaderAllowed
 pub mod Found
 pub mod Laws
-pub mod Whole
+pub mod Chain
 pub mod Allowed

@@ -17,7 +17,7 @@ use Rattle.interpreter.specs.Header.{Place, Header, asks, name, placed, 
 use Rattle.interpreter.proofs.Choices.{if-elim}
 use Rattle.interpreter.proofs.Checks.{apart}
 use Rattle.interpreter.proofs.Lists.{every-map}
-use Rattle.interpreter.proofs.header.Whole.{byFirst, header-body}
+use Rattle.interpreter.proofs.header.Grammar.{byFirst, header-body}
 
 -- ---- bytes of names
 

@@ -14,7 +14,8 @@ use Rattle.interpreter.specs.ServerParts.{FlowServed}
 use Rattle.interpreter.specs.declared.state.State.{State}
 use Rattle.interpreter.specs.declared.server.Progress.{Progress}
 use Rattle.interpreter.proofs.Choices.{if-elim}
-use Rattle.interpreter.proofs.Possible.{Fit, event-fit, fit-from, fit-to}
+use Rattle.interpreter.proofs.Bounds.{Fit}
+use Rattle.interpreter.proofs.Possible.{event-fit, fit-from, fit-to}
 use Rattle.interpreter.proofs.state.Records.{box-from, state-from, could, could-not, short-of}
 
 pub line-fits : (s : Service) (l : Text) → Fit mostAnswer (s .box) → Fit mostAnswer (servedLine s l .box)

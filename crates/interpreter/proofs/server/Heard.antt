@@ -24,7 +24,8 @@ use Rattle.interpreter.specs.Calls.{Brings, ChunkHistory}
 use Rattle.interpreter.specs.declared.state.State.{State}
 use Rattle.interpreter.proofs.Choices.{if-elim}
 use Rattle.interpreter.proofs.Lists.{is-empty}
-use Rattle.interpreter.proofs.Possible.{Fit, dropped-fit, event-fit, fit-from}
+use Rattle.interpreter.proofs.Bounds.{Fit, dropped-fit}
+use Rattle.interpreter.proofs.Possible.{event-fit, fit-from}
 use Rattle.interpreter.proofs.state.Records.{box-from}
 use Rattle.interpreter.proofs.server.Chunks.{line-fits, serves-fit}
 use Rattle.interpreter.proofs.server.Headway.{line-read}

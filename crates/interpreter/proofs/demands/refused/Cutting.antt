@@ -19,7 +19,7 @@ use Rattle.interpreter.specs.Line.{Obeyed, attempt, refuse, next, runUni
 use Rattle.interpreter.specs.Demand3.{obeyedNext, obeyed, refusalNext, refusal, joinUnits, cutLine, lineRefusal}
 use Rattle.interpreter.proofs.Choices.{if-elim}
 use Rattle.interpreter.proofs.Lists.{is-empty}
-use Rattle.interpreter.proofs.header.Whole.{header-none}
+use Rattle.interpreter.proofs.header.Grammar.{header-none}
 use Rattle.interpreter.proofs.demands.Separators.{free, cut-free, cut-more, cut-one}
 use Rattle.interpreter.proofs.demands.refused.Agreement.{over-cores, finished-core}
 

@@ -31,7 +31,8 @@ use Rattle.interpreter.specs.declared.deed.Deed.the-variants.{Change, Qu
 use Rattle.interpreter.specs.declared.deed.Change.the-variants.{Put}
 use Rattle.interpreter.specs.declared.deed.Query.the-variants.{Value}
 use Rattle.interpreter.proofs.Choices.{if-elim}
-use Rattle.interpreter.proofs.Possible.{Fit, history-fit, own-fit}
+use Rattle.interpreter.proofs.Bounds.{Fit}
+use Rattle.interpreter.proofs.Possible.{history-fit, own-fit}
 use Rattle.interpreter.proofs.unit.Allowed.{read-allowed}
 use Rattle.interpreter.proofs.demands.histories.Pieces.{after-append, newline-after, recut-state}
 use Rattle.interpreter.proofs.Lists.{is-empty}

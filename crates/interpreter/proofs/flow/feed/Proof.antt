@@ -1,3 +1,4 @@
+-- Invariant: the bytes read so far are fed (flow/Laws' `Feeding`). Measure: the bytes that are not read yet; each line has at least one.
 use Prim.Native.Nat.{_-_}
 use native.Mathlib.Omega.{arith}
 use lib.ListN.{length}
@@ -11,20 +12,32 @@ Inv-loop table flow₀ line₀ out₀ bytes flow line out = Feeding flow₀ line
 abbrev μ-loop : tie.MeasureT-loop
 μ-loop table flow₀ line₀ out₀ bytes flow line out = length bytes - flow .read
 
+abbrev entry : tie.At-loop Inv-loop μ-loop → tie.Start Inv-loop μ-loop
+entry l = l .before .before .before
+
+-- once a line is taken in
+abbrev turn : tie.After-feed-line Inv-loop μ-loop → tie.At-loop Inv-loop μ-loop
+turn f = f .before .before .before .before .before
+
 loop-holds : tie.Need-loop-holds Inv-loop μ-loop
-loop-holds c = let a = c .before .before .args in feed-begun (a .flow) (a .line .now) (a .out .now) (a .bytes .now) (c .before .before .pre .1) (c .before .before .pre .2)
+loop-holds c =
+    let s = c .before .before in
+    let a = s .args in
+    feed-begun (a .flow) (a .line .now) (a .out .now) (a .bytes .now) (s .pre .1) (s .pre .2)
 
 feed-line-requires : tie.Need-feed-line-requires Inv-loop μ-loop
-feed-line-requires c κs = let g = c .before .before .before .before .loop .inv in (c .before .before .before .before .before .before .before .pre .0, g .fed .fits, g .within)
+feed-line-requires c κs =
+    let l = c .before .before .before .before in
+    (entry l .pre .0, l .loop .inv .fed .fits, l .loop .inv .within)
 
 loop-less : tie.Need-loop-less Inv-loop μ-loop
 loop-less c =
     let more = c .before .before .before .if1 .taken in
-    let k = feed-further _ _ _ _ _ _ _ (c .before .before .before .before .before .loop .inv) more (c .feed-line .result) _ _ (c .feed-line .ensures) in
+    let k = feed-further _ _ _ _ _ _ _ (turn c .loop .inv) more (c .feed-line .result) _ _ (c .feed-line .ensures) in
     omega arith
 
 loop-again : tie.Need-loop-again Inv-loop μ-loop
-loop-again c = feed-on _ _ _ _ _ _ _ (c .before .before .before .before .before .loop .inv) (c .before .before .before .if1 .taken) (c .feed-line .result) _ _ (c .feed-line .ensures)
+loop-again c = feed-on _ _ _ _ _ _ _ (turn c .loop .inv) (c .before .before .before .if1 .taken) (c .feed-line .result) _ _ (c .feed-line .ensures)
 
 returns : tie.Need-returns Inv-loop μ-loop
 returns c = feed-end _ _ _ _ _ _ _ (c .before .before .loop .inv) (c .if1 .left)

@@ -1,3 +1,5 @@
+-- A line is the bytes before the newline that `find` tells, and the newline itself where there is one: these are held, and then the
+-- newline runs them. Where there is none, all that are left are held and the line stays open.
 use mathlib.Core.List.{[]}
 use Prim.Native.Nat.{_+_, _≤_}
 use native.Mathlib.Omega.{arith}
@@ -5,6 +7,13 @@ use lib.ListN.{length}
 use Rattle.interpreter.proofs.flow.Laws.{part-plain, part-read, line-open, line-ended, fed-then}
 use Rattle.interpreter.proofs.flow.feed_line.Statement.{statement}
 use Rattle.interpreter.proofs.flow.feed_line.Tie as tie
+
+-- once the line's end is found, and once the bytes before it are held
+abbrev entry : tie.After-find → tie.Start
+entry f = f .before .before .before
+
+abbrev found : tie.After-hold → tie.After-find
+found h = h .before .before .before
 
 find-requires : tie.Need-find-requires
 find-requires c κs = omega arith
@@ -20,34 +29,41 @@ part-hold-end c = omega arith
 
 hold-requires : tie.Need-hold-requires
 hold-requires c κs =
-    let a = c .before .before .before .before .before .args in
-    let f = c .before .before .find in
-    let big = c .before .before .before .before .before .good in
-    (c .before .before .before .before .before .pre .1, (let n = part-read (a .bytes .now) (a .flow .read) (f .result) (f .ensures .0) (f .ensures .1) (c .before .before .before .before .before .pre .2) in omega arith), part-plain (a .bytes .now) (a .flow .read) (f .result) (f .ensures .0) (f .ensures .1))
+    let f = c .before .before in
+    let s = entry f in
+    let a = s .args in
+    let end = f .find in
+    let big = s .good in
+    let n = part-read (a .bytes .now) (a .flow .read) (end .result) (end .ensures .0) (end .ensures .1) (s .pre .2) in
+    (s .pre .1, omega arith, part-plain (a .bytes .now) (a .flow .read) (end .result) (end .ensures .0) (end .ensures .1))
 
 newline-requires : tie.Need-newline-requires
 newline-requires c κs =
-    let a = c .before .before .before .before .before .before .before .before .before .args in
-    let f = c .before .before .before .before .before .before .find in
-    let held = c .before .before .before .hold .ensures [] in
+    let h = c .before .before .before in
+    let s = entry (found h) in
+    let a = s .args in
+    let end = found h .find in
+    let held = h .hold .ensures [] in
     let n = held .read in
     let more = c .before .before .if1 .taken in
-    let big = c .before .before .before .before .before .before .before .before .before .good in
-    let l = part-read (a .bytes .now) (a .flow .read) (f .result) (f .ensures .0) (f .ensures .1) (c .before .before .before .before .before .before .before .before .before .pre .2) in
-    (c .before .before .before .before .before .before .before .before .before .pre .0, held .fits, omega arith)
+    let big = s .good in
+    let l = part-read (a .bytes .now) (a .flow .read) (end .result) (end .ensures .0) (end .ensures .1) (s .pre .2) in
+    (s .pre .0, held .fits, omega arith)
 
 returns : tie.Need-returns
 returns c =
-    let a = c .before .before .before .before .before .before .before .before .before .before .args in
-    let f = c .before .before .before .before .before .before .before .find in
-    rw (line-ended (a .bytes .now) (a .flow .read) (f .result) (f .ensures .0) (f .ensures .1) (c .before .before .before .if1 .taken))
-    (fed-then _ _ _ _ _ _ _ _ _ _ _ (c .before .before .before .before .hold .ensures (a .out .now)) (c .newline .ensures))
+    let h = c .before .before .before .before in
+    let a = entry (found h) .args in
+    let end = found h .find in
+    rw (line-ended (a .bytes .now) (a .flow .read) (end .result) (end .ensures .0) (end .ensures .1) (c .before .before .before .if1 .taken))
+    (fed-then _ _ _ _ _ _ _ _ _ _ _ (h .hold .ensures (a .out .now)) (c .newline .ensures))
 
 returns-2 : tie.Need-returns-2
 returns-2 c =
-    let a = c .before .before .before .before .before .before .before .args in
-    let f = c .before .before .before .before .find in
-    rw (line-open (a .bytes .now) (a .flow .read) (f .result) (f .ensures .0) (f .ensures .1) (c .if1 .left)) (c .before .hold .ensures (a .out .now))
+    let h = c .before in
+    let a = entry (found h) .args in
+    let end = found h .find in
+    rw (line-open (a .bytes .now) (a .flow .read) (end .result) (end .ensures .0) (end .ensures .1) (c .if1 .left)) (h .hold .ensures (a .out .now))
 
 pub feed-line-spec : {M : Type 1} → statement M
 feed-line-spec =

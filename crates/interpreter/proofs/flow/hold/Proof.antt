@@ -1,3 +1,4 @@
+-- As many bytes are laid after the held ones as there is room for, and the rest is dropped: `held-fed` (flow/Laws).
 use native.Mathlib.Omega.{arith}
 use mathlib.Core.Path.{_≡_}
 use lib.ListN.{length}
@@ -6,6 +7,10 @@ use Rattle.interpreter.proofs.flow.Laws.{held-fed}
 use borrow.Author.Needs.{needs}
 use Rattle.interpreter.proofs.flow.hold.Statement.{statement}
 use Rattle.interpreter.proofs.flow.hold.Tie as tie
+
+-- once the room is known
+abbrev entry : tie.After-smaller → tie.Start
+entry n = n .before .before
 
 sub-smaller : tie.Need-sub-smaller
 sub-smaller c = omega arith
@@ -21,11 +26,12 @@ add-flow c = omega arith
 
 returns : tie.Need-returns
 returns c =
-    let a = c .before .before .before .before .before .before .args in
-    let p = c .before .before .before .before .before .before .pre in
+    let n = c .before .before .before .before in
+    let a = entry n .args in
+    let p = entry n .pre in
     let laid = c .before .before .paste in
     let long : length (a .line .now) ≡ mostLine = search needs in
-    held-fed (a .flow) (a .line .now) (a .part .now) (p .0) long (p .2) (c .before .before .before .before .smaller .result) (laid .result) _ (c .before .before .before .before .smaller .ensures) (laid .ensures .0) (laid .ensures .1)
+    held-fed (a .flow) (a .line .now) (a .part .now) (p .0) long (p .2) (n .smaller .result) (laid .result) _ (n .smaller .ensures) (laid .ensures .0) (laid .ensures .1)
 
 pub hold-spec : {M : Type 1} → statement M
 hold-spec = tie.close (tie.spec sub-smaller smaller-requires paste-requires add-flow returns)

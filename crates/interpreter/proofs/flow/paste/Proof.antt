@@ -1,9 +1,13 @@
+-- The copy goes over the part of the text that starts at the place; `pasted` (flow/Laws) says what that makes of the whole.
 use Prim.Native.Nat.{zero-le}
 use native.Mathlib.Nat.{le-refl}
 use native.Mathlib.Omega.{arith}
 use Rattle.interpreter.proofs.flow.Laws.{pasted}
 use Rattle.interpreter.proofs.flow.paste.Statement.{statement}
 use Rattle.interpreter.proofs.flow.paste.Tie as tie
+
+abbrev entry : tie.After-copy → tie.Start
+entry y = y .before .before .before .before .before
 
 sub-copy : tie.Need-sub-copy
 sub-copy c = zero-le
@@ -34,10 +38,10 @@ same-length c = omega arith
 
 returns : tie.Need-returns
 returns c =
-    let a = c .before .before .before .before .before .before .before .args in
-    let p = c .before .before .before .before .before .before .before .pre in
-    let copy = c .before .before .copy in
-    pasted (a .into .now) (a .at) (a .text .now) (a .n) (p .0) (p .1) (copy .result) _ (copy .ensures .0) (copy .ensures .1)
+    let y = c .before .before in
+    let a = entry y .args in
+    let p = entry y .pre in
+    pasted (a .into .now) (a .at) (a .text .now) (a .n) (p .0) (p .1) (y .copy .result) _ (y .copy .ensures .0) (y .copy .ensures .1)
 
 pub paste-spec : {M : Type 1} → statement M
 paste-spec =

@@ -1,5 +1,5 @@
 -- The first byte tells what leads the header; the names after it are read onto the path, and the row is searched by their numbers.
--- `entered` says what was read and `kept` that the path keeps its length; what that means of a header is in header/Whole.
+-- `entered` says what was read and `kept` that the path keeps its length; what that means of a header is in header/Grammar.
 use mathlib.Core.Path.{_≡_, refl, sym, _∙_}
 use mathlib.Core.Bool.{true, not, _||_}
 use mathlib.Core.List.{List}
@@ -10,7 +10,7 @@ use borrow.Author.Tests.{not-true, not-false}
 use mir.Val.{boolByte}
 use Rattle.interpreter.specs.HeaderParts.{mostNames, orZero, NamesRead}
 use Rattle.interpreter.proofs.header.Path.{or-zero-small}
-use Rattle.interpreter.proofs.header.Whole.{led, look-bad, first-fits, look-found}
+use Rattle.interpreter.proofs.header.Grammar.{led, look-bad, first-fits, look-found}
 use native.Mathlib.Omega.{arith}
 use borrow.Author.Needs.{needs}
 use Rattle.interpreter.proofs.header.look_up.Statement.{statement}

@@ -3,7 +3,7 @@ use lib.IntN.{pos}
 use Rattle.registers.specs.Rounding.{sideIn, RoundedIn}
 use Rattle.registers.specs.Status.{widest}
 use Rattle.registers.proofs.rounding.Meaning.{side-is}
-use Rattle.interpreter.proofs.parameter.Deeds.{back, widest-back, store-natural, store-within, store-outside}
+use Rattle.interpreter.proofs.parameter.Decisions.{back, widest-back, store-natural, store-within, store-outside}
 use Rattle.interpreter.proofs.parameter.decide_figure.Statement.{statement}
 use Rattle.interpreter.proofs.parameter.decide_figure.Tie as tie
 

@@ -6,7 +6,7 @@ use borrow.Author.Needs.{needs}
 use Rattle.registers.specs.declared.suffix.Quantity.the-variants.{Nothing}
 use Rattle.interpreter.specs.Parameter.{parameter}
 use Rattle.interpreter.specs.ParameterParts.{meantGiven, registerTo}
-use Rattle.interpreter.proofs.parameter.Deeds.{refused-by, word-by, figure-by, register-refused, register-figure}
+use Rattle.interpreter.proofs.parameter.Decisions.{refused-by, word-by, figure-by, register-refused, register-figure}
 use Rattle.interpreter.proofs.parameter.Words.{word-placed}
 use Rattle.interpreter.proofs.parameter.decide_register.Statement.{statement}
 use Rattle.interpreter.proofs.parameter.decide_register.Tie as tie

@@ -14,9 +14,9 @@ use Rattle.interpreter.specs.Parameter.{Given, parameter, wordsOf, takes
 use Rattle.interpreter.specs.ParameterParts.{meantGiven, fitIn, putFit, partsOf}
 use Rattle.interpreter.specs.declared.deed.Role.the-variants.{Setting}
 use Rattle.interpreter.specs.declared.parameter.Parameter.the-variants.{Word}
-use Rattle.interpreter.proofs.parameter.Deeds.{back, refused-by, word-by, figure-by, fit-within, value-asked, setting-is}
+use Rattle.interpreter.proofs.parameter.Decisions.{back, refused-by, word-by, figure-by, fit-within, value-asked, setting-is}
 use Rattle.interpreter.proofs.parameter.Limits.{word-within}
-use Rattle.interpreter.proofs.parameter.Sorts.{word-on, words-few}
+use Rattle.interpreter.proofs.parameter.ByKind.{word-on, words-few}
 use Rattle.interpreter.proofs.parameter.Words.{word-placed}
 use Rattle.interpreter.proofs.parameter.decide_setting.Statement.{statement}
 use Rattle.interpreter.proofs.parameter.decide_setting.Tie as tie

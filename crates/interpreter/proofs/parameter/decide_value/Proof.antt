@@ -2,7 +2,7 @@ use mathlib.Core.Path.{sym, _∙_}
 use borrow.Author.Tests.{not-true, not-false}
 use Rattle.registers.specs.Check.{_>>_, check}
 use Rattle.interpreter.specs.ParameterParts.{putFit}
-use Rattle.interpreter.proofs.parameter.Deeds.{back}
+use Rattle.interpreter.proofs.parameter.Decisions.{back}
 use Rattle.interpreter.proofs.parameter.decide_value.Statement.{statement}
 use Rattle.interpreter.proofs.parameter.decide_value.Tie as tie
 

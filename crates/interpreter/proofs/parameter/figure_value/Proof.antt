@@ -13,9 +13,9 @@ use Rattle.registers.specs.declared.rounding.Side.the-variants.{On}
 use Rattle.registers.specs.declared.settings.Values.{Values}
 use Rattle.interpreter.specs.Parameter.{Figure, valueGiven, sideGiven}
 use Rattle.interpreter.specs.ParameterParts.{roundedTo}
-use Rattle.interpreter.proofs.parameter.Deeds.{back, switched-byte, rounded-in, fit-within}
+use Rattle.interpreter.proofs.parameter.Decisions.{back, switched-byte, rounded-in, fit-within}
 use Rattle.interpreter.proofs.parameter.Limits.{figure-within}
-use Rattle.interpreter.proofs.parameter.Sorts.{figureIn, figure-in, sideOf, side-of, numberIn, number-in}
+use Rattle.interpreter.proofs.parameter.ByKind.{figureIn, figure-in, sideOf, side-of, numberIn, number-in}
 use Rattle.interpreter.proofs.parameter.figure_value.Statement.{statement}
 use Rattle.interpreter.proofs.parameter.figure_value.Tie as tie
 

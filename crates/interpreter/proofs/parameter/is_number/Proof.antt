@@ -1,5 +1,5 @@
 use Rattle.registers.specs.Settings.{kindOf}
-use Rattle.interpreter.proofs.parameter.Sorts.{told-number, told-other}
+use Rattle.interpreter.proofs.parameter.ByKind.{told-number, told-other}
 use Rattle.interpreter.proofs.parameter.is_number.Statement.{statement}
 use Rattle.interpreter.proofs.parameter.is_number.Tie as tie
 

@@ -1,6 +1,6 @@
 use Rattle.registers.specs.Settings.{kindOf}
 use Rattle.interpreter.specs.Parameter.{greatest}
-use Rattle.interpreter.proofs.parameter.Sorts.{setting-most, register-most, most-none}
+use Rattle.interpreter.proofs.parameter.ByKind.{setting-most, register-most, most-none}
 use Rattle.interpreter.proofs.parameter.most.Statement.{statement}
 use Rattle.interpreter.proofs.parameter.most.Tie as tie
 

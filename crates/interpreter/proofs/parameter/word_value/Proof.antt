@@ -4,8 +4,8 @@ use mir.Syntax.{w32}
 use mir.Facts.{toZ-pos}
 use borrow.Author.Tests.{not-true, not-false}
 use Rattle.registers.specs.Settings.{kindOf}
-use Rattle.interpreter.proofs.parameter.Deeds.{back}
-use Rattle.interpreter.proofs.parameter.Sorts.{word-number, word-other, limit-other}
+use Rattle.interpreter.proofs.parameter.Decisions.{back}
+use Rattle.interpreter.proofs.parameter.ByKind.{word-number, word-other, limit-other}
 use Rattle.interpreter.proofs.parameter.word_value.Statement.{statement}
 use Rattle.interpreter.proofs.parameter.word_value.Tie as tie
 

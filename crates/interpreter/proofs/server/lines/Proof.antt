@@ -1,3 +1,5 @@
+-- The loop over a chunk's lines. Invariant: server/Laws' `Serving`, the service as it stands comes to the same end as the chunk's from
+-- its beginning. Measure: the bytes of the input that are not read yet.
 use mathlib.Core.Path.{_≡_, refl}
 use mathlib.Core.List.{[]}
 use Prim.Native.Nat.{_-_}
@@ -18,9 +20,19 @@ Inv-loop table flow₀ line₀ out₀ input output₀ written₀ flow line out o
 abbrev μ-loop : tie.MeasureT-loop
 μ-loop table flow₀ line₀ out₀ input output₀ written₀ flow line out output written = length input - flow .read
 
--- a turn of the loop, from where its line was fed
-abbrev served-from : tie.After-feed-line Inv-loop μ-loop → tie.Then1 Inv-loop μ-loop
-served-from l = l .before .before .before
+abbrev entry : tie.At-loop Inv-loop μ-loop → tie.Start Inv-loop μ-loop
+entry l = l .before .before .before .before
+
+-- where there is a line to take in, and room for its answer
+abbrev turn : tie.Then1 Inv-loop μ-loop → tie.At-loop Inv-loop μ-loop
+turn t = t .before .before
+
+-- once it is taken in, and once its answer is laid down
+abbrev tested : tie.After-feed-line Inv-loop μ-loop → tie.Then1 Inv-loop μ-loop
+tested f = f .before .before .before
+
+abbrev fed : tie.After-paste Inv-loop μ-loop → tie.After-feed-line Inv-loop μ-loop
+fed p = p .before .before .before .before
 
 -- the answer's buffer keeps its length
 outs : (p : tie.After-paste-arg3 Inv-loop μ-loop) → length (p .before .before .before .feed-line .last .1 .1 .1 .0) ≡ mostAnswer
@@ -28,38 +40,42 @@ outs p = search needs
 
 loop-holds : tie.Need-loop-holds Inv-loop μ-loop
 loop-holds c =
-    let a = c .before .before .before .args in
-    serve-begun (a .flow) (a .line .now) (a .out .now) (a .input .now) (a .output .now) (c .before .before .before .pre .1) (c .before .before .before .pre .2)
+    let s = c .before .before .before in
+    let a = s .args in
+    serve-begun (a .flow) (a .line .now) (a .out .now) (a .input .now) (a .output .now) (s .pre .1) (s .pre .2)
 
 sub-if1 : tie.Need-sub-if1 Inv-loop μ-loop
 sub-if1 c = let wrote = c .before .loop .inv .wrote in omega arith
 
 feed-line-requires : tie.Need-feed-line-requires Inv-loop μ-loop
-feed-line-requires c κs = let g = c .before .before .before .before .loop .inv in (c .before .before .before .before .before .before .before .before .pre .0, g .fits, g .read-in)
+feed-line-requires c κs =
+    let l = turn (c .before .before) in
+    (entry l .pre .0, l .loop .inv .fits, l .loop .inv .read-in)
 
 paste-requires : tie.Need-paste-requires Inv-loop μ-loop
 paste-requires c κs =
-    let few = c .before .before .before .feed-line .ensures .fits .waiting in
+    let f = c .before .before .before in
+    let t = tested f in
+    let few = f .feed-line .ensures .fits .waiting in
     let long = outs c in
-    let free = more-room _ _ _ _ _ _ _ _ (c .before .before .before .before .before .before .before .before .loop .inv) (c .before .before .before .before .before .before .if1 .taken) in
+    let free = more-room _ _ _ _ _ _ _ _ (turn t .loop .inv) (t .if1 .taken) in
     (omega arith, omega arith)
 
 loop-less : tie.Need-loop-less Inv-loop μ-loop
 loop-less c =
-    let l = c .before .before .before .before .before .before .before in
-    let g = served-from l in
-    let fed = l .feed-line in
-    let k = serve-further _ _ _ _ _ _ _ _ (g .before .before .loop .inv) (g .if1 .taken) (fed .result) _ _ (fed .ensures) in
-    let n = more-input _ _ _ _ _ _ _ _ (g .before .before .loop .inv) (g .if1 .taken) in
+    let f = fed (c .before .before .before) in
+    let t = tested f in
+    let g = turn t .loop .inv in
+    let k = serve-further _ _ _ _ _ _ _ _ g (t .if1 .taken) (f .feed-line .result) _ _ (f .feed-line .ensures) in
+    let n = more-input _ _ _ _ _ _ _ _ g (t .if1 .taken) in
     omega arith
 
 loop-again : tie.Need-loop-again Inv-loop μ-loop
 loop-again c =
-    let l = c .before .before .before .before .before .before .before in
-    let g = served-from l in
-    let fed = l .feed-line in
-    let laid = c .before .before .before .paste in
-    serve-on _ _ _ _ _ _ _ _ (g .before .before .loop .inv) (g .if1 .taken) (fed .result) _ _ (fed .ensures) (outs (c .before .before .before .before)) (laid .result) _ (laid .ensures .0) (laid .ensures .1)
+    let p = c .before .before .before in
+    let f = fed p in
+    let t = tested f in
+    serve-on _ _ _ _ _ _ _ _ (turn t .loop .inv) (t .if1 .taken) (f .feed-line .result) _ _ (f .feed-line .ensures) (outs (p .before)) (p .paste .result) _ (p .paste .ensures .0) (p .paste .ensures .1)
 
 same-length : tie.Need-same-length Inv-loop μ-loop
 same-length c = let now = c .before .before .loop .inv .outputs in omega arith

@@ -12,8 +12,8 @@ use Rattle.interpreter.specs.declared.deed.Role.{Role}
 use Rattle.interpreter.specs.declared.parameter.Decision.{Decision}
 use Rattle.interpreter.specs.declared.parameter.Decision.the-variants.{Obey}
 use Rattle.interpreter.proofs.parameter.Cuts.{parts-are}
-use Rattle.interpreter.proofs.parameter.Deeds.{register-is}
-use Rattle.interpreter.proofs.parameter.Sorts.{too-few, enough, greatest-one}
+use Rattle.interpreter.proofs.parameter.Decisions.{register-is}
+use Rattle.interpreter.proofs.parameter.ByKind.{too-few, enough, greatest-one}
 use Rattle.interpreter.proofs.unit.Found.{setting-known}
 use Rattle.interpreter.proofs.unit.Laws.{checked, has-empty, not-found, found}
 use Rattle.interpreter.proofs.unit.decide.Statement.{statement}

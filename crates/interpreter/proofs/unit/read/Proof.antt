@@ -1,9 +1,9 @@
 -- A unit, in the order in which the code reads it: where the header starts (`ran`), what the search finds of it (`row-found`, for any path
--- that the numbers hold), and the checks of what comes after it. That this is the order of 01 is in unit/Whole.
+-- that the numbers hold), and the checks of what comes after it. That this is the order of 01 is in unit/Chain.
 use mathlib.Core.List.{List}
 use Rattle.registers.specs.Text.{Text}
 use Rattle.interpreter.specs.HeaderParts.{Holds}
-use Rattle.interpreter.proofs.unit.Whole.{Runs, runs, bad-header, Headed, headed, read-to}
+use Rattle.interpreter.proofs.unit.Chain.{Runs, runs, bad-header, Headed, headed, read-to}
 use native.Mathlib.Omega.{arith}
 use borrow.Author.Needs.{needs}
 use Rattle.interpreter.proofs.unit.read.Statement.{statement}

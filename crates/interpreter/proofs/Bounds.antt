@@ -1,0 +1,172 @@
+-- The bounds of a state as facts (`Fit`), and what keeps them: a changed part of the core, a deed, a unit, a refusal.
+use mathlib.Core.Path.{_≡_, refl, _∙_}
+use mathlib.Core.Bool.{Bool, true, false}
+use mathlib.Core.List.{List, [], _∷_}
+use Prim.Native.Nat.{ℕ, _-_, _≤_, zero-le}
+use native.Mathlib.Omega.{arith}
+use lib.Dec.{eqb}
+use lib.ListN.{length, length-set}
+use borrow.Author.Tests.{ltb-true}
+use Rattle.registers.specs.Text.{Text}
+use Rattle.registers.specs.Check.{Checked, refused, passed}
+use Rattle.registers.specs.Queue.{mayBeQueued, queueable}
+use Rattle.registers.specs.Settings.{count, table, atReset}
+use Rattle.registers.specs.Status.{Trouble, Registers}
+use Rattle.registers.specs.declared.settings.Settings.{Settings}
+use Rattle.registers.proofs.Tests.{and-both}
+use Rattle.registers.proofs.settings.Possible as limits
+use Rattle.registers.proofs.settings.Possible.{value-good, reset-possible}
+use Rattle.registers.proofs.status.Possible as status
+use Rattle.registers.proofs.status.Possible.{raised-good, completed-good, events-good, oldest-good, none-good, stored-fit, read-fit}
+use Rattle.interpreter.specs.Box.{Core, Box, box, withSettings, withRegisters, withLine, withAnswer, answerIs, raise, mostLine, mostAnswer}
+use Rattle.interpreter.specs.Unit.{raisable, Read, readUnit}
+use Rattle.interpreter.specs.UnitParts.{Allowed, AllowedChange}
+use Rattle.interpreter.specs.Perform.{conflictingChange, conflicting, changed, allCleared, afterQuery, afterInquiry, perform}
+use Rattle.interpreter.specs.Reply.{joined, fitsAnswer, reply}
+use Rattle.interpreter.specs.Line.{Obeyed, attempt, refuse, next, runUnits}
+use Rattle.interpreter.specs.declared.deed.Deed.{Deed}
+use Rattle.interpreter.specs.declared.deed.Deed.the-variants.{Change, Complete, Clear, Query, Inquire}
+use Rattle.interpreter.specs.declared.deed.Change as changes
+use Rattle.interpreter.specs.declared.deed.Change.the-variants.{Nothing, Put, Reset, Store}
+use Rattle.interpreter.specs.declared.deed.Query as queries
+use Rattle.interpreter.specs.declared.deed.Query.the-variants.{Identity, SelfTest, Completed, Limit, Value, Stored, Condition, SetEvents}
+use Rattle.interpreter.specs.declared.deed.Inquiry as inquiries
+use Rattle.interpreter.specs.declared.deed.Inquiry.the-variants.{StandardEvents, StatusByte, NextError}
+use Rattle.interpreter.proofs.Choices.{if-elim}
+use Rattle.interpreter.proofs.Checks.{Holds, passes, hold-bind, hold-check, holds-from}
+use Rattle.interpreter.proofs.unit.Allowed.{read-allowed, read-known}
+use Rattle.interpreter.proofs.perform.Permitted.{hold-permitted}
+
+-- ---- the bounds of a state as facts; its answer has at most k bytes, and there are seventeen settings
+
+pub record FitCore (k : ℕ) (c : Core) : Type 0 where
+  pub settings : limits.Good (c .settings)
+  pub long : length (c .settings .values) ≡ count
+  pub registers : status.Fit (c .registers)
+  pub line : length (c .line) ≤ mostLine
+  pub answer : length (c .answer) ≤ k
+
+pub record Fit (k : ℕ) (b : Box) : Type 0 where
+  pub core : FitCore k (b .core)
+  pub trouble : status.Good (b .trouble)
+
+-- while a line runs its answer leaves room for the newline
+abbrev pub running : ℕ
+running = mostAnswer - 1
+
+pub fit : (k : ℕ) (c : Core) (t : Trouble) → FitCore k c → status.Good t → Fit k (box c t)
+fit k c t f g = record { core = f; trouble = g }
+
+-- ---- a part of the core changed
+
+module _ (k : ℕ) (c : Core) (f : FitCore k c) where
+  fit-settings : (s : Settings) → limits.Good s → length (s .values) ≡ count → FitCore k (withSettings s c)
+  fit-settings s g l = record { settings = g; long = l; registers = f .registers; line = f .line; answer = f .answer }
+
+  pub fit-registers : (r : Registers) → status.Fit r → FitCore k (withRegisters r c)
+  fit-registers r g = record { settings = f .settings; long = f .long; registers = g; line = f .line; answer = f .answer }
+
+  pub fit-line : (l : Text) (o : Bool) → length l ≤ mostLine → FitCore k (withLine l o c)
+  fit-line l o g = record { settings = f .settings; long = f .long; registers = f .registers; line = g; answer = f .answer }
+
+  -- the answer may be given another bound
+  pub fit-answer : (m : ℕ) (a : Text) → length a ≤ m → FitCore m (withAnswer a c)
+  fit-answer m a g = record { settings = f .settings; long = f .long; registers = f .registers; line = f .line; answer = g }
+
+-- ---- deeds
+
+pub reset-long : length (atReset .values) ≡ count
+unfolding atReset table
+reset-long = refl
+
+pub change-fit : (k : ℕ) (x : changes.Change) (c : Core) → AllowedChange (c .settings) x → conflictingChange x (c .settings) ≡ false
+    → FitCore k c → FitCore k (changed x c)
+unfolding changed
+change-fit k Nothing c a n f = f
+change-fit k (Put i v side) c a n f =
+    fit-settings k c f _ (value-good (c .settings) i v (f .long) (f .settings) (a .1) n (a .0))
+    (length-set (c .settings .values) i v ∙ f .long)
+change-fit k Reset c a n f = fit-settings k c f atReset (limits.good-from atReset reset-possible) reset-long
+change-fit k (Store x m side) c a n f = fit-registers k c f _ (stored-fit x m (c .registers) a (f .registers))
+
+cleared-fit : (k : ℕ) (c : Core) → FitCore k c → FitCore k (allCleared c)
+cleared-fit k c f = fit-registers k c f _ (status.cleared-fit (c .registers) (f .registers))
+
+query-fit : (k : ℕ) (q : queries.Query) (c : Core) → FitCore k c → FitCore k (afterQuery q c)
+query-fit k Identity c f = f
+query-fit k SelfTest c f = f
+query-fit k Completed c f = f
+query-fit k (Limit i v) c f = f
+query-fit k (Value i) c f = f
+query-fit k (Stored x) c f = f
+query-fit k (Condition x) c f = f
+query-fit k (SetEvents x) c f = fit-registers k c f _ (read-fit x (c .registers) (f .registers))
+
+inquiry-good : (q : inquiries.Inquiry) (t : Trouble) → status.Good t → status.Good (afterInquiry q t)
+inquiry-good StandardEvents t g = events-good t g
+inquiry-good StatusByte t g = g
+inquiry-good NextError t g = oldest-good t g
+
+-- check 9 keeps the room
+pub reply-fit : (t : Text) (c : Core) → FitCore running c → Holds (FitCore running) (reply t c)
+unfolding reply fitsAnswer mayBeQueued queueable
+reply-fit t c f =
+    hold-check (FitCore running) 430 _ _ refl (λ e.
+    let l = ltb-true (length (joined (c .answer) t)) mostAnswer e in
+    passes (fit-answer running c f running (joined (c .answer) t) (omega arith)))
+
+pub perform-fit : (d : Deed) (b : Box) → Allowed (b .core .settings) d → conflicting d (b .core .settings) ≡ false → Fit running b
+    → Holds (Fit running) (perform d b)
+unfolding perform
+perform-fit (Change x) b a n f = passes (fit running _ _ (change-fit running x (b .core) a n (f .core)) (f .trouble))
+perform-fit Complete b a n f = passes (fit running _ _ (f .core) (completed-good (b .trouble) (f .trouble)))
+perform-fit Clear b a n f = passes (fit running _ _ (cleared-fit running (b .core) (f .core)) none-good)
+perform-fit (Query q) b a n f =
+    hold-bind (FitCore running) (Fit running) _ _ (reply-fit _ _ (query-fit running q (b .core) (f .core)))
+    (λ c g. passes (fit running c _ g (f .trouble)))
+perform-fit (Inquire q) b a n f =
+    hold-bind (FitCore running) (Fit running) _ _ (reply-fit _ _ (f .core))
+    (λ c g. passes (fit running c _ g (inquiry-good q (b .trouble) (f .trouble))))
+
+-- ---- units
+
+abbrev pub FitObeyed : Obeyed → Type 0
+FitObeyed o = Fit running (o .box)
+
+pub attempt-fit : (path : List Text) (b : Box) (u : Text) → Fit running b → Holds FitObeyed (attempt path b u)
+unfolding attempt
+attempt-fit path b u f =
+    let s = b .core .settings in
+    hold-bind (λ (r : Read). Allowed s (r .deed)) FitObeyed _ _
+    (holds-from (readUnit s path u) (λ r e. read-allowed s path u e) (λ n e. read-known s path u e)) (λ r a.
+    hold-permitted (r .deed) (b .core) FitObeyed _ (λ l.
+    hold-bind (Fit running) FitObeyed _ _ (perform-fit (r .deed) b a (l .clear) f) (λ c g. passes g)))
+
+-- what a unit raises may stand in the queue
+pub raisable-queueable : (n : ℕ) → raisable n ≡ true → mayBeQueued n ≡ true
+raisable-queueable n e = and-both (mayBeQueued n) _ e .0
+
+pub raise-fit : (n k : ℕ) (b : Box) → mayBeQueued n ≡ true → Fit k b → Fit k (raise n b)
+raise-fit n k b e f = fit k _ _ (f .core) (raised-good (b .trouble) (f .trouble) n e)
+
+-- another answer, and none
+pub answered-fit : (k m : ℕ) (b : Box) → Fit k b → {a : Text} → length a ≤ m → Fit m (answerIs a b)
+answered-fit k m b f {a} l = fit m _ _ (fit-answer k (b .core) (f .core) m a l) (f .trouble)
+
+pub dropped-fit : (k m : ℕ) (b : Box) → Fit k b → Fit m (answerIs [] b)
+dropped-fit k m b f = answered-fit k m b f zero-le
+
+pub refuse-fit : (n : ℕ) (b : Box) → mayBeQueued n ≡ true → Fit running b → Fit running (refuse n b)
+unfolding refuse
+refuse-fit n b e f = raise-fit n running _ e (if-elim (Fit running) (eqb n 430) (λ _. dropped-fit running running b f) (λ _. f))
+
+next-fit : (go : List Text → Box → Box) → ((p : List Text) (c : Box) → Fit running c → Fit running (go p c))
+    → (b : Box) → Fit running b → (r : Checked Obeyed) → Holds FitObeyed r → Fit running (next go b r)
+next-fit go ih b f (refused n) h = refuse-fit n b (raisable-queueable n (h .of)) f
+next-fit go ih b f (passed o) h = ih (o .path) (o .box) (h .of)
+
+pub units-fit : (us path : List Text) (b : Box) → Fit running b → Fit running (runUnits us path b)
+unfolding runUnits
+units-fit [] path b f = f
+units-fit (u ∷ us) path b f =
+    next-fit (λ p c. runUnits us p c) (λ p c g. units-fit us p c g) b f (attempt path b u) (attempt-fit path b u f)
