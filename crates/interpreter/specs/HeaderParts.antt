@@ -90,4 +90,4 @@ pub record FoundRow (path : List Text) (t : Text) (h : Header) (row used : ℕ) 
 
 abbrev pub LookedUp : List Text → Text → Looked → List ℕ → Type 0
 LookedUp path t Bad keys = header (start visible t) ≡ refused 102
-LookedUp path t (At row used asked end) keys = (h : Header) × (header (start visible t) ≡ passed h) × FoundRow path t h row used asked end keys
+LookedUp path t (At x used end) keys = (h : Header) × (header (start visible t) ≡ passed h) × FoundRow path t h (x .row) used (x .asked) end keys

@@ -24,13 +24,18 @@ struct Names {
     count: usize,
 }
 
-// What is found of a header: its row, or ROWS, how many names the new path has, and where the header ends.
+// What a header comes to: its row, or ROWS, and whether it asks.
+pub(crate) struct Heading {
+    pub(crate) row: usize,
+    pub(crate) asked: bool,
+}
+
+// What is found of a header, how many names the new path has, and where the header ends.
 pub(crate) enum Looked {
     Bad,
     At {
-        row: usize,
+        heading: Heading,
         used: usize,
-        asked: bool,
         end: usize,
     },
 }
@@ -124,10 +129,13 @@ pub(crate) fn look_up(table: &[u8], path: &mut [u64], used: usize, text: &[u8]) 
         return Looked::Bad;
     }
     let first = or_zero(star, used);
-    Looked::At {
+    let heading = Heading {
         row: rows::find(table, path, first, names.count, star, names.asked),
-        used: names.count - 1,
         asked: names.asked,
+    };
+    Looked::At {
+        heading,
+        used: names.count - 1,
         end: names.end,
     }
 }

@@ -2,6 +2,7 @@
 use crate::deed;
 use crate::deed::Role;
 use crate::header;
+use crate::header::Heading;
 use crate::header::Looked;
 use crate::header::MOST;
 use crate::parameter;
@@ -58,14 +59,16 @@ fn trimmed_end(text: &[u8]) -> usize
 }
 
 // Makes checks 2 to 7 after the header, on the parameters' text without white space around it.
-fn decide(table: &[u8], settings: Settings, row: usize, asked: bool, text: &[u8]) -> Decision
-    requires { ⌜ (now table ≡ commandTable) × (row ≤ rowCount) × (trim (now text) ≡ now text) ⌝ }
-    ensures { λ r. ⌜ meantDeed r ≡ decided settings row asked (now (text .entry)) ⌝ }
+fn decide(table: &[u8], settings: Settings, heading: Heading, text: &[u8]) -> Decision
+    requires { ⌜ (now table ≡ commandTable) × (heading .row ≤ rowCount) × (trim (now text) ≡ now text) ⌝ }
+    ensures { λ r. ⌜ meantDeed r ≡ decided settings (heading .row) (heading .asked) (now (text .entry)) ⌝ }
 {
     let counted = parameter::count(text);
     if !counted.full {
         return Decision::Refused(Error::Syntax);
     }
+    let row = heading.row;
+    let asked = heading.asked;
     if row == ROWS {
         return Decision::Refused(Error::UndefinedHeader);
     }
@@ -89,32 +92,31 @@ fn decide(table: &[u8], settings: Settings, row: usize, asked: bool, text: &[u8]
 }
 
 // Makes check 1 first: white space is allowed, and so is every byte of a header, so that only the parameters' text is looked at.
-fn decide_text(table: &[u8], settings: Settings, row: usize, asked: bool, text: &[u8]) -> Decision
-    requires { ⌜ (now table ≡ commandTable) × (row ≤ rowCount) × (trim (now text) ≡ now text) ⌝ }
-    ensures { λ r. ⌜ meantDeed r ≡ decidedText settings row asked (now (text .entry)) ⌝ }
+fn decide_text(table: &[u8], settings: Settings, heading: Heading, text: &[u8]) -> Decision
+    requires { ⌜ (now table ≡ commandTable) × (heading .row ≤ rowCount) × (trim (now text) ≡ now text) ⌝ }
+    ensures { λ r. ⌜ meantDeed r ≡ decidedText settings (heading .row) (heading .asked) (now (text .entry)) ⌝ }
 {
     if !all_allowed(text) {
         return Decision::Refused(Error::InvalidCharacter);
     }
-    decide(table, settings, row, asked, text)
+    decide(table, settings, heading, text)
 }
 
 // Makes the same checks on all that follows the header, which ends at a place of the unit.
 fn decide_rest(
     table: &[u8],
     settings: Settings,
-    row: usize,
-    asked: bool,
+    heading: Heading,
     unit: &[u8],
     at: usize,
 ) -> Decision
-    requires { ⌜ (now table ≡ commandTable) × (row ≤ rowCount) × (at ≤ length (now unit)) ⌝ }
-    ensures { λ r. ⌜ meantDeed r ≡ decidedText settings row asked (trim (drop at (now (unit .entry)))) ⌝ }
+    requires { ⌜ (now table ≡ commandTable) × (heading .row ≤ rowCount) × (at ≤ length (now unit)) ⌝ }
+    ensures { λ r. ⌜ meantDeed r ≡ decidedText settings (heading .row) (heading .asked) (trim (drop at (now (unit .entry)))) ⌝ }
 {
     let start = text::white_end(unit, at);
     let rest = &unit[start..];
     let end = trimmed_end(rest);
-    decide_text(table, settings, row, asked, &rest[0..end])
+    decide_text(table, settings, heading, &rest[0..end])
 }
 
 // Tells which of checks 1 and 2 refuses a unit that starts with no header.
@@ -148,13 +150,12 @@ pub(crate) fn read(
             };
         }
         Looked::At {
-            row,
+            heading,
             used: left,
-            asked,
             end,
         } => {
             return Reading {
-                decision: decide_rest(table, settings, row, asked, unit, start + end),
+                decision: decide_rest(table, settings, heading, unit, start + end),
                 used: left,
             };
         }

@@ -105,7 +105,7 @@ module _ (t : Text) (s r : Bool) (l : Led t s r) where
     Left = row < rowCount → Holds (pathAfter (placeOf s r) path names) keys (x .count - 1)
 
     looked : every name names ≡ true → {held : List ℕ} → NamesGood (not s) t n held x keys → Row → Left
-        → LookedUp path t (At row (x .count - 1) (x .asked) (x .end)) keys
+        → LookedUp path t (At (record { row = row; asked = x .asked }) (x .count - 1) (x .end)) keys
     looked good g at left = (
       read,
       look-good good,
@@ -133,7 +133,7 @@ module _ (t : Text) (path : List Text) (before : List ℕ) (used : ℕ) (p : Hol
   look-at : (s r : Bool) → Led t s r → every name (namesIn (not s) (drop (boolByte (s || r)) t)) ≡ true
       → NamesGood (not s) t (boolByte (s || r)) (take (orZero (not r) used) before) x keys
       → row ≡ rowOfKeys s (drop (orZero s used) (take (x .count) keys)) (x .asked)
-      → LookedUp path t (At row (x .count - 1) (x .asked) (x .end)) keys
+      → LookedUp path t (At (record { row = row; asked = x .asked }) (x .count - 1) (x .end)) keys
   unfolding namesIn if_then_else_
   look-at true false l good g f =
       let name-of = bodyOf (start visible (drop 1 t)) in
@@ -156,6 +156,6 @@ module _ (t : Text) (path : List Text) (before : List ℕ) (used : ℕ) (p : Hol
 
   pub look-found : (b : ℕ) → b ≡ first t → NamesRead (not (eqb b 42)) t (boolByte (eqb b 42 || eqb b 58)) (take (orZero (not (eqb b 58)) used) before) x keys
       → x .good ≡ true → row ≡ rowOfKeys (eqb b 42) (drop (orZero (eqb b 42) used) (take (x .count) keys)) (x .asked)
-      → LookedUp path t (At row (x .count - 1) (x .asked) (x .end)) keys
+      → LookedUp path t (At (record { row = row; asked = x .asked }) (x .count - 1) (x .end)) keys
   look-found b is m good f =
       look-at (eqb b 42) (eqb b 58) (led t b is (eqb b 42) (eqb b 58) refl refl) (sym (m .good) ∙ good) (m .found good) f

@@ -23,6 +23,7 @@ use Rattle.interpreter.specs.ParameterParts.{meantDeed}
 use Rattle.interpreter.specs.UnitParts.{roleFound, decided, decidedText, headerRefusal, UnitRead}
 use Rattle.interpreter.specs.declared.deed.Deed.{Deed}
 use Rattle.interpreter.specs.declared.deed.Role.{Role}
+use Rattle.interpreter.specs.declared.header.Heading.{Heading}
 use Rattle.interpreter.specs.declared.header.Looked.{Looked}
 use Rattle.interpreter.specs.declared.header.Looked.the-variants.{Bad, At}
 use Rattle.interpreter.specs.declared.parameter.Decision.{Decision}
@@ -139,7 +140,7 @@ module _ (s : Settings) (path : List Text) (u : Text) where
         go true i = rw i
         go false i = refl
 
-    pub headed : {row used end : ℕ} {asked : Bool} → r ≡ At row used asked end → Headed s path u st row used asked end keys
+    pub headed : {x : Heading} {used end : ℕ} → r ≡ At x used end → Headed s path u st (x .row) used (x .asked) end keys
     headed q =
         let g = rw q at k in
         let h = g .0 in

@@ -91,8 +91,8 @@ find-requires c κs =
     let fits = first-fits (s .args .text .now) (s .args .path .now) (s .args .used) (s .pre .1) (s .pre .2) (keys p) k (p .read-names .result) (y .result) (y .ensures) m (is-good e) in
     (s .pre .0, rw (c .before .or-zero2 .ensures) fits, omega arith)
 
-sub-t18 : tie.Need-sub-t18
-sub-t18 c =
+sub-t13 : tie.Need-sub-t13
+sub-t13 c =
     let e = c .before .before .before .before in
     let some = read-of e .read-names .ensures .found (is-good e) .some in
     omega arith
@@ -121,6 +121,6 @@ look-up-spec =
     returns
     or-zero-requires-2
     find-requires
-    sub-t18
+    sub-t13
     same-length-2
     returns-2)

@@ -30,23 +30,23 @@ abbrev parts-of : tie.After-role-of → ℕ
 parts-of p = count-of p .count .result .parts
 
 abbrev most-of : tie.After-role-of → ℕ
-most-of p = greatest (p .role-of .result) (entry p .args .asked)
+most-of p = greatest (p .role-of .result) (entry p .args .heading .asked)
 
 abbrev fewest-of : tie.After-role-of → ℕ
-fewest-of p = least (p .role-of .result) (entry p .args .asked)
+fewest-of p = least (p .role-of .result) (entry p .args .heading .asked)
 
 -- the checks that are left then
 says : (p : tie.After-role-of)
     → let a = entry p .args in
-    decided (a .settings) (a .row) (a .asked) (a .text .now)
-    ≡ checked (a .settings) (p .role-of .result) (a .asked) (parts-of p) (parameters (a .text .now))
+    decided (a .settings) (a .heading .row) (a .heading .asked) (a .text .now)
+    ≡ checked (a .settings) (p .role-of .result) (a .heading .asked) (parts-of p) (parameters (a .text .now))
 says p =
     let a = entry p .args in
     let n = count-of p .count in
     let pre = entry p .pre in
     let full = not-false _ (p .before .before .if1 .left) in
     let r = p .role-of in
-    found (a .settings) (a .row) (a .asked) (a .text .now) (n .result) (n .ensures) full (omega arith) (r .result) (r .ensures)
+    found (a .settings) (a .heading .row) (a .heading .asked) (a .text .now) (n .result) (n .ensures) full (omega arith) (r .result) (r .ensures)
 
 -- check 4 let the number pass, from above and from below
 most-let : (c : tie.Else3) → let p = c .before .before .before in parts-of p ≤ most-of p
@@ -59,7 +59,7 @@ role-at e = e .before .before .before .before .before
 least-let : (c : tie.Else4) → let p = role-at c in fewest-of p ≤ parts-of p
 least-let c =
     let p = role-at c in
-    enough (p .role-of .result) (parts-of p) (entry p .args .asked) (rw (c .before .before .before .before .most .ensures) at (c .if4 .left))
+    enough (p .role-of .result) (parts-of p) (entry p .args .heading .asked) (rw (c .before .before .before .before .most .ensures) at (c .if4 .left))
 
 count-requires : tie.Need-count-requires
 count-requires c κs = tt
@@ -68,7 +68,7 @@ returns : tie.Need-returns
 returns c =
     let a = c .before .before .before .before .before .args in
     let n = c .before .before .count in
-    sym (has-empty (a .settings) (a .row) (a .asked) (a .text .now) (n .result) (n .ensures) (not-true _ (c .if1 .taken)))
+    sym (has-empty (a .settings) (a .heading .row) (a .heading .asked) (a .text .now) (n .result) (n .ensures) (not-true _ (c .if1 .taken)))
 
 returns-2 : tie.Need-returns-2
 returns-2 c =
@@ -76,7 +76,7 @@ returns-2 c =
     let a = k .before .before .before .args in
     let n = k .count in
     let full = not-false _ (c .before .if1 .left) in
-    sym (not-found (a .settings) (a .row) (a .asked) (a .text .now) (n .result) (n .ensures) full (omega arith))
+    sym (not-found (a .settings) (a .heading .row) (a .heading .asked) (a .text .now) (n .result) (n .ensures) full (omega arith))
 
 role-of-requires : tie.Need-role-of-requires
 role-of-requires c κs = omega arith
@@ -96,22 +96,22 @@ unfolding check _>>_
 returns-4 c =
     let p = c .before .before .before .before .before in
     let a = entry p .args in
-    let few = too-few (p .role-of .result) (parts-of p) (a .asked) (rw (c .before .before .before .before .most .ensures) at (c .if4 .taken)) in
+    let few = too-few (p .role-of .result) (parts-of p) (a .heading .asked) (rw (c .before .before .before .before .most .ensures) at (c .if4 .taken)) in
     sym (says p ∙ rw (le-leb (parts-of p) (most-of p) (most-let (c .before .before)), lt-leb (fewest-of p) (parts-of p) few))
 
 -- what is left is what the row's own checks say
 passes : (c : tie.Else4) (r : Role) → let p = role-at c in
     let a = entry p .args in
-    p .role-of .result ≡ r → (d : Decision) → meantDeed d ≡ deedOf (a .settings) r (a .asked) (partsOf (parts-of p) (a .text .now))
-    → meantDeed d ≡ decided (a .settings) (a .row) (a .asked) (a .text .now)
+    p .role-of .result ≡ r → (d : Decision) → meantDeed d ≡ deedOf (a .settings) r (a .heading .asked) (partsOf (parts-of p) (a .text .now))
+    → meantDeed d ≡ decided (a .settings) (a .heading .row) (a .heading .asked) (a .text .now)
 unfolding check _>>_
 passes c r q d is =
     let p = role-at c in
     let a = entry p .args in
     let n = count-of p .count in
     let m = most-let (c .before .before) in
-    let one = parts-are (a .text .now) (entry p .pre .2) (n .result) (n .ensures) (omega (arith, greatest-one (p .role-of .result) (a .asked))) in
-    let said = subst (λ (r : Role). meantDeed d ≡ deedOf (a .settings) r (a .asked) (partsOf (parts-of p) (a .text .now))) (sym q) is in
+    let one = parts-are (a .text .now) (entry p .pre .2) (n .result) (n .ensures) (omega (arith, greatest-one (p .role-of .result) (a .heading .asked))) in
+    let said = subst (λ (r : Role). meantDeed d ≡ deedOf (a .settings) r (a .heading .asked) (partsOf (parts-of p) (a .text .now))) (sym q) is in
     (rw one at said) ∙ sym (says p ∙ rw (le-leb (parts-of p) (most-of p) m, le-leb (fewest-of p) (parts-of p) (least-let c)))
 
 enum-known-role : tie.Need-enum-known-role
@@ -124,9 +124,9 @@ decide-setting-requires c κs =
     let a = entry p .args in
     let pre = entry p .pre in
     let role = c .before .role .given in
-    let known = setting-known (a .row) (role .0 .0) (omega arith) (sym (p .role-of .ensures) ∙ role .1) in
-    let few = subst (λ (r : Role). least r (a .asked) ≤ parts-of p) (role .1) (least-let e) in
-    let most = subst (λ (r : Role). parts-of p ≤ greatest r (a .asked)) (role .1) (most-let (e .before .before)) in
+    let known = setting-known (a .heading .row) (role .0 .0) (omega arith) (sym (p .role-of .ensures) ∙ role .1) in
+    let few = subst (λ (r : Role). least r (a .heading .asked) ≤ parts-of p) (role .1) (least-let e) in
+    let most = subst (λ (r : Role). parts-of p ≤ greatest r (a .heading .asked)) (role .1) (most-let (e .before .before)) in
     ((pre .0, known), (few, most))
 
 returns-5 : tie.Need-returns-5
@@ -144,9 +144,9 @@ returns-6 c =
     let p = role-at e in
     let a = entry p .args in
     let role = c .before .before .role2 .given in
-    let few = subst (λ (r : Role). least r (a .asked) ≤ parts-of p) (role .1) (least-let e) in
+    let few = subst (λ (r : Role). least r (a .heading .asked) ≤ parts-of p) (role .1) (least-let e) in
     passes e _ (role .1) (c .decide-register .result)
-    (c .decide-register .ensures ∙ register-is (a .settings) (role .0 .0) (a .asked) (parts-of p) (a .text .now) few)
+    (c .decide-register .ensures ∙ register-is (a .settings) (role .0 .0) (a .heading .asked) (parts-of p) (a .text .now) few)
 
 enum-known-role-3 : tie.Need-enum-known-role-3
 enum-known-role-3 c = c .match .keys3
