@@ -1,3 +1,5 @@
+-- A setting's row has its number, the rows after the settings have an arm each, and those of the register sets go by set and place. What
+-- the definition's list of rows says at each number is computed (deed/Laws).
 use mathlib.Core.Path.{_≡_, ap, _∙_}
 use Prim.Native.Nat.{ℕ, _+_, _-_, _≤_, _<_}
 use native.Mathlib.Omega.{arith}

@@ -1,6 +1,10 @@
+-- Four ways through a newline: an overlong line raises -363, a blank one does nothing, and what its units answer, if anything, is ended
+-- by a newline. Each way is a law of line/Newline.
 use mathlib.Core.Path.{_≡_}
+use mathlib.Core.Bool.{false}
 use native.Mathlib.Omega.{arith}
 use lib.ListN.{length}
+use Rattle.registers.specs.Text.{white, every}
 use Rattle.registers.specs.declared.error.Error.the-variants.{InputBufferOverrun}
 use Rattle.interpreter.specs.PresentParts.{raisedWith}
 use Rattle.interpreter.proofs.present.Laws.{raised-short}
@@ -9,19 +13,34 @@ use borrow.Author.Needs.{needs}
 use Rattle.interpreter.proofs.line.run_line.Statement.{statement}
 use Rattle.interpreter.proofs.line.run_line.Tie as tie
 
+-- where the line isn't overlong, and where it isn't blank
+abbrev entry : tie.Else1 → tie.Start
+entry e = e .before .before .before .before
+
+abbrev in-length : tie.Else2 → tie.Else1
+in-length e = e .before .before
+
+-- once its units are run
+abbrev ran-from : tie.After-run-units → tie.Else2
+ran-from r = r .before .before
+
+visible : (e : tie.Else2) → every white (entry (in-length e) .args .line .now) ≡ false
+visible e = let w = e .before .white-end in not-blank (entry (in-length e) .args .line .now) (w .result) (w .ensures) (e .if2 .left)
+
 raise-requires : tie.Need-raise-requires
 raise-requires c κs = tt
 
 returns : tie.Need-returns
 unfolding raisedWith
 returns c =
-    let a = c .before .before .before .before .before .args in
-    let s = c .before .before .before .before .before .good .1 .0 .1 .1 .1 .0 .1 .1 in
+    let o = c .before .before .before .before .before in
+    let a = o .args in
+    let s = o .good .1 .0 .1 .1 .1 .0 .1 .1 in
     let long : length (a .present .status .errors) ≡ 16 = search needs in
     let raised = c .raise .ensures in
-    let none = c .before .before .before .before .before .pre .0 .1 in
+    let none = o .pre .0 .1 in
     record {
-      queued = rw raised (raised-short InputBufferOverrun (a .present) long (c .before .before .before .before .before .pre .1 .1));
+      queued = rw raised (raised-short InputBufferOverrun (a .present) long (o .pre .1 .1));
       room = rw (raised, none) (omega arith);
       box = rw (raised, none) (line-overlong (a .present) (a .line .now) (a .overlong) long (c .before .if1 .taken));
     }
@@ -31,31 +50,33 @@ white-end-requires c κs = tt
 
 returns-2 : tie.Need-returns-2
 returns-2 c =
-    let a = c .before .before .before .before .before .before .args in
-    let none = c .before .before .before .before .before .before .pre .0 .1 in
+    let e = c .before .before in
+    let a = entry e .args in
+    let none = entry e .pre .0 .1 in
+    let w = c .before .white-end in
     record {
-      queued = c .before .before .before .before .before .before .pre .1 .1;
+      queued = entry e .pre .1 .1;
       room = rw none (omega arith);
-      box = rw none (line-blank (a .present) (a .line .now) (a .overlong) (c .before .before .if1 .left) (blank (a .line .now) (c .before .white-end .result) (c .before .white-end .ensures) (c .if2 .taken)));
+      box = rw none (line-blank (a .present) (a .line .now) (a .overlong) (e .if1 .left) (blank (a .line .now) (w .result) (w .ensures) (c .if2 .taken)));
     }
 
 run-units-requires : tie.Need-run-units-requires
-run-units-requires c κs = c .before .before .before .before .before .before .before .pre
+run-units-requires c κs = entry (in-length (c .before)) .pre
 
 same-length : tie.Need-same-length
 same-length c = c .before .before .before .run-units .kept .1 .1 .1 .0
 
 returns-3 : tie.Need-returns-3
 returns-3 c =
-    let a = c .before .before .before .before .before .before .before .before .before .before .before .args in
-    let r = c .before .before .before .run-units in
-    let w = r .ensures in
+    let r = c .before .before .before in
+    let e = in-length (ran-from r) in
+    let a = entry e .args in
+    let w = r .run-units .ensures in
     let room = w .room in
-    let visible = not-blank (a .line .now) (c .before .before .before .before .before .before .white-end .result) (c .before .before .before .before .before .before .white-end .ensures) (c .before .before .before .before .before .if2 .left) in
     record {
       queued = w .queued;
       room = omega arith;
-      box = line-none (a .present) (a .line .now) (a .overlong) (c .before .before .before .before .before .before .before .if1 .left) visible (r .result) _ w (c .if3 .taken);
+      box = line-none (a .present) (a .line .now) (a .overlong) (e .if1 .left) (visible (ran-from r)) (r .run-units .result) _ w (c .if3 .taken);
     }
 
 slice-write-out : tie.Need-slice-write-out
@@ -69,17 +90,17 @@ same-length-2 c = search needs
 
 returns-4 : tie.Need-returns-4
 returns-4 c =
-    let a = c .before .before .before .before .before .before .before .before .before .before .before .args in
-    let r = c .before .before .before .run-units in
-    let w = r .ensures in
+    let r = c .before .before .before in
+    let e = in-length (ran-from r) in
+    let a = entry e .args in
+    let w = r .run-units .ensures in
     let room = w .room in
-    let k = r .kept in
-    let was = c .before .before .before .before .before .before .before .before .before .before .before .pre .1 .0 in
-    let visible = not-blank (a .line .now) (c .before .before .before .before .before .before .white-end .result) (c .before .before .before .before .before .before .white-end .ensures) (c .before .before .before .before .before .if2 .left) in
+    let k = r .run-units .kept in
+    let was = entry e .pre .1 .0 in
     record {
       queued = w .queued;
       room = omega arith;
-      box = line-some (a .present) (a .line .now) (a .overlong) (c .before .before .before .before .before .before .before .if1 .left) visible (r .result) _ w (c .if3 .left) (omega arith);
+      box = line-some (a .present) (a .line .now) (a .overlong) (e .if1 .left) (visible (ran-from r)) (r .run-units .result) _ w (c .if3 .left) (omega arith);
     }
 
 pub run-line-spec : {M : Type 1} → statement M

@@ -82,7 +82,8 @@ same-length c = search needs
 
 returns-3 : tie.Need-returns-3
 returns-3 c =
-    let w = c .before .before .before .before .before .before in
+    let t = c .before .before in
+    let w = t .before .before .before .before in
     let l = permitted-of w in
     let d = deed-of l in
     let r = read-of d in
@@ -90,7 +91,7 @@ returns-3 c =
     let p = entry r .pre .1 in
     let free = let-through _ _ (l .before .is-permitted .result) (l .before .is-permitted .ensures) (l .if1 .left) in
     λ names h. unit-unanswered (a .done) names (a .unit .now) (r .read .last .1 .1 .0) (r .read .result .decision) (r .read .result .used) (r .read .ensures names h)
-    (a .out .now) (p .2) (p .0) _ (c .stop3 .result) (c .stop3 .ensures) _ (d .decision2 .given .1) free _ (rw (c .before .before .told .given .1) at (w .answer .ensures))
+    (a .out .now) (p .2) (p .0) _ (c .stop3 .result) (c .stop3 .ensures) _ (d .decision2 .given .1) free _ (rw (t .told .given .1) at (w .answer .ensures))
 
 enum-known-told-2 : tie.Need-enum-known-told-2
 enum-known-told-2 c = c .match2 .keys2
@@ -100,14 +101,15 @@ same-length-2 c = search needs
 
 returns-4 : tie.Need-returns-4
 returns-4 c =
-    let w = c .before .before .before .before .before in
+    let t = c .before in
+    let w = t .before .before .before .before in
     let l = permitted-of w in
     let d = deed-of l in
     let r = read-of d in
     let a = entry r .args in
     let free = let-through _ _ (l .before .is-permitted .result) (l .before .is-permitted .ensures) (l .if1 .left) in
     λ names h. unit-obeyed (a .done) names (a .unit .now) (r .read .last .1 .1 .0) (r .read .result .decision) (r .read .result .used) (r .read .ensures names h)
-    (a .out .now) _ (d .decision2 .given .1) free (w .before .before .after .result) (w .before .before .after .ensures) _ _ (rw (c .before .told2 .given .1) at (w .answer .ensures))
+    (a .out .now) _ (d .decision2 .given .1) free (w .before .before .after .result) (w .before .before .after .ensures) _ _ (rw (t .told2 .given .1) at (w .answer .ensures))
 
 pub run-unit-spec : {M : Type 1} → statement M
 run-unit-spec =

@@ -1,3 +1,5 @@
+-- The loop over a line's units. Invariant: line/Units' `Going`, the units that are left do to the box as it stands what all of them do
+-- from the start. Measure: the bytes of the line that are left.
 use mathlib.Core.List.{[]}
 use Prim.Native.Nat.{_-_}
 use native.Mathlib.Omega.{arith}
@@ -14,10 +16,21 @@ Inv-loop table line out₀ done₀ path₀ at₀ out done path at = Going (boxIn
 abbrev μ-loop : tie.MeasureT-loop
 μ-loop table line out₀ done₀ path₀ at₀ out done path at = length line - at
 
+abbrev entry : tie.At-loop Inv-loop μ-loop → tie.Start Inv-loop μ-loop
+entry l = l .before .before .before .before
+
+-- once a unit's end is found, and once the unit is run
+abbrev turn : tie.After-find Inv-loop μ-loop → tie.At-loop Inv-loop μ-loop
+turn f = f .before
+
+abbrev found : tie.After-run-unit Inv-loop μ-loop → tie.After-find Inv-loop μ-loop
+found r = r .before .before .before .before
+
 loop-holds : tie.Need-loop-holds Inv-loop μ-loop
 loop-holds c =
-    let a = c .before .before .before .args in
-    let p = c .before .before .before .pre in
+    let s = c .before .before .before in
+    let a = s .args in
+    let p = s .pre in
     going-start (a .present) _ (a .line .now) _ (a .out .now) (p .0 .1) (p .1 .1) (p .1 .0)
 
 find-requires : tie.Need-find-requires Inv-loop μ-loop
@@ -36,48 +49,52 @@ part-run-unit-end c = c .before .find .ensures .1
 
 run-unit-requires : tie.Need-run-unit-requires Inv-loop μ-loop
 run-unit-requires c κs =
-    let p = c .before .before .before .before .before .before .before .before .pre in
-    let g = c .before .before .before .before .loop .inv in
+    let l = turn (c .before .before .before) in
+    let p = entry l .pre in
+    let g = l .loop .inv in
     ((p .0 .0, (g .path, g .holds)), (g .answers, g .long, g .queued))
 
 same-length : tie.Need-same-length Inv-loop μ-loop
 same-length c =
-    let k = c .before .before .before .before .before .run-unit .kept in
-    let long = c .before .before .before .before .before .before .before .before .before .before .loop .inv .long in
-    let was = c .before .before .before .before .before .before .before .before .before .before .before .before .before .before .pre .1 .0 in
+    let r = c .before .before .before .before .before in
+    let l = turn (found r) in
+    let k = r .run-unit .kept in
+    let long = l .loop .inv .long in
+    let was = entry l .pre .1 .0 in
     omega arith
 
 returns : tie.Need-returns Inv-loop μ-loop
 returns c =
-    let r = c .before .before .before .before .before .run-unit in
-    let g = c .before .before .before .before .before .before .before .before .before .before .loop .inv in
-    let w = r .ensures (g .path) (g .holds) in
-    let f = c .before .before .before .before .before .before .before .before .before .find in
+    let r = c .before .before .before .before .before in
+    let end = found r .find in
+    let g = turn (found r) .loop .inv in
+    let w = r .run-unit .ensures (g .path) (g .holds) in
     record {
       queued = w .queued;
       room = w .room;
-      box = going-end _ _ _ _ _ _ g (f .result) (f .ensures .0) (f .ensures .1) (r .result) _ _ w (not-true _ (c .before .if1 .taken));
+      box = going-end _ _ _ _ _ _ g (end .result) (end .ensures .0) (end .ensures .1) (r .run-unit .result) _ _ w (not-true _ (c .before .if1 .taken));
     }
 
 add-at : tie.Need-add-at Inv-loop μ-loop
 add-at c =
-    let ends = c .before .before .before .before .before .before .before .before .find .ensures .1 in
-    omega (arith, c .before .before .before .before .before .before .before .before .before .before .before .before .before .good)
+    let f = found (c .before .before .before .before) in
+    let ends = f .find .ensures .1 in
+    omega (arith, entry (turn f) .good)
 
 loop-less : tie.Need-loop-less Inv-loop μ-loop
 loop-less c =
-    let r = c .before .before .before .before .run-unit in
-    let f = c .before .before .before .before .before .before .before .before .find in
-    let g = c .before .before .before .before .before .before .before .before .before .loop .inv in
-    going-less _ _ _ _ _ _ g (f .result) (f .ensures .0) (f .ensures .1) (r .result) _ _ (r .ensures (g .path) (g .holds)) (not-false _ (c .if1 .left))
+    let r = c .before .before .before .before in
+    let end = found r .find in
+    let g = turn (found r) .loop .inv in
+    going-less _ _ _ _ _ _ g (end .result) (end .ensures .0) (end .ensures .1) (r .run-unit .result) _ _ (r .run-unit .ensures (g .path) (g .holds)) (not-false _ (c .if1 .left))
 
 loop-again : tie.Need-loop-again Inv-loop μ-loop
 loop-again c =
-    let r = c .before .before .before .before .run-unit in
-    let f = c .before .before .before .before .before .before .before .before .find in
-    let g = c .before .before .before .before .before .before .before .before .before .loop .inv in
-    going-on _ _ _ _ _ _ g (f .result) (f .ensures .0) (f .ensures .1) (r .result) _ _ (r .ensures (g .path) (g .holds)) (not-false _ (c .if1 .left))
-    (let k = r .kept in omega arith)
+    let r = c .before .before .before .before in
+    let end = found r .find in
+    let g = turn (found r) .loop .inv in
+    going-on _ _ _ _ _ _ g (end .result) (end .ensures .0) (end .ensures .1) (r .run-unit .result) _ _ (r .run-unit .ensures (g .path) (g .holds)) (not-false _ (c .if1 .left))
+    (let k = r .run-unit .kept in omega arith)
 
 pub run-units-spec : {M : Type 1} → statement M
 run-units-spec =

@@ -1,3 +1,5 @@
+-- Invariant: parameter/Counting's `Counting`, how many parts have begun before place i, whether those that have ended are filled, and
+-- whether the last has a visible byte. Measure: the bytes that are left.
 use Prim.Native.Nat.{_-_}
 use native.Mathlib.Omega.{arith}
 use lib.ListN.{length}

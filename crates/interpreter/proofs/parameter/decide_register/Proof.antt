@@ -1,3 +1,5 @@
+-- A query asks for the register. Otherwise its one parameter is read (`read-is`): a number is decided on, and a word can't be read where
+-- none may be given.
 use mathlib.Core.Path.{_≡_, _∙_}
 use mathlib.Core.Bool.{true}
 use mathlib.Core.List.{[]}

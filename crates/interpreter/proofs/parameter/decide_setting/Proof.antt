@@ -1,3 +1,5 @@
+-- Without a parameter the value is asked for. With one, checks 5 and 6 read it (`read-is`) and the rest decides on the value that it
+-- gives (`deed-is`): a word's value is within the limits, a number's is rounded and may be outside.
 use mathlib.Core.Path.{_≡_, sym, ap, _∙_}
 use mathlib.Core.Bool.{not, _&&_}
 use Prim.Native.Nat.{ℕ, _<_}
@@ -21,7 +23,7 @@ use Rattle.interpreter.proofs.parameter.Words.{word-placed}
 use Rattle.interpreter.proofs.parameter.decide_setting.Statement.{statement}
 use Rattle.interpreter.proofs.parameter.decide_setting.Tie as tie
 
--- once the parameter is read: what was read, and what is left to do with it
+-- once the parameter is read: the start, what was read, and what is left to do with it
 abbrev entry : tie.After-read-parameter → tie.Start
 entry p = p .before .before .before .before .before
 

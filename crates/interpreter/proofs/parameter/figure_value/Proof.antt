@@ -1,3 +1,5 @@
+-- A number for a setting, by what the setting's values are: tenths and whole numbers are rounded within the limits (`number-is`), a bool
+-- and a word have no step to be off (`other-is`).
 use mathlib.Core.Path.{_≡_, refl, sym, ap, _∙_}
 use mathlib.Core.Bool.{false}
 use Prim.Native.Nat.{ℕ}

@@ -1,3 +1,5 @@
+-- The search over the words that may be given. Invariant: parameter/Words' `Searching`, what is found from the n-th word on is what is
+-- found among all. Measure: the words that are left.
 use mathlib.Core.Path.{refl, sym, _∙_}
 use Prim.Native.Nat.{_-_}
 use native.Mathlib.Omega.{arith}
@@ -12,6 +14,9 @@ Inv-loop table words text n₀ n = Searching (words .first) (words .count) text 
 abbrev μ-loop : tie.MeasureT-loop
 μ-loop table words text n₀ n = words .count - n
 
+abbrev entry : tie.At-loop Inv-loop μ-loop → tie.Start Inv-loop μ-loop
+entry l = l .before .before .before
+
 loop-holds : tie.Need-loop-holds Inv-loop μ-loop
 loop-holds c = record { room = c .before .before .pre .1; left = refl }
 
@@ -19,7 +24,7 @@ add-is-word : tie.Need-add-is-word Inv-loop μ-loop
 add-is-word c = omega arith
 
 is-word-requires : tie.Need-is-word-requires Inv-loop μ-loop
-is-word-requires c κs = (c .before .before .before .before .before .before .pre .0, omega arith)
+is-word-requires c κs = (entry (c .before .before .before) .pre .0, omega arith)
 
 returns : tie.Need-returns Inv-loop μ-loop
 returns c = search-hit (c .before .before .before .before .before .loop .inv) (omega arith) (sym (c .before .is-word .ensures) ∙ c .if2 .taken)

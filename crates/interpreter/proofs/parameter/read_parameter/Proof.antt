@@ -1,3 +1,5 @@
+-- By the first byte: a letter starts a word, which is searched for; a digit, a sign or a point starts a number, where one may be given;
+-- any other byte is refused.
 use mathlib.Core.Path.{_≡_, sym, _∙_}
 use mathlib.Core.Bool.{false, not, _&&_}
 use borrow.Author.Tests.{not-true, not-false}
@@ -11,14 +13,18 @@ use Rattle.interpreter.proofs.parameter.Words.{starts-word, starts-figu
 use Rattle.interpreter.proofs.parameter.read_parameter.Statement.{statement}
 use Rattle.interpreter.proofs.parameter.read_parameter.Tie as tie
 
--- a first byte that is no letter
+-- once the first byte is read
+abbrev start-of : tie.After-byte-at → tie.Start
+start-of b = b .before .before .before
+
+-- where it is no letter
 abbrev entry : tie.Else1 → tie.Start
-entry l = l .before .before .before .before .before
+entry l = start-of (l .before .before)
 
 no-letter : (l : tie.Else1) → letter (first (entry l .args .text .now)) ≡ false
 no-letter l = sym (rw (l .before .before .byte-at .ensures) at (l .before .is-letter .ensures)) ∙ l .if1 .left
 
--- one that starts a number, which is taken
+-- where it starts a number, which may be given
 figure-is : (f : tie.Else2)
     → let a = entry (f .before .before .before) .args in
     aFigure (a .takes .quantity) (a .text .now) ≡ parameter (taken (a .takes .words)) (a .takes .numbers && not (a .asked)) (a .takes .quantity) (a .text .now)
@@ -39,9 +45,9 @@ find-word-requires c κs = search needs
 
 returns : tie.Need-returns
 returns c =
-    let a = c .before .before .before .before .before .before .args in
-    let b = c .before .before .before .byte-at .ensures in
-    let letter = sym (rw b at (c .before .before .is-letter .ensures)) ∙ c .before .if1 .taken in
+    let b = c .before .before .before in
+    let a = start-of b .args in
+    let letter = sym (rw (b .byte-at .ensures) at (c .before .before .is-letter .ensures)) ∙ c .before .if1 .taken in
     c .find-word .ensures ∙ starts-word (taken (a .takes .words)) (a .takes .numbers && not (a .asked)) (a .takes .quantity) (a .text .now) letter
 
 is-digit-requires : tie.Need-is-digit-requires

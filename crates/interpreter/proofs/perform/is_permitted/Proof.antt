@@ -1,3 +1,5 @@
+-- A setting that is put has to pass the lock and check 8, a reset the lock, and nothing else is barred: each way is a law of
+-- perform/Permitted.
 use mir.Facts.{toZ-ofZ}
 use mir.Val.{SFits}
 use mir.Syntax.{w32}
@@ -9,6 +11,10 @@ use Rattle.interpreter.proofs.perform.is_permitted.Reads as reads
 use Rattle.interpreter.proofs.perform.is_permitted.Lts as lts
 use Rattle.registers.proofs.settings.Settings.conflicts.Reads as conflicts-reads
 use Rattle.registers.proofs.status.Status.is_locked.Reads as is-locked-reads
+
+-- once the change is known to put a setting
+abbrev deed-of : tie.After-change → tie.After-deed
+deed-of x = x .before .before .before
 
 enum-known-deed : tie.Need-enum-known-deed
 enum-known-deed c = search needs
@@ -24,9 +30,10 @@ conflicts-requires c κs = search needs
 
 returns : tie.Need-returns
 returns c =
-    let v = c .before .before .before .change .given .0 in
+    let x = c .before .before .before in
+    let v = x .change .given .0 in
     let h : SFits w32 (v .1 .0) = record { sfits = c .before .before .known-told2 .given .1 .0 .1 } in
-    rw (c .before .before .before .before .before .before .deed .given .1, c .before .before .before .change .given .1, c .before .is-locked .ensures, c .conflicts .ensures, toZ-ofZ {w = w32} h)
+    rw (deed-of x .deed .given .1, x .change .given .1, c .before .is-locked .ensures, c .conflicts .ensures, toZ-ofZ {w = w32} h)
     (put-permitted (v .0) (v .1 .0) _ _)
 
 enum-told : tie.Need-enum-told
@@ -40,7 +47,7 @@ returns-2 c =
     rw (c .before .before .before .before .deed .given .1, c .before .enum-told .given .1, c .is-locked2 .ensures) (reset-permitted _)
 
 returns-3 : tie.Need-returns-3
-returns-3 c = rw (c .before .before .deed .given .1) (free-change (c .before .before .deed .given .0 .0) (c .match2 .keys3) _)
+returns-3 c = let d = c .before .before .deed .given in rw (d .1) (free-change (d .0 .0) (c .match2 .keys3) _)
 
 returns-4 : tie.Need-returns-4
 returns-4 c = free-other (c .before .args .deed) (c .match .keys2) _

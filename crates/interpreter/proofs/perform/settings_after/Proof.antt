@@ -1,3 +1,5 @@
+-- A value is stored and a reset resets, as the settings' own methods promise; every other deed leaves the settings (perform/Laws). In each
+-- way the deed is known at d, and s is the start.
 use native.Mathlib.Omega.{arith}
 use mir.Facts.{toZ-ofZ}
 use mir.Val.{SFits}
@@ -18,11 +20,13 @@ store-requires c κs = tt
 
 returns : tie.Need-returns
 returns c =
-    let v = c .before .before .change .given .0 in
+    let d = c .before .before .before .before .before in
+    let s = d .before .before in
+    let x = c .before .before .change .given in
+    let v = x .0 in
     let h : SFits w32 (v .1 .0) = record { sfits = c .before .known-told2 .given .1 .0 .1 } in
-    let p = rw (c .before .before .before .before .before .deed .given .1, c .before .before .change .given .1) at (c .before .before .before .before .before .before .before .pre) in
-    rw (c .before .before .before .before .before .deed .given .1, c .before .before .change .given .1, c .store .ensures, toZ-ofZ {w = w32} h)
-    (stored-yes (v .0) (v .1 .0) (c .before .before .before .before .before .before .before .args .settings) (p .0 .1) (p .1))
+    let p = rw (d .deed .given .1, x .1) at (s .pre) in
+    rw (d .deed .given .1, x .1, c .store .ensures, toZ-ofZ {w = w32} h) (stored-yes (v .0) (v .1 .0) (s .args .settings) (p .0 .1) (p .1))
 
 enum-told : tie.Need-enum-told
 enum-told c = omega arith
@@ -34,7 +38,10 @@ returns-2 : tie.Need-returns-2
 returns-2 c = rw (c .before .before .before .before .deed .given .1, c .before .enum-told .given .1) (c .reset .ensures)
 
 returns-3 : tie.Need-returns-3
-returns-3 c = rw (c .before .before .deed .given .1) (same-settings (c .before .before .deed .given .0 .0) (c .match2 .keys3) (c .before .before .before .before .args .settings))
+returns-3 c =
+    let d = c .before .before in
+    let s = d .before .before in
+    rw (d .deed .given .1) (same-settings (d .deed .given .0 .0) (c .match2 .keys3) (s .args .settings))
 
 returns-4 : tie.Need-returns-4
 returns-4 c = no-change (c .before .args .deed) (c .match .keys2) (c .before .args .settings)

@@ -1,3 +1,5 @@
+-- What stores, clears or reads changes the status as the status' own method promises; every other deed leaves it (perform/Laws). In each
+-- way the deed is known at d, and s is the start.
 use mathlib.Core.Path.{_≡_, refl}
 use native.Mathlib.Omega.{arith}
 use lib.ListN.{length}
@@ -19,11 +21,17 @@ store-requires c κs = tt
 
 returns : tie.Need-returns
 returns c =
-    let v = c .before .before .change .given .0 in
-    rw (c .before .before .before .before .before .deed .given .1, c .before .before .change .given .1, c .store .ensures) (stored-left (v .0) (v .1 .0) (v .1 .1 .0) (c .before .before .before .before .before .before .before .args .status) (c .before .before .before .before .before .before .before .pre))
+    let d = c .before .before .before .before .before in
+    let s = d .before .before in
+    let x = c .before .before .change .given in
+    let v = x .0 in
+    rw (d .deed .given .1, x .1, c .store .ensures) (stored-left (v .0) (v .1 .0) (v .1 .1 .0) (s .args .status) (s .pre))
 
 returns-2 : tie.Need-returns-2
-returns-2 c = rw (c .before .before .deed .given .1) (same-status (c .before .before .before .before .args .status) (c .before .before .before .before .pre) _ (c .match2 .keys2))
+returns-2 c =
+    let d = c .before .before in
+    let s = d .before .before in
+    rw (d .deed .given .1) (same-status (s .args .status) (s .pre) _ (c .match2 .keys2))
 
 enum-told : tie.Need-enum-told
 enum-told c = c .match .keys2
@@ -57,11 +65,16 @@ read-event-requires : tie.Need-read-event-requires
 read-event-requires c κs = tt
 
 returns-5 : tie.Need-returns-5
-returns-5 c = rw (c .before .before .before .before .before .deed2 .given .1, c .before .before .query .given .1, c .read-event .ensures)
-    (record { registers = λ _ _. refl; trouble = refl; queued = c .before .before .before .before .before .before .before .pre })
+returns-5 c =
+    let d = c .before .before .before .before .before in
+    let s = d .before .before in
+    rw (d .deed2 .given .1, c .before .before .query .given .1, c .read-event .ensures) (record { registers = λ _ _. refl; trouble = refl; queued = s .pre })
 
 returns-6 : tie.Need-returns-6
-returns-6 c = rw (c .before .before .deed2 .given .1) (only-asked (c .before .before .before .before .args .status) (c .before .before .before .before .pre) _ (c .match3 .keys2))
+returns-6 c =
+    let d = c .before .before in
+    let s = d .before .before in
+    rw (d .deed2 .given .1) (only-asked (s .args .status) (s .pre) _ (c .match3 .keys2))
 
 enum-known-deed-3 : tie.Need-enum-known-deed-3
 enum-known-deed-3 c = c .match .keys5
@@ -74,15 +87,19 @@ read-events-requires c κs = tt
 
 returns-7 : tie.Need-returns-7
 unfolding eventsIn eventsRead
-returns-7 c = rw (c .before .before .before .before .deed3 .given .1, c .before .enum-told3 .given .1, c .read-events .ensures)
-    (record { registers = λ _ _. refl; trouble = refl; queued = c .before .before .before .before .before .before .pre })
+returns-7 c =
+    let d = c .before .before .before .before in
+    let s = d .before .before in
+    rw (d .deed3 .given .1, c .before .enum-told3 .given .1, c .read-events .ensures) (record { registers = λ _ _. refl; trouble = refl; queued = s .pre })
 
 enum-told-4 : tie.Need-enum-told-4
 enum-told-4 c = omega arith
 
 returns-8 : tie.Need-returns-8
-returns-8 c = rw (c .before .before .before .deed3 .given .1, c .enum-told4 .given .1)
-    (record { registers = λ _ _. refl; trouble = refl; queued = c .before .before .before .before .before .pre })
+returns-8 c =
+    let d = c .before .before .before in
+    let s = d .before .before in
+    rw (d .deed3 .given .1, c .enum-told4 .given .1) (record { registers = λ _ _. refl; trouble = refl; queued = s .pre })
 
 enum-told-5 : tie.Need-enum-told-5
 enum-told-5 c = omega arith
@@ -92,14 +109,12 @@ read-oldest-requires c κs = tt
 
 returns-9 : tie.Need-returns-9
 returns-9 c =
-    let t = c .before .before .before .before .before .before .args .status in
+    let d = c .before .before .before .before in
+    let s = d .before .before in
+    let t = s .args .status in
     let long : length (t .errors) ≡ 16 = search needs in
-    rw (c .before .before .before .before .deed3 .given .1, c .before .enum-told5 .given .1, c .read-oldest .ensures)
-    (record {
-      registers = λ _ _. oldest-registers t long (c .before .before .before .before .before .before .pre);
-      trouble = oldest-trouble t long (c .before .before .before .before .before .before .pre);
-      queued = oldest-queued t long (c .before .before .before .before .before .before .pre);
-    })
+    rw (d .deed3 .given .1, c .before .enum-told5 .given .1, c .read-oldest .ensures)
+    (record { registers = λ _ _. oldest-registers t long (s .pre); trouble = oldest-trouble t long (s .pre); queued = oldest-queued t long (s .pre) })
 
 pub status-after-spec : {M : Type 1} → statement M
 status-after-spec =

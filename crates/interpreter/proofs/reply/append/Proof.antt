@@ -1,3 +1,5 @@
+-- The reply is written after the answers so far and their separator. Three ways: there is nothing to say, it leaves no room for the
+-- newline, or it stands whole. Each is a law of reply/Answers.
 use mathlib.Core.Path.{_∙_}
 use Prim.Native.Nat.{_≤_}
 use Prim.Native.Char.{code}
@@ -9,9 +11,11 @@ use Rattle.interpreter.proofs.reply.Answers.{start, start-room, says, g
 use Rattle.interpreter.proofs.reply.append.Statement.{statement}
 use Rattle.interpreter.proofs.reply.append.Tie as tie
 
+-- the part of the buffer that it is written to
 room-at : (s : tie.Start) → start (s .args .answered) ≤ length (set (s .args .out .now) (s .args .answered) (code ";"))
 room-at s = rw length-set (rw (s .pre .1) (start-room (s .args .answered) (s .pre .0)))
 
+-- once it is written
 abbrev entry : tie.After-out → tie.Start
 entry o = o .before .before .before .before .before
 

@@ -1,3 +1,4 @@
+-- Each query's reply has the text that the definition answers: computed where it is fixed, and otherwise what the callee promises.
 use mathlib.Core.Path.{refl}
 use mir.Syntax.{w32}
 use mir.Val.{SFits}

@@ -1,3 +1,4 @@
+-- Each reply is written by one function, which promises the text that the definition gives it.
 use mathlib.Core.Path.{refl}
 use native.Mathlib.Omega.{arith}
 use mir.Syntax.{w32}

@@ -1,5 +1,8 @@
+-- The search over the rows and, in one, over its nodes. Outer invariant: rows/Search's `Seeking`, no row before this one fits; measure:
+-- the rows that are left. Inner invariant: `Trying`, the nodes before this one are taken or left out; measure: the nodes that are left.
+use mathlib.Core.Path.{_≡_}
 use Prim.Native.Nat.{_-_}
-use lib.ListN.{take, drop, length-take}
+use lib.ListN.{length, take, drop, length-take}
 use Rattle.interpreter.specs.RowsParts.{rowCount}
 use Rattle.interpreter.proofs.Lists.{fewer}
 use Rattle.interpreter.proofs.rows.Rows.{nodes-few, node-known, unformed, is-formed}
@@ -20,6 +23,25 @@ Inv-rows table names first count star asked bit next₀ next = Seeking star (dro
 abbrev μ-rows : tie.MeasureT-rows
 μ-rows table names first count star asked bit next₀ next = rowCount - next
 
+-- at a row: once the form's bit is known, and the start
+abbrev bit-of : tie.In-rows Inv-loop μ-loop Inv-rows μ-rows → tie.After-form-bit Inv-loop μ-loop Inv-rows μ-rows
+bit-of i = i .before .before .before
+
+abbrev entry : tie.In-rows Inv-loop μ-loop Inv-rows μ-rows → tie.Start Inv-loop μ-loop Inv-rows μ-rows
+entry i = bit-of i .before .before .before
+
+-- at a row's node
+abbrev row-of : tie.At-loop Inv-loop μ-loop Inv-rows μ-rows → tie.In-rows Inv-loop μ-loop Inv-rows μ-rows
+row-of l = l .before .before .before .before
+
+-- so many names there are
+counted : (i : tie.In-rows Inv-loop μ-loop Inv-rows μ-rows) → let a = entry i .args in length (take (a .count) (a .names .now)) ≡ a .count
+counted i =
+    let a = entry i .args in
+    let t = length-take (a .count) (a .names .now) in
+    let p = entry i .pre in
+    omega arith
+
 form-bit-requires : tie.Need-form-bit-requires Inv-loop μ-loop Inv-rows μ-rows
 form-bit-requires c κs = tt
 
@@ -33,46 +55,50 @@ add-next : tie.Need-add-next Inv-loop μ-loop Inv-rows μ-rows
 add-next c = omega arith
 
 row-cell-requires : tie.Need-row-cell-requires Inv-loop μ-loop Inv-rows μ-rows
-row-cell-requires c κs = (c .before .before .before .before .before .before .pre .0, c .rows-test .taken, omega arith)
+row-cell-requires c κs = (entry c .pre .0, c .rows-test .taken, omega arith)
 
 rows-less : tie.Need-rows-less Inv-loop μ-loop Inv-rows μ-rows
 rows-less c = fewer (c .before .before .rows-test .taken)
 
 rows-again : tie.Need-rows-again Inv-loop μ-loop Inv-rows μ-rows
 rows-again c =
-    let f = rw (c .before .before .before .before .before .form-bit .ensures) at (unformed _ _ _ (c .before .row-cell .ensures) (c .if1 .taken)) in
-    skip-form (c .before .before .before .rows .inv) (c .before .before .rows-test .taken) f
+    let i = c .before .before in
+    let f = rw (bit-of i .form-bit .ensures) at (unformed _ _ _ (c .before .row-cell .ensures) (c .if1 .taken)) in
+    skip-form (i .before .rows .inv) (i .rows-test .taken) f
 
 row-cell-requires-2 : tie.Need-row-cell-requires-2 Inv-loop μ-loop Inv-rows μ-rows
-row-cell-requires-2 c κs = (c .before .before .before .before .before .before .before .before .pre .0, c .before .before .rows-test .taken, omega arith)
+row-cell-requires-2 c κs = let i = c .before .before in (entry i .pre .0, i .rows-test .taken, omega arith)
 
 cast-n : tie.Need-cast-n Inv-loop μ-loop Inv-rows μ-rows
 cast-n c = omega arith
 
 loop-holds : tie.Need-loop-holds Inv-loop μ-loop Inv-rows μ-rows
 loop-holds c =
-    let s = c .before .before .before .before .before .before .before .before .before in
-    let f = rw (c .before .before .before .before .before .before .form-bit .ensures) at (is-formed _ _ _ (c .before .before .row-cell .ensures) (c .before .if1 .left)) in
-    let t = length-take (s .args .count) (s .args .names .now) in
-    let p = s .pre in
-    try-start (c .before .before .before .rows-test .taken) (c .before .before .before .before .rows .inv) f (c .row-cell2 .ensures) (omega arith)
+    let i = c .before .before .before in
+    let f = rw (bit-of i .form-bit .ensures) at (is-formed _ _ _ (c .before .before .row-cell .ensures) (c .before .if1 .left)) in
+    let k = counted i in
+    let p = entry i .pre in
+    try-start (i .rows-test .taken) (i .before .rows .inv) f (c .row-cell2 .ensures) (omega arith)
 
 add-row-cell : tie.Need-add-row-cell Inv-loop μ-loop Inv-rows μ-rows
 add-row-cell c = let w = c .before .loop .inv in let f = nodes-few _ (w .known) in let k = w .count in omega arith
 
 row-cell-requires-3 : tie.Need-row-cell-requires-3 Inv-loop μ-loop Inv-rows μ-rows
-row-cell-requires-3 c κs = let w = c .before .loop .inv in let f = nodes-few _ (w .known) in let k = w .count in (c .before .before .before .before .before .before .before .before .before .before .before .pre .0, w .known, omega arith)
+row-cell-requires-3 c κs =
+    let w = c .before .loop .inv in
+    let f = nodes-few _ (w .known) in
+    let k = w .count in
+    (entry (row-of (c .before)) .pre .0, w .known, omega arith)
 
 take-node-requires : tie.Need-take-node-requires Inv-loop μ-loop Inv-rows μ-rows
 take-node-requires c κs =
-    let l = c .before .before .loop in
-    let s = c .before .before .before .before .before .before .before .before .before .before .before .before in
-    let w = l .inv in
+    let l = c .before .before in
+    let w = l .loop .inv in
     let n = w .count in
-    let t = length-take (s .args .count) (s .args .names .now) in
-    let k = node-known _ (w .known) (l .passed) (omega arith) in
+    let t = counted (row-of l) in
+    let k = node-known _ (w .known) (l .loop .passed) (omega arith) in
     let i = w .within in
-    let p = s .pre in
+    let p = entry (row-of l) .pre in
     (p .0, p .2, omega arith, rw (c .row-cell3 .ensures) k)
 
 enum-known-walk : tie.Need-enum-known-walk Inv-loop μ-loop Inv-rows μ-rows
@@ -82,7 +108,7 @@ enum-told : tie.Need-enum-told Inv-loop μ-loop Inv-rows μ-rows
 enum-told c = c .match .keys2
 
 rows-less-2 : tie.Need-rows-less-2 Inv-loop μ-loop Inv-rows μ-rows
-rows-less-2 c = fewer (c .before .before .before .before .before .before .before .before .before .rows-test .taken)
+rows-less-2 c = fewer (row-of (c .before .before .before .before .before) .rows-test .taken)
 
 rows-again-2 : tie.Need-rows-again-2 Inv-loop μ-loop Inv-rows μ-rows
 rows-again-2 c =
@@ -105,23 +131,21 @@ loop-again c =
     try-on (l .before .loop .inv) (l .loop-test .taken) (x .result) (x .ensures) (k .result) (k .ensures) (c .before .walk .given .1)
 
 rows-less-3 : tie.Need-rows-less-3 Inv-loop μ-loop Inv-rows μ-rows
-rows-less-3 c = fewer (c .before .before .before .before .before .before .rows-test .taken)
+rows-less-3 c = fewer (row-of (c .before .before) .rows-test .taken)
 
 rows-again-3 : tie.Need-rows-again-3 Inv-loop μ-loop Inv-rows μ-rows
 rows-again-3 c =
-    let s = c .before .before .before .before .before .before .before .before .before .before .before .before in
-    let p = s .pre in
-    let t = length-take (s .args .count) (s .args .names .now) in
+    let l = c .before .before in
+    let t = counted (row-of l) in
     let k = c .if2 .taken in
-    try-left (c .before .before .loop .inv) (c .before .loop-test .left) (omega arith)
+    try-left (l .loop .inv) (c .before .loop-test .left) (omega arith)
 
 returns : tie.Need-returns Inv-loop μ-loop Inv-rows μ-rows
 returns c =
-    let s = c .before .before .before .before .before .before .before .before .before .before .before .before in
-    let p = s .pre in
-    let t = length-take (s .args .count) (s .args .names .now) in
+    let l = c .before .before in
+    let t = counted (row-of l) in
     let k = c .if2 .left in
-    try-done (c .before .before .loop .inv) (c .before .loop-test .left) (omega arith)
+    try-done (l .loop .inv) (c .before .loop-test .left) (omega arith)
 
 returns-2 : tie.Need-returns-2 Inv-loop μ-loop Inv-rows μ-rows
 returns-2 c = seek-end (c .before .rows .inv) (c .rows-test .left)

@@ -1,3 +1,5 @@
+-- Invariant: rows/Start's `Marking`, going on from the letters so far gives the mark of all names, and they are below 256. Measure: the
+-- names that are left.
 use Prim.Native.Nat.{_-_}
 use lib.ListN.{take}
 use Rattle.interpreter.proofs.Lists.{fewer}
@@ -38,10 +40,14 @@ loop-less : tie.Need-loop-less Inv-loop μ-loop
 loop-less c = fewer (c .before .loop-test .taken)
 
 loop-again : tie.Need-loop-again Inv-loop μ-loop
-loop-again c = marking-on (c .before .before .before .args .names .now) (c .before .before .before .pre) (c .before .before .loop .inv) (c .before .loop-test .taken)
+loop-again c =
+    let s = c .before .before .before in
+    marking-on (s .args .names .now) (s .pre) (c .before .before .loop .inv) (c .before .loop-test .taken)
 
 returns : tie.Need-returns Inv-loop μ-loop
-returns c = marking-end (c .before .before .args .names .now) (c .before .before .pre) (c .before .loop .inv) (c .loop-test .left)
+returns c =
+    let s = c .before .before in
+    marking-end (s .args .names .now) (s .pre) (c .before .loop .inv) (c .loop-test .left)
 
 pub mark-spec : {M : Type 1} → statement M
 mark-spec =

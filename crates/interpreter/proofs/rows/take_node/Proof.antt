@@ -1,8 +1,14 @@
+-- Three ways: no name is left, a name spells the node, or it doesn't. In the first and the last the node is left out, if it is optional.
+-- Each is a law of rows/Walks.
 use Rattle.interpreter.specs.RowsParts.{wordIn}
 use Rattle.interpreter.proofs.rows.Walks.{node-end, node-on, node-past}
 use borrow.Author.Needs.{needs}
 use Rattle.interpreter.proofs.rows.take_node.Statement.{statement}
 use Rattle.interpreter.proofs.rows.take_node.Tie as tie
+
+-- where there is a name
+abbrev entry : tie.Else1 → tie.Start
+entry e = e .before .before .before
 
 leave-out-requires : tie.Need-leave-out-requires
 leave-out-requires c κs = search needs
@@ -24,7 +30,7 @@ cast-spells c = search needs
 
 spells-requires : tie.Need-spells-requires
 unfolding wordIn
-spells-requires c κs = let p = c .before .before .before .before .pre in (p .0, p .3)
+spells-requires c κs = let p = entry (c .before) .pre in (p .0, p .3)
 
 add-t13 : tie.Need-add-t13
 add-t13 c = search needs
@@ -32,9 +38,9 @@ add-t13 c = search needs
 returns-2 : tie.Need-returns-2
 unfolding wordIn
 returns-2 c =
-    let s = c .before .before .before .before .before .before in
-    let a = s .args in
-    node-on (a .node) (a .names .now) (a .count) (a .at) (s .pre .1) (c .before .before .before .if1 .left) (c .before .spells .ensures) (c .if2 .taken)
+    let e = c .before .before .before in
+    let a = entry e .args in
+    node-on (a .node) (a .names .now) (a .count) (a .at) (entry e .pre .1) (e .if1 .left) (c .before .spells .ensures) (c .if2 .taken)
 
 leave-out-requires-2 : tie.Need-leave-out-requires-2
 leave-out-requires-2 c κs = search needs
@@ -42,9 +48,9 @@ leave-out-requires-2 c κs = search needs
 returns-3 : tie.Need-returns-3
 unfolding wordIn
 returns-3 c =
-    let s = c .before .before .before .before .before .before .before in
-    let a = s .args in
-    rw (c .leave-out2 .ensures) (node-past (a .node) (a .names .now) (a .count) (a .at) (s .pre .1) (c .before .before .before .before .if1 .left) (c .before .before .spells .ensures) (c .before .if2 .left))
+    let e = c .before .before .before .before in
+    let a = entry e .args in
+    rw (c .leave-out2 .ensures) (node-past (a .node) (a .names .now) (a .count) (a .at) (entry e .pre .1) (e .if1 .left) (c .before .before .spells .ensures) (c .before .if2 .left))
 
 pub take-node-spec : {M : Type 1} → statement M
 take-node-spec =

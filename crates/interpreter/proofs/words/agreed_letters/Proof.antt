@@ -1,3 +1,5 @@
+-- The walk ends at the word's end, at the first byte that differs, or at the text's end. Invariant: words/Letters' `Agreeing`, the first
+-- n bytes are the word's letters and the rest is to be compared. Measure: the bytes that are left.
 use mathlib.Core.Path.{sym, _∙_}
 use Prim.Native.Nat.{_-_}
 use native.Mathlib.Omega.{arith}
@@ -13,6 +15,10 @@ Inv-loop table text word long n₀ n = Agreeing text word n
 
 abbrev μ-loop : tie.MeasureT-loop
 μ-loop table text word long n₀ n = length text - n
+
+-- once a byte is in capitals
+abbrev turn : tie.After-in-capitals Inv-loop μ-loop → tie.At-loop Inv-loop μ-loop
+turn k = k .before .before .before .before
 
 word-cell-requires : tie.Need-word-cell-requires Inv-loop μ-loop
 word-cell-requires c κs = (c .before .before .pre .0, c .before .before .pre .1, omega arith)
@@ -40,8 +46,8 @@ word-cell-requires-2 c κs = search needs
 
 returns-2 : tie.Need-returns-2 Inv-loop μ-loop
 returns-2 c =
-    let s = c .before .before .before .before .before .before .loop .inv in
-    agreeing-miss s (omega arith) (omega arith) (λ e. c .if2 .taken (c .before .before .in-capitals .ensures ∙ e ∙ sym (c .before .word-cell2 .ensures)))
+    let k = c .before .before in
+    agreeing-miss (turn k .loop .inv) (omega arith) (omega arith) (λ e. c .if2 .taken (k .in-capitals .ensures ∙ e ∙ sym (c .before .word-cell2 .ensures)))
 
 add-n : tie.Need-add-n Inv-loop μ-loop
 add-n c = omega arith
@@ -51,8 +57,8 @@ loop-less c = fewer (c .before .before .before .before .before .loop-test .taken
 
 loop-again : tie.Need-loop-again Inv-loop μ-loop
 loop-again c =
-    let s = c .before .before .before .before .before .before .loop .inv in
-    agreeing-on s (omega arith) (omega arith) (sym (c .before .before .in-capitals .ensures) ∙ c .if2 .left ∙ c .before .word-cell2 .ensures)
+    let k = c .before .before in
+    agreeing-on (turn k .loop .inv) (omega arith) (omega arith) (sym (k .in-capitals .ensures) ∙ c .if2 .left ∙ c .before .word-cell2 .ensures)
 
 returns-3 : tie.Need-returns-3 Inv-loop μ-loop
 returns-3 c = agreeing-end (c .before .loop .inv) (c .loop-test .left)

@@ -1,12 +1,32 @@
+-- One way for each refusal, and one where the answer is copied: each is `happens-on` with a law of state/Events, which says what the
+-- box does then.
 use mathlib.Core.Path.{_≡_, refl}
-use Prim.Native.Nat.{_+_, zero-le}
+use Prim.Native.Nat.{_+_, _≤_, zero-le}
 use native.Mathlib.Omega.{arith}
+use lib.ListN.{length}
 use Rattle.registers.proofs.status.Meaning.{raised-queued}
 use Rattle.interpreter.specs.Events.{take as takes}
 use Rattle.interpreter.proofs.state.Records.{could, short-from}
 use Rattle.interpreter.proofs.state.Events.{refused-4, happens-on, withStatus, withoutAnswer, take-none, take-short, take-all}
 use Rattle.interpreter.proofs.state.State.take.Statement.{statement}
 use Rattle.interpreter.proofs.state.State.take.Tie as tie
+
+-- where the state could be the box's
+abbrev entry : tie.Else1 → tie.Start
+entry e = e .before .before .before
+
+-- where the buffer has room besides
+abbrev admitted : tie.Else3 → tie.Else1
+admitted r = r .before .before
+
+-- what waits is of the answer's bytes
+within : (e : tie.Else1) → let s = entry e .args .self in s .waiting ≤ length (s .answer)
+within e =
+    let s = entry e .args .self in
+    let w = e .before .possible .ensures in
+    let few = short-from s (could s _ w (e .if1 .left)) .waiting in
+    let wide = w .answer in
+    omega arith
 
 possible-requires : tie.Need-possible-requires
 possible-requires c κs = tt
@@ -21,35 +41,35 @@ raise-requires c κs = tt
 
 returns-2 : tie.Need-returns-2
 returns-2 c =
-    let s = c .before .before .before .before .before .args .self in
-    let buffer = c .before .before .before .before .before .args .buffer .now in
-    let w = c .before .before .before .possible .ensures in
+    let e = c .before .before in
+    let s = entry e .args .self in
+    let buffer = entry e .args .buffer .now in
+    let w = e .before .possible .ensures in
     let is = c .raise .ensures in
     let wide = w .answer in
-    happens-on s (takes buffer) refl _ w (c .before .before .if1 .left) _ (withStatus (c .raise .result) s)
+    happens-on s (takes buffer) refl _ w (e .if1 .left) _ (withStatus (c .raise .result) s)
     (λ k. record { queued = rw is (raised-queued 420 (s .status) (w .errors) (k .queued)); filled = k .filled; waiting = k .waiting })
     (take-none s (omega arith) buffer (c .raise .result) (w .errors) is (c .before .if2 .taken))
 
 returns-3 : tie.Need-returns-3
 returns-3 c =
-    let s = c .before .before .before .before .before .args .self in
-    let buffer = c .before .before .before .before .before .args .buffer .now in
-    let w = c .before .before .before .possible .ensures in
-    let few = short-from s (could s _ w (c .before .before .if1 .left)) .waiting in
+    let e = c .before .before in
+    let s = entry e .args .self in
+    let buffer = entry e .args .buffer .now in
+    let w = e .before .possible .ensures in
     let wide = w .answer in
-    happens-on s (takes buffer) refl _ w (c .before .before .if1 .left) _ s (λ k. k)
-    (take-short s (omega arith) buffer (c .before .if2 .left) (omega arith) (c .if3 .taken))
+    happens-on s (takes buffer) refl _ w (e .if1 .left) _ s (λ k. k)
+    (take-short s (omega arith) buffer (c .before .if2 .left) (within e) (c .if3 .taken))
 
 slice-aggregate-paste : tie.Need-slice-aggregate-paste
 slice-aggregate-paste c = omega arith
 
 paste-requires : tie.Need-paste-requires
 paste-requires c κs =
-    let s = c .before .before .before .before .before .before .before .before .args .self in
-    let w = c .before .before .before .before .before .before .possible .ensures in
-    let few = short-from s (could s _ w (c .before .before .before .before .before .if1 .left)) .waiting in
-    let wide = w .answer in
-    let fits = c .before .before .before .if3 .left in
+    let r = c .before .before .before in
+    let wide = admitted r .before .possible .ensures .answer in
+    let few = within (admitted r) in
+    let fits = r .if3 .left in
     (omega arith, omega arith)
 
 same-length : tie.Need-same-length
@@ -57,15 +77,17 @@ same-length c = c .before .before .paste .kept .1 .1 .0
 
 returns-4 : tie.Need-returns-4
 returns-4 c =
-    let s = c .before .before .before .before .before .before .before .before .before .before .before .args .self in
-    let buffer = c .before .before .before .before .before .before .before .before .before .before .before .args .buffer .now in
-    let w = c .before .before .before .before .before .before .before .before .before .possible .ensures in
-    let few = short-from s (could s _ w (c .before .before .before .before .before .before .before .before .if1 .left)) .waiting in
+    let p = c .before .before in
+    let r = p .before .before .before .before in
+    let e = admitted r in
+    let s = entry e .args .self in
+    let buffer = entry e .args .buffer .now in
+    let w = e .before .possible .ensures in
     let wide = w .answer in
-    let all = take-all s (omega arith) buffer (c .before .before .before .before .before .before .before .if2 .left) (omega arith) (c .before .before .before .before .before .before .if3 .left) in
-    let laid = c .before .before .paste .ensures in
+    let all = take-all s (omega arith) buffer (r .before .if2 .left) (within e) (r .if3 .left) in
+    let laid = p .paste .ensures in
     let z : 0 + s .waiting ≡ s .waiting = omega arith in
-    happens-on s (takes buffer) refl _ w (c .before .before .before .before .before .before .before .before .if1 .left) _ (withoutAnswer s) (λ k. record { queued = k .queued; filled = k .filled; waiting = zero-le })
+    happens-on s (takes buffer) refl _ w (e .if1 .left) _ (withoutAnswer s) (λ k. record { queued = k .queued; filled = k .filled; waiting = zero-le })
     (rw (laid .0, laid .1, z) all)
 
 pub take-spec : {M : Type 1} → statement M
