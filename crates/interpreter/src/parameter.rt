@@ -202,9 +202,11 @@ fn obey_query(query: Query) -> Decision
 }
 
 // Decides on a value of a setting: the limits let it pass or not, and so does exam mode. A query asks for it.
-fn decide_value(settings: Settings, row: usize, asked: bool, fit: Fit, side: Side) -> Decision
-    ensures { λ r. ⌜ meantDeed r ≡ putFit settings row asked fit side ⌝ }
+fn decide_value(settings: Settings, row: usize, asked: bool, rounded: Rounded) -> Decision
+    ensures { λ r. ⌜ meantDeed r ≡ putFit settings row asked (rounded .fit) (rounded .side) ⌝ }
 {
+    let fit = rounded.fit;
+    let side = rounded.side;
     match fit {
         Fit::Outside => return Decision::Refused(Error::DataOutOfRange),
         Fit::Within(value) => {
@@ -256,14 +258,14 @@ pub(crate) fn decide_setting(
     match parameter {
         Parameter::Refused(e) => return Decision::Refused(e),
         Parameter::Word(word) => {
-            let value = word_value(settings, row, word);
-            return decide_value(settings, row, asked, Fit::Within(value), Side::On);
+            let within = Rounded {
+                fit: Fit::Within(word_value(settings, row, word)),
+                side: Side::On,
+            };
+            return decide_value(settings, row, asked, within);
         }
         Parameter::Figure(d) => {
-            let rounded = figure_value(settings, row, d);
-            let fit = rounded.fit;
-            let side = rounded.side;
-            return decide_value(settings, row, asked, fit, side);
+            return decide_value(settings, row, asked, figure_value(settings, row, d));
         }
     }
 }
