@@ -10,15 +10,6 @@ use borrow.Author.Needs.{needs}
 use Rattle.interpreter.proofs.perform.status_after.Statement.{statement}
 use Rattle.interpreter.proofs.perform.status_after.Tie as tie
 
-enum-known-deed : tie.Need-enum-known-deed
-enum-known-deed c = c .match .keys1
-
-enum-known-change : tie.Need-enum-known-change
-enum-known-change c = omega arith
-
-store-requires : tie.Need-store-requires
-store-requires c κs = tt
-
 returns : tie.Need-returns
 returns c =
     let d = c .before .before .before .before .before in
@@ -33,36 +24,15 @@ returns-2 c =
     let s = d .before .before in
     rw (d .deed .given .1) (same-status (s .args .status) (s .pre) _ (c .match2 .keys2))
 
-enum-told : tie.Need-enum-told
-enum-told c = c .match .keys2
-
-complete-requires : tie.Need-complete-requires
-complete-requires c κs = tt
-
 returns-3 : tie.Need-returns-3
 unfolding completed eventsIn
 returns-3 c = rw (c .before .enum-told .given .1, c .complete .ensures)
     (record { registers = λ _ _. refl; trouble = refl; queued = c .before .before .before .pre })
 
-enum-told-2 : tie.Need-enum-told-2
-enum-told-2 c = c .match .keys3
-
-clear-requires : tie.Need-clear-requires
-clear-requires c κs = tt
-
 returns-4 : tie.Need-returns-4
 unfolding clearedIn
 returns-4 c = rw (c .before .enum-told2 .given .1, c .clear .ensures)
     (record { registers = λ _ _. refl; trouble = refl; queued = omega arith })
-
-enum-known-deed-2 : tie.Need-enum-known-deed-2
-enum-known-deed-2 c = c .match .keys4
-
-enum-known-query : tie.Need-enum-known-query
-enum-known-query c = omega arith
-
-read-event-requires : tie.Need-read-event-requires
-read-event-requires c κs = tt
 
 returns-5 : tie.Need-returns-5
 returns-5 c =
@@ -76,15 +46,6 @@ returns-6 c =
     let s = d .before .before in
     rw (d .deed2 .given .1) (only-asked (s .args .status) (s .pre) _ (c .match3 .keys2))
 
-enum-known-deed-3 : tie.Need-enum-known-deed-3
-enum-known-deed-3 c = c .match .keys5
-
-enum-told-3 : tie.Need-enum-told-3
-enum-told-3 c = omega arith
-
-read-events-requires : tie.Need-read-events-requires
-read-events-requires c κs = tt
-
 returns-7 : tie.Need-returns-7
 unfolding eventsIn eventsRead
 returns-7 c =
@@ -92,20 +53,11 @@ returns-7 c =
     let s = d .before .before in
     rw (d .deed3 .given .1, c .before .enum-told3 .given .1, c .read-events .ensures) (record { registers = λ _ _. refl; trouble = refl; queued = s .pre })
 
-enum-told-4 : tie.Need-enum-told-4
-enum-told-4 c = omega arith
-
 returns-8 : tie.Need-returns-8
 returns-8 c =
     let d = c .before .before .before in
     let s = d .before .before in
     rw (d .deed3 .given .1, c .enum-told4 .given .1) (record { registers = λ _ _. refl; trouble = refl; queued = s .pre })
-
-enum-told-5 : tie.Need-enum-told-5
-enum-told-5 c = omega arith
-
-read-oldest-requires : tie.Need-read-oldest-requires
-read-oldest-requires c κs = tt
 
 returns-9 : tie.Need-returns-9
 returns-9 c =
@@ -120,28 +72,19 @@ pub status-after-spec : {M : Type 1} → statement M
 status-after-spec =
     tie.close
     (tie.spec
-    enum-known-deed
-    enum-known-change
-    store-requires
+    (λ c. c .match .keys1) (λ c. omega arith) (λ c κs. tt)
     returns
     returns-2
-    enum-told
-    complete-requires
+    (λ c. c .match .keys2) (λ c κs. tt)
     returns-3
-    enum-told-2
-    clear-requires
+    (λ c. c .match .keys3) (λ c κs. tt)
     returns-4
-    enum-known-deed-2
-    enum-known-query
-    read-event-requires
+    (λ c. c .match .keys4) (λ c. omega arith) (λ c κs. tt)
     returns-5
     returns-6
-    enum-known-deed-3
-    enum-told-3
-    read-events-requires
+    (λ c. c .match .keys5) (λ c. omega arith) (λ c κs. tt)
     returns-7
-    enum-told-4
+    (λ c. omega arith)
     returns-8
-    enum-told-5
-    read-oldest-requires
+    (λ c. omega arith) (λ c κs. tt)
     returns-9)

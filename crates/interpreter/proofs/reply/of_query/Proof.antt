@@ -3,55 +3,12 @@ use mathlib.Core.Path.{refl}
 use mir.Syntax.{w32}
 use mir.Val.{SFits}
 use mir.Facts.{toZ-ofZ}
-use borrow.Author.Needs.{needs}
 use Rattle.registers.specs.Text.{if_then_else_, bytes}
 use Rattle.registers.specs.Answer.{inPlaces, decimal}
 use Rattle.interpreter.specs.Reply.{replyTo}
 use Rattle.interpreter.specs.ReplyParts.{textOf}
 use Rattle.interpreter.proofs.reply.of_query.Statement.{statement}
 use Rattle.interpreter.proofs.reply.of_query.Tie as tie
-
-enum-told : tie.Need-enum-told
-enum-told c = c .match .keys1
-
-enum-told-2 : tie.Need-enum-told-2
-enum-told-2 c = c .match .keys2
-
-enum-told-3 : tie.Need-enum-told-3
-enum-told-3 c = c .match .keys3
-
-enum-known-query : tie.Need-enum-known-query
-enum-known-query c = c .match .keys4
-
-of-value-requires : tie.Need-of-value-requires
-of-value-requires c κs = tt
-
-enum-known-query-2 : tie.Need-enum-known-query-2
-enum-known-query-2 c = c .match .keys5
-
-value-requires : tie.Need-value-requires
-value-requires c κs = tt
-
-of-value-requires-2 : tie.Need-of-value-requires-2
-of-value-requires-2 c κs = tt
-
-enum-known-query-3 : tie.Need-enum-known-query-3
-enum-known-query-3 c = c .match .keys6
-
-register-requires : tie.Need-register-requires
-register-requires c κs = tt
-
-enum-known-query-4 : tie.Need-enum-known-query-4
-enum-known-query-4 c = c .match .keys7
-
-group-requires : tie.Need-group-requires
-group-requires c κs = tt
-
-enum-known-query-5 : tie.Need-enum-known-query-5
-enum-known-query-5 c = c .match .keys8
-
-group-requires-2 : tie.Need-group-requires-2
-group-requires-2 c κs = tt
 
 returns : tie.Need-returns
 unfolding textOf replyTo
@@ -94,20 +51,14 @@ pub of-query-spec : {M : Type 1} → statement M
 of-query-spec =
     tie.close
     (tie.spec
-    enum-told
-    enum-told-2
-    enum-told-3
-    enum-known-query
-    of-value-requires
-    enum-known-query-2
-    value-requires
-    of-value-requires-2
-    enum-known-query-3
-    register-requires
-    enum-known-query-4
-    group-requires
-    enum-known-query-5
-    group-requires-2
+    (λ c. c .match .keys1)
+    (λ c. c .match .keys2)
+    (λ c. c .match .keys3)
+    (λ c. c .match .keys4) (λ c κs. tt)
+    (λ c. c .match .keys5) (λ c κs. tt) (λ c κs. tt)
+    (λ c. c .match .keys6) (λ c κs. tt)
+    (λ c. c .match .keys7) (λ c κs. tt)
+    (λ c. c .match .keys8) (λ c κs. tt)
     returns
     returns-2
     returns-3

@@ -42,17 +42,11 @@ counted i =
     let p = entry i .pre in
     omega arith
 
-form-bit-requires : tie.Need-form-bit-requires Inv-loop μ-loop Inv-rows μ-rows
-form-bit-requires c κs = tt
-
 start-row-requires : tie.Need-start-row-requires Inv-loop μ-loop Inv-rows μ-rows
 start-row-requires c κs = let p = c .before .before .before .pre in (p .0, p .2)
 
 rows-holds : tie.Need-rows-holds Inv-loop μ-loop Inv-rows μ-rows
 rows-holds c = seek-start (c .start-row .ensures)
-
-add-next : tie.Need-add-next Inv-loop μ-loop Inv-rows μ-rows
-add-next c = omega arith
 
 row-cell-requires : tie.Need-row-cell-requires Inv-loop μ-loop Inv-rows μ-rows
 row-cell-requires c κs = (entry c .pre .0, c .rows-test .taken, omega arith)
@@ -68,9 +62,6 @@ rows-again c =
 
 row-cell-requires-2 : tie.Need-row-cell-requires-2 Inv-loop μ-loop Inv-rows μ-rows
 row-cell-requires-2 c κs = let i = c .before .before in (entry i .pre .0, i .rows-test .taken, omega arith)
-
-cast-n : tie.Need-cast-n Inv-loop μ-loop Inv-rows μ-rows
-cast-n c = omega arith
 
 loop-holds : tie.Need-loop-holds Inv-loop μ-loop Inv-rows μ-rows
 loop-holds c =
@@ -101,12 +92,6 @@ take-node-requires c κs =
     let p = entry (row-of l) .pre in
     (p .0, p .2, omega arith, rw (c .row-cell3 .ensures) k)
 
-enum-known-walk : tie.Need-enum-known-walk Inv-loop μ-loop Inv-rows μ-rows
-enum-known-walk c = c .match .keys1
-
-enum-told : tie.Need-enum-told Inv-loop μ-loop Inv-rows μ-rows
-enum-told c = c .match .keys2
-
 rows-less-2 : tie.Need-rows-less-2 Inv-loop μ-loop Inv-rows μ-rows
 rows-less-2 c = fewer (row-of (c .before .before .before .before .before) .rows-test .taken)
 
@@ -116,9 +101,6 @@ rows-again-2 c =
     let x = c .before .before .before .row-cell3 in
     let k = c .before .before .take-node in
     try-missed (l .before .loop .inv) (l .loop-test .taken) (x .result) (x .ensures) (k .result) (k .ensures) (c .enum-told .given .1)
-
-add-passed : tie.Need-add-passed Inv-loop μ-loop Inv-rows μ-rows
-add-passed c = omega arith
 
 loop-less : tie.Need-loop-less Inv-loop μ-loop Inv-rows μ-rows
 loop-less c = fewer (c .before .before .before .before .before .loop-test .taken)
@@ -158,24 +140,23 @@ find-spec =
     μ-loop
     Inv-rows
     μ-rows
-    form-bit-requires
+    (λ c κs. tt)
     start-row-requires
     rows-holds
-    add-next
+    (λ c. omega arith)
     row-cell-requires
     rows-less
     rows-again
     row-cell-requires-2
-    cast-n
+    (λ c. omega arith)
     loop-holds
     add-row-cell
     row-cell-requires-3
     take-node-requires
-    enum-known-walk
-    enum-told
+    (λ c. c .match .keys1) (λ c. c .match .keys2)
     rows-less-2
     rows-again-2
-    add-passed
+    (λ c. omega arith)
     loop-less
     loop-again
     rows-less-3
