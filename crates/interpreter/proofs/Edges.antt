@@ -19,14 +19,14 @@ use Rattle.interpreter.proofs.flow.Laws.{piece-held}
 abbrev letters : ℕ → Text
 letters n = replicate n (code "X")
 
--- a line of so many bytes behind power-up, before its newline
+-- so many bytes of a line, before its newline
 abbrev pub lineOf : ℕ → List Event
 lineOf n = received (letters n) ∷ []
 
 pub record Edges : Type 0 where
   pub longestLine : after powerUp (lineOf 4096) .core .overlong ≡ false
   pub longerLine : after powerUp (lineOf 4097) .core .overlong ≡ true
-  -- its newline comes on top
+  -- without its newline, which has to fit too
   pub longestAnswer : fitsAnswer [] (letters 4095) ≡ true
   pub longerAnswer : fitsAnswer [] (letters 4096) ≡ false
 

@@ -16,7 +16,7 @@ use Rattle.interpreter.specs.declared.deed.Role.{Role}
 use Rattle.interpreter.specs.declared.deed.Role.the-variants.{Setting, Register, Order, Question}
 use Rattle.interpreter.proofs.Lists.{listed, agree}
 
--- the code's table, by a row's place behind the settings
+-- the code's table, by a row's place after the settings
 
 pub role-setting : (i : ℕ) → i < count → Setting i ≡ roleAt i
 unfolding listed roleAt rows settingRows otherRows table

@@ -171,7 +171,7 @@ module _ (f : Flow) (line part : Text) (w : FlowFits f) (long : length line ≡ 
         count = omega arith;
       }
 
--- ---- bytes taken in, one part behind the other
+-- ---- bytes taken in, one part after the other
 
 pub fed-none : (f : Flow) (line out : Text) → FlowFits f → FlowFed f line out [] f line out
 unfolding piece newlines

@@ -2,7 +2,7 @@
 use mathlib.Core.Path.{_≡_, refl, sym, _∙_}
 use mathlib.Core.Bool.{Bool, true, false}
 use mathlib.Core.List.{[], _∷_}
-use Prim.Native.Nat.{ℕ, zero, suc, _+_, _-_, _<_}
+use Prim.Native.Nat.{ℕ, zero, suc, _+_, _<_}
 use native.Mathlib.Omega.{arith}
 use native.Mathlib.Numerals.{add-one}
 use lib.Dec.{eqb, eqb·suc-suc}
@@ -12,7 +12,7 @@ use borrow.Author.Tests.{eq-eqb, ne-eqb}
 use Rattle.registers.specs.Text.{Text, if_then_else_, start, white, every, empty}
 use Rattle.registers.specs.declared.error.Error.the-variants.{InputBufferOverrun}
 use Rattle.interpreter.specs.Box.{box, mostAnswer}
-use Rattle.interpreter.specs.Line.{runUnits, interrupted, finished, unitsOf, runLine, endLine}
+use Rattle.interpreter.specs.Line.{runUnits, finished, unitsOf, runLine, endLine}
 use Rattle.interpreter.specs.PresentParts.{boxIn, raisedWith}
 use Rattle.interpreter.specs.PresentParts.{boxAt, Discarded}
 use Rattle.interpreter.specs.LineParts.{boxHolding, UnitsRan}

@@ -1,4 +1,4 @@
--- Laws of the units of a line: how they stand in it, and what is left to run behind each.
+-- Laws of the units of a line: how they stand in it, and what is left to run after each.
 use mathlib.Core.Path.{_≡_, refl, sym, _∙_}
 use mathlib.Core.Bool.{Bool, true, false, _&&_, false≢true}
 use mathlib.Core.List.{List, [], _∷_}
@@ -25,7 +25,7 @@ use Rattle.interpreter.specs.declared.present.Present.{Present}
 use Rattle.interpreter.specs.declared.line.Done.{Done}
 use Rattle.interpreter.proofs.header.Path.{holds-none}
 
--- ---- where a byte stands from a place on
+-- ---- where a byte stands in the rest of a text
 
 pub place : (x : ℕ) (l : Text) (at end : ℕ) → end ≡ at + indexOf x (slice at (length l) l) → end - at ≡ indexOf x (drop at l)
 unfolding slice
@@ -33,7 +33,7 @@ place x l at end is = let e : end ≡ at + indexOf x (drop at l) = rw (take-leng
 
 -- ---- a line cut at its units
 
--- the units behind the first
+-- the units after the first
 unfoldable others : Text → List Text
 others l = if ltb (indexOf (code ";") l) (length l) then cutAt (code ";") (drop (indexOf (code ";") l + 1) l) else []
 
@@ -89,7 +89,7 @@ going-start p o line keys out z q l =
 module _ (b : Box) (line : Text) (keys : List ℕ) (out : Text) (d : Done) (at : ℕ) (g : Going b line keys out d at)
     (end : ℕ) (is : end ≡ at + indexOf (code ";") (slice at (length line) line)) (within : end ≤ length line)
     (r : Done) (more : List ℕ) (left : Text) (w : UnitRan d (g .path) (take (end - at) (drop at line)) out r more left) where
-  -- the line from this unit on, and the box before it
+  -- the rest of the line, which begins with this unit, and the box before it
   abbrev here : Text
   here = drop at line
 

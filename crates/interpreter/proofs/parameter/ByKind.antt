@@ -1,8 +1,8 @@
 -- What a setting's kind says of its parameters, in the four sorts of values that the code tells apart.
 use mathlib.Core.Path.{_≡_, refl, ap, sym, _∙_}
 use mathlib.Core.Bool.{Bool, true, false, not, _&&_, _||_, false≢true}
-use mathlib.Core.List.{List, [], _∷_}
-use Prim.Native.Nat.{ℕ, zero, suc, _+_, _≤_, _<_}
+use mathlib.Core.List.{[], _∷_}
+use Prim.Native.Nat.{ℕ, zero, suc, _≤_, _<_}
 use native.Mathlib.Omega.{arith}
 use lib.Dec.{leb, ltb, eqb}
 use lib.ListN.{length}
@@ -33,7 +33,7 @@ use Rattle.interpreter.proofs.deed.Role as roles
 
 -- ---- what two functions say of every row, by computing both for all settings
 
--- a row behind the table counts as a bool
+-- a row past the table counts as a bool
 kinds-agree : {A : Type 0} (f g : Kind → A) → listed count (λ i. f (kindOf i)) ≡ listed count (λ i. g (kindOf i)) → f bool ≡ g bool
     → (i : ℕ) → f (kindOf i) ≡ g (kindOf i)
 kinds-agree f g e b i = go (ltb i count) refl

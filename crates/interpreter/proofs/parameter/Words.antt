@@ -22,7 +22,7 @@ use Rattle.interpreter.specs.Parameter.{Given, Word, Figure, findWord, p
 use Rattle.interpreter.specs.ParameterParts.{aWord, aFigure}
 use Rattle.interpreter.proofs.Lists.{every-at}
 
--- so many words of the table, from a place on
+-- so many words of the table, the first of them at a place
 abbrev from : ℕ → ℕ → List String
 from at count = take count (drop at wordList)
 
@@ -74,7 +74,7 @@ word-bytes i t h e = go (same (map capital t) (shortForm w)) refl e
     go true q e = spelled-in t (shortForm w) q (is .0)
     go false q e = spelled-in t (longForm w) e (is .1)
 
--- ---- the search: what it finds is what is found from the n-th word on
+-- ---- the search: what is found among the words that are not tried yet is what is found among all
 
 pub record Searching (at count : ℕ) (t : Text) (n : ℕ) : Type 0 where
   pub room : at + count ≤ wordCount

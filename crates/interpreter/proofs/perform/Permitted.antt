@@ -45,7 +45,7 @@ module _ (d : Deed) (c : Core) where
       go false t true f e = never cc
       go true t f q e = never cc
 
-  -- a chain behind them: they refuse by a number of 01, or let pass
+  -- a chain of checks after them: they refuse by a number of 01, or let pass
   pub hold-permitted : {A : Type 0} (Q : A → Type 0) (m : Checked A) → (Lets d c → Holds Q m) → Holds Q (permitted d c >> m)
   unfolding permitted mayBeQueued queueable check _>>_
   hold-permitted Q m k = go (blocked d && locked (c .registers)) refl (conflicting d (c .settings)) refl

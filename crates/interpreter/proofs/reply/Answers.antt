@@ -1,4 +1,4 @@
--- Where a reply stands in the buffer, behind the answers so far.
+-- Where a reply stands in the buffer, after the answers so far.
 use mathlib.Core.Path.{_≡_, refl, sym, ap, _∙_}
 use mathlib.Core.Bool.{true, not}
 use mathlib.Core.List.{[], _∷_, _++_}
@@ -27,7 +27,7 @@ use Rattle.interpreter.proofs.reply.Reply as replies
 
 -- ---- texts that are joined
 
--- where the next answer starts: behind a separator, if there is one already
+-- where the next answer starts: after a separator, if there is one already
 abbrev pub start : ℕ → ℕ
 start n = n + boolByte (not (eqb n 0))
 

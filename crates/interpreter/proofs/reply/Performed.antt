@@ -1,7 +1,7 @@
 -- A deed that answers does what the definition says of it, if check 9 lets it: the reply is written after the answers so far, and what
 -- the code leaves of settings and status is what the definition leaves of the box.
 use mathlib.Core.Path.{_≡_, refl, sym, ap}
-use mathlib.Core.Bool.{Bool, true, not}
+use mathlib.Core.Bool.{true, not}
 use mathlib.Core.List.{[], _∷_}
 use Prim.Native.Nat.{ℕ, zero, suc, _≤_, _<_}
 use native.Mathlib.Omega.{arith}

@@ -64,7 +64,7 @@ module _ (k : Kind) {z : ℤ} (h : SFits w32 z) {told : Values} (is : told ≡ v
       whole Tenths h = absurd (miss (3 ∷ 0 ∷ []) 2 tt h)
       whole Whole h = refl
 
--- a row whose values are words is one of the table: behind it rows count as bools
+-- a row whose values are words is one of the table: past it rows count as bools
 pub word-row : (i : ℕ) {told : Values} → told ≡ valuesIn (kindOf i) → told ≡ Word → i < count
 word-row i is e = go (ltb i count) refl
   where

@@ -117,7 +117,7 @@ module _ (r : ℕ) (h : r < rowCount) where
         let row-back = map-at (λ (r : Row). map back (r .nodes)) (λ (r : Row). map itself (r .nodes)) rows nodes-back r none within in
         rw node-cell (map-at back itself nodes row-back j (must "") l)
 
-    -- this node and those behind it
+    -- this node and those after it
     pub nodes-from : drop j nodes ≡ nodeOf (rowCell r (j + 2)) ∷ drop (j + 1) nodes
     nodes-from = rw (node-is, add-one j) (drop-cons nodes j (must "") l)
 

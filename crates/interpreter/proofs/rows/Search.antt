@@ -63,7 +63,7 @@ module _ {star : Bool} {keys : List ℕ} {asked : Bool} where
 
 -- ---- over the nodes of one row
 
--- the first j of the row's n nodes are taken or left out, and the numbers go on at a place
+-- the first j of the row's n nodes are taken or left out, and the names that are left start at a place
 pub record Trying (star asked : Bool) (keys : List ℕ) (first n row at j : ℕ) : Type 0 where
   pub known : row < rowCount
   pub seek : Seeking star (drop first keys) asked row

@@ -63,7 +63,7 @@ module _ (s : State) where
       let c = and-both (possibleRegisters (registersOf (s .status))) _ (b .1) in
       rw (b .0, c .0, a .1, le-leb (s .status .queued) most (w .queued), le-leb (s .filled) mostLine (w .filled), le-leb (s .waiting) mostAnswer (w .waiting))
 
--- ---- what the test of refusal 4 tells, on the two ways on
+-- ---- what the test of refusal 4 tells, where it fails and where it passes
 
 module _ (s : State) (r : Bool) (w : Tested s r) where
   pub could-not : not r ≡ true → possibleState s ≡ false

@@ -16,7 +16,7 @@ module _ (t : Text) (w n : ℕ) (h : w < wordCount) (is : n ≡ agreed t (longFo
   whole-is : matches (wordAt w) t ≡ (formLength w n && leb (length t) n)
   whole-is = word-is t w h ∙ rw (sym is, empty-at t n)
 
-  -- the code's test: all bytes are letters of the word, and so many letters has one of its forms
+  -- the code's test: all bytes are letters of the word, and one of its forms has that many letters
   pub whole-word : (eqb n (length t) && formLength w n) ≡ matches (wordAt w) t
   whole-word =
       let m = agreed-most t (longForm (wordAt w)) .0 in

@@ -12,10 +12,6 @@ use Rattle.interpreter.specs.RowsParts.{rowCount, roleAt}
 use Rattle.interpreter.proofs.deed.Laws.{role-setting, role-told}
 use Rattle.interpreter.proofs.deed.role_of.Statement.{statement}
 use Rattle.interpreter.proofs.deed.role_of.Tie as tie
-use Rattle.interpreter.proofs.deed.role_of.Reads as reads
-use Rattle.interpreter.proofs.deed.role_of.Lts as lts
-use Rattle.interpreter.proofs.deed.of_set.Reads as of-set-reads
-use Rattle.interpreter.proofs.deed.set_at.Reads as set-at-reads
 
 returns : tie.Need-returns
 returns c = role-setting (c .before .args .row) (c .if1 .taken)

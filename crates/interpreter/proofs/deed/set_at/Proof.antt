@@ -1,9 +1,8 @@
+-- Each arm is the definition's choice at its place, and the last is for every other place.
 use Rattle.registers.specs.Text.{if_then_else_}
-use borrow.Author.Tests.{ne-eqb, lt-ltb, le-ltb, le-leb, lt-leb}
+use borrow.Author.Tests.{ne-eqb}
 use Rattle.interpreter.proofs.deed.set_at.Statement.{statement}
 use Rattle.interpreter.proofs.deed.set_at.Tie as tie
-use Rattle.interpreter.proofs.deed.set_at.Reads as reads
-use Rattle.interpreter.proofs.deed.set_at.Lts as lts
 
 returns : tie.Need-returns
 unfolding if_then_else_

@@ -1,9 +1,7 @@
 -- A line is the bytes before the newline that `find` tells, and the newline itself where there is one: these are held, and then the
 -- newline runs them. Where there is none, all that are left are held and the line stays open.
 use mathlib.Core.List.{[]}
-use Prim.Native.Nat.{_+_, _≤_}
 use native.Mathlib.Omega.{arith}
-use lib.ListN.{length}
 use Rattle.interpreter.proofs.flow.Laws.{part-plain, part-read, line-open, line-ended, fed-then}
 use Rattle.interpreter.proofs.flow.feed_line.Statement.{statement}
 use Rattle.interpreter.proofs.flow.feed_line.Tie as tie

@@ -1,3 +1,4 @@
+-- A number for a register is rounded within 0 and the register's widest (`rounded-is`): it is stored, or is outside.
 use native.Mathlib.Omega.{arith}
 use lib.IntN.{pos}
 use Rattle.registers.specs.Rounding.{sideIn, RoundedIn}

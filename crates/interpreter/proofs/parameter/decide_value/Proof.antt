@@ -1,3 +1,4 @@
+-- What is outside the limits is refused, a query asks for the value, and exam mode refuses what is off the step.
 use mathlib.Core.Path.{sym, _∙_}
 use borrow.Author.Tests.{not-true, not-false}
 use Rattle.registers.specs.Check.{_>>_, check}

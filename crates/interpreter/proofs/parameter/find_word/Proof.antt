@@ -1,5 +1,5 @@
--- The search over the words that may be given. Invariant: parameter/Words' `Searching`, what is found from the n-th word on is what is
--- found among all. Measure: the words that are left.
+-- The search over the words that may be given. Invariant: parameter/Words' `Searching`, what is found among those that are
+-- not tried yet is what is found among all. Measure: the words that are left.
 use mathlib.Core.Path.{refl, sym, _∙_}
 use Prim.Native.Nat.{_-_}
 use native.Mathlib.Omega.{arith}

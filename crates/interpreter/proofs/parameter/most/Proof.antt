@@ -1,3 +1,4 @@
+-- By what the row is for: what a setting's kind says of its parameters, and what a register may have (parameter/ByKind).
 use Rattle.registers.specs.Settings.{kindOf}
 use Rattle.interpreter.specs.Parameter.{greatest}
 use Rattle.interpreter.proofs.parameter.ByKind.{setting-most, register-most, most-none}

@@ -1,4 +1,4 @@
-use mathlib.Core.Path.{refl, _∙_}
+use mathlib.Core.Path.{_∙_}
 use Rattle.interpreter.proofs.parameter.setting_takes.Statement.{statement}
 use Rattle.interpreter.proofs.parameter.setting_takes.Tie as tie
 

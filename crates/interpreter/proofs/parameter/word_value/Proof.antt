@@ -1,3 +1,4 @@
+-- A number's words are its limits, the lowest first; any other setting's words are counted (parameter/ByKind).
 use mathlib.Core.Path.{sym, _∙_}
 use native.Mathlib.Omega.{arith}
 use mir.Syntax.{w32}

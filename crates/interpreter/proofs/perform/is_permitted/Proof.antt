@@ -7,10 +7,6 @@ use borrow.Author.Needs.{needs}
 use Rattle.interpreter.proofs.perform.Permitted.{put-permitted, reset-permitted, free-change, free-other}
 use Rattle.interpreter.proofs.perform.is_permitted.Statement.{statement}
 use Rattle.interpreter.proofs.perform.is_permitted.Tie as tie
-use Rattle.interpreter.proofs.perform.is_permitted.Reads as reads
-use Rattle.interpreter.proofs.perform.is_permitted.Lts as lts
-use Rattle.registers.proofs.settings.Settings.conflicts.Reads as conflicts-reads
-use Rattle.registers.proofs.status.Status.is_locked.Reads as is-locked-reads
 
 -- once the change is known to put a setting
 abbrev deed-of : tie.After-change → tie.After-deed

@@ -1,3 +1,4 @@
+-- The answer stands where it ends before the buffer does; otherwise check 9 refuses it (reply/Performed).
 use native.Mathlib.Omega.{arith}
 use borrow.Author.Needs.{needs}
 use Rattle.interpreter.proofs.reply.Performed.{told-until, told-refused}

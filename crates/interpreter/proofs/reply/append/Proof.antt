@@ -6,7 +6,6 @@ use Prim.Native.Char.{code}
 use native.Mathlib.Nat.{le-refl}
 use native.Mathlib.Omega.{arith}
 use lib.ListN.{length, set, length-set}
-use borrow.Author.Needs.{needs}
 use Rattle.interpreter.proofs.reply.Answers.{start, start-room, says, given-none, given-whole, given-over, end-room}
 use Rattle.interpreter.proofs.reply.append.Statement.{statement}
 use Rattle.interpreter.proofs.reply.append.Tie as tie

@@ -1,4 +1,4 @@
-use borrow.Author.Needs.{needs}
+-- A query and an inquiry have their replies, and any other deed has nothing to say.
 use Rattle.interpreter.proofs.reply.Values.{nothing-said}
 use Rattle.interpreter.proofs.reply.of_deed.Statement.{statement}
 use Rattle.interpreter.proofs.reply.of_deed.Tie as tie

@@ -1,3 +1,4 @@
+-- Each inquiry's reply is the number that the status has or promises.
 use native.Mathlib.Omega.{arith}
 use mathlib.Core.Path.{refl}
 use Rattle.interpreter.specs.ReplyParts.{textOf}

@@ -1,3 +1,4 @@
+-- By what the setting's values are (`named`): a word by its place, tenths, or a whole number (reply/Values).
 use mathlib.Core.Path.{_≡_, refl}
 use Rattle.registers.specs.Settings.{kindOf, valuesIn}
 use Rattle.registers.proofs.settings.Laws.{values-is}

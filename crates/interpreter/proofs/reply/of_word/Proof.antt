@@ -1,7 +1,7 @@
 -- The value is a place in the setting's list of words: where the list has it, it is a word of the table (`at-word`), and otherwise none.
 -- The value and the count come back from their 32 bits (`back`, `counted`).
 use mathlib.Core.Path.{_≡_, refl}
-use Prim.Native.Nat.{ℕ, _+_, _*_, _<_}
+use Prim.Native.Nat.{ℕ, _+_, _<_}
 use native.Mathlib.Omega.{arith}
 use lib.IntN.{pos, natAbs}
 use mir.Syntax.{w32}

@@ -1,3 +1,4 @@
+-- Eight bytes of the table, low byte first, are the number of a word's form (`key-read`, table/Cells).
 use mathlib.Core.Path.{ap}
 use lib.ListN.{length}
 use Rattle.interpreter.proofs.table.Lengths.{commands-long}

@@ -1,3 +1,4 @@
+-- Each byte is below 256, so that the number of the two is small.
 use mathlib.Core.Path.{refl}
 use Prim.Native.Nat.{_+_}
 use native.Mathlib.Omega.{arith}

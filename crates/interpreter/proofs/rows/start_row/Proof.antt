@@ -1,3 +1,4 @@
+-- A mark is below 256, and the table has a cell for each (table/Cells).
 use mathlib.Core.Path.{_∙_, ap}
 use native.Mathlib.Omega.{arith}
 use Prim.Native.Nat.{_+_}

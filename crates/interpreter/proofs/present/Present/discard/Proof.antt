@@ -1,3 +1,4 @@
+-- Where no answer waits nothing is changed; otherwise -410 is raised and the answer is gone (present/Laws).
 use mathlib.Core.Path.{_≡_, refl}
 use lib.ListN.{length}
 use borrow.Author.Needs.{needs}

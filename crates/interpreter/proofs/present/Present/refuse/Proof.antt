@@ -1,3 +1,4 @@
+-- Check 9's error drops the answer so far, any other leaves it (present/Laws).
 use mathlib.Core.Path.{_≡_, sym, _∙_}
 use Prim.Native.Nat.{zero-le}
 use native.Mathlib.Omega.{arith}

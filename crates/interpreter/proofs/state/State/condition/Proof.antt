@@ -1,3 +1,4 @@
+-- One way for each refusal, and one where the status takes the report in: each is `happens-on` with a law of state/Events.
 use mathlib.Core.Path.{refl}
 use Rattle.interpreter.specs.Events.{condition}
 use Rattle.interpreter.proofs.state.Events.{refused-4, happens-on, withStatus, condition-wide, condition-on, condition-short}

@@ -1,3 +1,4 @@
+-- Refused where the state couldn't be the box's; otherwise the status byte, and nothing is changed.
 use mathlib.Core.Path.{refl}
 use native.Mathlib.Omega.{arith}
 use Rattle.interpreter.specs.Events.{look}

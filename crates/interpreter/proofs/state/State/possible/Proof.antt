@@ -1,3 +1,4 @@
+-- The test is the definition's, part by part; the lengths are those of the arrays.
 use borrow.Author.Needs.{length-unmapped}
 use Rattle.interpreter.specs.Box.{mostAnswer}
 use Rattle.interpreter.specs.State.{possibleParts}
