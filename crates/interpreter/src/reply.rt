@@ -12,14 +12,14 @@ use registers::settings::Settings;
 use registers::settings::Values;
 use registers::status::Status;
 ghost use mathlib.Core.Path.{_≡_};
+ghost use mathlib.Core.Bool.{not};
 ghost use Prim.Native.Nat.{_<_};
+ghost use lib.Dec.{eqb};
 ghost use lib.ListN.{length};
 ghost use Rattle.registers.specs.Answer.{Laid};
 ghost use Rattle.registers.specs.Settings.{count, kindOf, answerOf};
 ghost use Rattle.interpreter.specs.Box.{mostAnswer};
 ghost use Rattle.interpreter.specs.Reply.{replyTo};
-ghost use mathlib.Core.Bool.{not};
-ghost use lib.Dec.{eqb};
 ghost use Rattle.interpreter.specs.PresentParts.{coreIn};
 ghost use Rattle.interpreter.specs.ReplyParts.{placeText, inquiryText, textOf, RepliesWith, ReplyTo, GivenTo, Answered};
 
@@ -52,7 +52,7 @@ fn of_word(row: usize, value: i32) -> Reply
     Reply::Word(words.first + value as usize)
 }
 
-// Says a setting's value as its kind is written: "0 or 1; plain integers; one decimal for step 0.1; words in short form".
+// Says a setting's value as its kind is written: "0 or 1; plain integers; one decimal for step 0.1 ..; words in short form".
 fn of_value(row: usize, value: i32) -> Reply
     ensures { λ r. ⌜ RepliesWith (answerOf (kindOf row) value) r ⌝ }
 {

@@ -16,6 +16,7 @@ enum Walk {
     Missed,
 }
 
+// Reads a byte of a row in the table: its forms, how many nodes it has, then the nodes.
 fn row_cell(table: &[u8], row: usize, i: usize) -> u8
     requires { ⌜ (now table ≡ commandTable) × (row < rowCount) × (i < 8) ⌝ }
     ensures { λ r. ⌜ r ≡ rowCell row i ⌝ }

@@ -28,6 +28,7 @@ const WORD_COUNTS: [u8; Settings::COUNT] = [2, 2, 2, 3, 2, 2, 2, 2, 2, 2, 2, 2, 
 // The words before this one are those of the settings that take no numbers.
 const FIRST_WITH_NUMBERS: usize = 6;
 
+// Reads a byte of a word in the table: the lengths of its two forms, then its letters.
 fn word_cell(table: &[u8], word: usize, i: usize) -> u8
     requires { ⌜ (now table ≡ commandTable) × (word < wordCount) × (i < 16) ⌝ }
     ensures { λ r. ⌜ r ≡ wordCell word i ⌝ }
