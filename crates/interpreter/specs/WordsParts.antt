@@ -43,6 +43,17 @@ wordTableOf (w ∷ ws) = wordRow w ++ wordTableOf ws
 unfoldable pub wordTable : Text
 wordTable = wordTableOf wordList
 
+-- 5 bytes to a word: the length of its short form, its letters, and zeros
+unfoldable pub shortRow : String → Text
+shortRow w = length (shortForm w) ∷ shortForm w ++ replicate (4 - length (shortForm w)) 0
+
+unfoldable pub shortTableOf : List String → Text
+shortTableOf [] = []
+shortTableOf (w ∷ ws) = shortRow w ++ shortTableOf ws
+
+unfoldable pub shortTable : Text
+shortTable = shortTableOf wordList
+
 -- ---- a text and a word
 
 -- how many first bytes of a text, in capitals, are the letters

@@ -1,5 +1,6 @@
 // The words of the parameters: how a text spells one, which of them a setting takes, and how one is answered.
 use crate::table::WORD_SIZE;
+use crate::table::WORDS;
 use registers::answer;
 use registers::settings::Settings;
 use registers::text;
@@ -10,7 +11,7 @@ ghost use Rattle.registers.specs.Settings.{count, kindOf};
 ghost use Rattle.registers.specs.Words.{shortForm, longForm, matches};
 ghost use Rattle.interpreter.specs.Parameter.{wordsOf, takesNumbers};
 ghost use Rattle.interpreter.specs.RowsParts.{commandTable};
-ghost use Rattle.interpreter.specs.WordsParts.{wordCount, wordAt, agreed, formLength, wordCell, TakenOf, withNumbers};
+ghost use Rattle.interpreter.specs.WordsParts.{wordCount, wordAt, agreed, formLength, wordCell, TakenOf, withNumbers, shortTable};
 
 // Words that stand together in the table: where they begin, and how many there are.
 pub(crate) struct Words {
@@ -24,6 +25,9 @@ pub(crate) struct Words {
 const FIRST_WORDS: [u8; Settings::COUNT] = [6, 6, 6, 0, 8, 3, 8, 8, 5, 5, 8, 8, 8, 8, 8, 6, 6];
 
 const WORD_COUNTS: [u8; Settings::COUNT] = [2, 2, 2, 3, 2, 2, 2, 2, 2, 2, 2, 2, 2, 2, 2, 2, 2];
+
+// How many bytes a word has in the table of short forms.
+const SHORT_SIZE: usize = 5;
 
 // The words before this one are those of the settings that take no numbers.
 const FIRST_WITH_NUMBERS: usize = 6;
@@ -97,21 +101,35 @@ impl Words {
     }
 }
 
-// Writes a word in its short form, and nothing where there is no such word.
+// Writes a word in its short form, as the table of short forms has it.
+fn write_from(forms: &[u8], word: usize, tail: &mut [u8]) -> usize
+    requires { ⌜ (now forms ≡ shortTable) × (word < wordCount) ⌝ }
+    ensures { λ r. ⌜ Laid (shortForm (wordAt word)) (now (tail .entry)) r (now (tail .exit)) ⌝ }
+{
+    let row = word * SHORT_SIZE;
+    let start = row + 1;
+    let end = start + forms[row] as usize;
+    answer::write_text(&forms[start..end], tail)
+}
+
+// Writes a word in its short form, and nothing where there is no such word. The short forms stand in a small table of their own,
+// so that no answer needs the one that is searched: how many letters a word has, its letters, and zeros.
 pub(crate) fn write_short(word: usize, tail: &mut [u8]) -> usize
     ensures { λ r. ⌜ Laid (shortForm (wordAt word)) (now (tail .entry)) r (now (tail .exit)) ⌝ }
 {
-    match word {
-        0 => answer::write_text(b"CURR", tail),
-        1 => answer::write_text(b"SCUR", tail),
-        2 => answer::write_text(b"VOLT", tail),
-        3 => answer::write_text(b"R12V", tail),
-        4 => answer::write_text(b"R24V", tail),
-        5 => answer::write_text(b"CONT", tail),
-        6 => answer::write_text(b"OFF", tail),
-        7 => answer::write_text(b"ON", tail),
-        8 => answer::write_text(b"MIN", tail),
-        9 => answer::write_text(b"MAX", tail),
-        _ => 0,
+    if WORDS <= word {
+        return 0;
     }
+    let forms = b"\
+        \x04CURR\
+        \x04SCUR\
+        \x04VOLT\
+        \x04R12V\
+        \x04R24V\
+        \x04CONT\
+        \x03OFF\0\
+        \x02ON\0\0\
+        \x03MIN\0\
+        \x03MAX\0";
+    write_from(forms, word, tail)
 }

@@ -12,11 +12,9 @@ use lib.Signed.{ltZ, leZ}
 use lib.ListN.{getD, drop, length-take, List·getD-eq-default}
 use lib.Seq.{getD-drop, getD-take}
 use borrow.Author.Tests.{le-ltb, leb-true, leb-false}
-use Rattle.registers.specs.Text.{Text, if_then_else_, bytes, same}
-use Rattle.registers.specs.Answer.{Laid}
+use Rattle.registers.specs.Text.{if_then_else_, bytes, same}
 use Rattle.registers.specs.Words.{shortForm}
 use Rattle.registers.specs.Settings.{count, table, settingAt, kindOf, wordText}
-use Rattle.registers.proofs.answer.Laws.{laid-whole, laid-none}
 use Rattle.interpreter.specs.Parameter.{wordsOf, takesNumbers}
 use Rattle.interpreter.specs.WordsParts.{wordCount, wordList, wordAt, placeIn, firstWords, wordCounts, taken, withNumbers, TakenOf}
 use Rattle.interpreter.specs.declared.words.Words.{Words}
@@ -71,12 +69,3 @@ module _ (s : Words) (ws : List String) (is : taken s ≡ ws) where
 pub not-minus : (z : ℤ) (b : Bool) → (ltZ z (pos 0) || b) ≡ false → ltZ z (pos 0) ≡ false
 not-minus (pos n) b e = le-ltb n 0 (omega arith)
 not-minus (negsuc n) b e = absurd (false≢true (sym e))
-
--- past the last word there is none, and nothing is written
-pub past-words : (n : ℕ) (tail : Text) → wordCount ≤ n → Laid (shortForm (wordAt n)) tail 0 tail
-unfolding wordAt wordList
-past-words n tail h = rw (List·getD-eq-default wordList "" {n = n} h, no-word) (laid-whole (laid-none 0 tail))
-
--- the code's last arm is for what is none of the ten
-pub later : {k n : ℕ} → k ≤ n → (n ≡ k → ⊥) → k + 1 ≤ n
-later h ne = omega arith
