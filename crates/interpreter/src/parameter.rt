@@ -4,6 +4,7 @@ use crate::deed::Deed;
 use crate::deed::Query;
 use crate::deed::Role;
 use crate::words;
+use crate::words::FIRST_WITH_NUMBERS;
 use crate::words::Words;
 use registers::error::Error;
 use registers::number;
@@ -93,7 +94,7 @@ fn setting_takes(row: usize) -> Takes
     let words = words::of_setting(row);
     Takes {
         words,
-        numbers: words.with_numbers(),
+        numbers: FIRST_WITH_NUMBERS <= words.first,
         quantity: Settings::quantity_of(row),
     }
 }

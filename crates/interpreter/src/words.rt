@@ -11,7 +11,7 @@ ghost use Rattle.registers.specs.Settings.{count, kindOf};
 ghost use Rattle.registers.specs.Words.{shortForm, longForm, matches};
 ghost use Rattle.interpreter.specs.Parameter.{wordsOf, takesNumbers};
 ghost use Rattle.interpreter.specs.RowsParts.{commandTable};
-ghost use Rattle.interpreter.specs.WordsParts.{wordCount, wordAt, agreed, formLength, wordCell, TakenOf, withNumbers, shortTable};
+ghost use Rattle.interpreter.specs.WordsParts.{wordCount, wordAt, agreed, formLength, wordCell, TakenOf, shortTable};
 
 // Words that stand together in the table: where they begin, and how many there are.
 pub(crate) struct Words {
@@ -30,7 +30,7 @@ const WORD_COUNTS: [u8; Settings::COUNT] = [2, 2, 2, 3, 2, 2, 2, 2, 2, 2, 2, 2, 
 const SHORT_SIZE: usize = 5;
 
 // The words before this one are those of the settings that take no numbers.
-const FIRST_WITH_NUMBERS: usize = 6;
+pub(crate) const FIRST_WITH_NUMBERS: usize = 6;
 
 // Reads a byte of a word in the table: the lengths of its two forms, then its letters.
 fn word_cell(table: &[u8], word: usize, i: usize) -> u8
@@ -89,15 +89,6 @@ pub(crate) fn of_setting(row: usize) -> Words
     Words {
         first: firsts[row] as usize,
         count: counts[row] as usize,
-    }
-}
-
-impl Words {
-    // Tells whether a setting that takes these words takes numbers too.
-    pub(crate) fn with_numbers(self) -> bool
-        ensures { λ r. ⌜ r ≡ withNumbers self ⌝ }
-    {
-        FIRST_WITH_NUMBERS <= self.first
     }
 }
 
