@@ -9,7 +9,7 @@ use lib.Dec.{eqb}
 use lib.ListN.{length, getD, take, drop, length-drop}
 use lib.Seq.{take-all}
 use borrow.Author.Tests.{eqb-true, eqb-false, eq-eqb}
-use Rattle.registers.specs.Text.{Text, every, empty, rest, same}
+use Rattle.registers.specs.Text.{Text, every, empty, same}
 use Rattle.registers.proofs.Tests.{and-both, and-true}
 pub use Rattle.registers.proofs.Tables.{table-at, cell-at, table-length}
 
@@ -45,10 +45,6 @@ fewer h = omega arith
 -- what is lent of a text, from a place to its end
 pub rest-is : (l : Text) (at : ℕ) → at ≤ length l → take (length l - at) (drop at l) ≡ drop at l
 rest-is l at h = take-all (length l - at) (drop at l) (rw length-drop (omega arith))
-
-pub rest-drop : (l : Text) → rest l ≡ drop 1 l
-rest-drop [] = refl
-rest-drop (x ∷ l) = refl
 
 -- ---- one member
 

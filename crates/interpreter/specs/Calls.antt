@@ -8,7 +8,7 @@ use lib.ListN as L
 use lib.ListN.{length}
 use Rattle.registers.specs.Text.{Text, every}
 use Rattle.interpreter.specs.Box.{Box, mostAnswer}
-use Rattle.interpreter.specs.Events.{Event, started, received, take, condition, look, Result, result, after, results}
+use Rattle.interpreter.specs.Events.{Event, started, received, take, condition, look, Result, after, results}
 use Rattle.interpreter.specs.State.{boxOf, possibleState, Happens}
 use Rattle.interpreter.specs.Histories.{answers, sent, copied}
 use Rattle.interpreter.specs.Server.{linesOf, eventsOf, begun, Serves}

@@ -6,7 +6,6 @@ use Prim.Native.Nat.{ℕ, _≤_, _<_}
 use Prim.Native.Char.{code}
 use Rattle.registers.specs.Text.{Text}
 use Rattle.registers.specs.Check.{refused, passed}
-use Rattle.registers.specs.Error.{numberOf}
 use Rattle.registers.specs.Queue.{most}
 use Rattle.registers.specs.Status.{registersOf, troubleOf}
 use Rattle.registers.specs.declared.error.Error.{Error}

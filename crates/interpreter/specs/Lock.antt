@@ -9,7 +9,6 @@ use Rattle.registers.specs.Text.{every}
 use Rattle.registers.specs.Settings.{output, valueAt}
 use Rattle.registers.specs.Status.{Registers, registersOf, locked}
 use Rattle.registers.specs.declared.settings.Settings.{Settings}
-use Rattle.registers.specs.declared.status.RegisterSet.{RegisterSet}
 use Rattle.registers.specs.declared.status.RegisterSet.the-variants.{Operation, Lock, Warning}
 use Rattle.interpreter.specs.Box.{Box}
 use Rattle.interpreter.specs.Events.{Event, started, received, take, condition, look, Result, after}

@@ -26,7 +26,7 @@ use Rattle.interpreter.specs.declared.deed.Deed.the-variants.{Change, Qu
 use Rattle.interpreter.specs.declared.deed.Change.the-variants.{Put, Store}
 use Rattle.interpreter.specs.declared.deed.Query.the-variants.{Limit, Value, Stored}
 use Rattle.interpreter.specs.declared.deed.Role.{Role}
-use Rattle.interpreter.specs.declared.deed.Role.the-variants.{Setting as setting, Register as register, Order, Question}
+use Rattle.interpreter.specs.declared.deed.Role.the-variants.{Setting as setting, Register as register, Only}
 
 -- check 2: "commas part the parameters"; none where nothing follows the header
 unfoldable pub parameters : Text → List Text
@@ -42,14 +42,12 @@ asksLimits (number k low high) = 1
 unfoldable pub least : Role → Bool → ℕ
 least (setting i) asked = if asked then 0 else 1
 least (register r) asked = if asked then 0 else 1
-least (Order d) asked = 0
-least (Question d) asked = 0
+least (Only d) asked = 0
 
 unfoldable pub greatest : Role → Bool → ℕ
 greatest (setting i) asked = if asked then asksLimits (kindOf i) else 1
 greatest (register r) asked = if asked then 0 else 1
-greatest (Order d) asked = 0
-greatest (Question d) asked = 0
+greatest (Only d) asked = 0
 
 -- ---- checks 5 and 6
 
@@ -151,5 +149,4 @@ deedOf s (setting i) false (t ∷ ts) = settingDeed s i t
 deedOf s (register r) true ts = passed (Query (Stored r))
 deedOf s (register r) false [] = refused 109
 deedOf s (register r) false (t ∷ ts) = registerDeed r t
-deedOf s (Order d) asked ts = passed d
-deedOf s (Question d) asked ts = passed d
+deedOf s (Only d) asked ts = passed d

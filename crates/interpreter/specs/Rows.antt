@@ -12,7 +12,8 @@ use Rattle.registers.specs.declared.status.RegisterSet.{RegisterSet}
 use Rattle.registers.specs.declared.status.RegisterSet.the-variants.{Operation, Lock, Warning}
 use Rattle.interpreter.specs.Header.{spells}
 use Rattle.interpreter.specs.declared.deed.Role.{Role}
-use Rattle.interpreter.specs.declared.deed.Role.the-variants.{Setting as setting, Register as register, Order, Question}
+use Rattle.interpreter.specs.declared.deed.Role.the-variants.{Setting as setting, Register as register, Only}
+use Rattle.interpreter.specs.declared.deed.Deed.{Deed}
 use Rattle.interpreter.specs.declared.deed.Deed.the-variants.{Change, Complete, Clear, Query, Inquire}
 use Rattle.interpreter.specs.declared.deed.Change.the-variants.{Nothing, Reset}
 use Rattle.interpreter.specs.declared.deed.Query.the-variants.{Identity, SelfTest, Completed, Condition, SetEvents}
@@ -32,8 +33,8 @@ starred w role = record { star = true; nodes = must w ∷ []; role = role }
 -- the five commands of a register set
 abbrev pub ofSet : RegisterSet → String → List Row
 ofSet x w =
-    plain (must "STATus" ∷ must w ∷ must "CONDition" ∷ []) (Question (Query (Condition x)))
-    ∷ plain (must "STATus" ∷ must w ∷ may "EVENt" ∷ []) (Question (Query (SetEvents x)))
+    plain (must "STATus" ∷ must w ∷ must "CONDition" ∷ []) (Only (Query (Condition x)))
+    ∷ plain (must "STATus" ∷ must w ∷ may "EVENt" ∷ []) (Only (Query (SetEvents x)))
     ∷ plain (must "STATus" ∷ must w ∷ must "ENABle" ∷ []) (register (Register.Enable x))
     ∷ plain (must "STATus" ∷ must w ∷ must "NTRansition" ∷ []) (register (Register.Ntr x))
     ∷ plain (must "STATus" ∷ must w ∷ must "PTRansition" ∷ []) (register (Register.Ptr x))
@@ -47,33 +48,40 @@ settingRows i (s ∷ ss) = plain (s .nodes) (setting i) ∷ settingRows (suc i) 
 -- "Registers and queue"
 unfoldable pub otherRows : List Row
 otherRows =
-    starred "IDN" (Question (Query Identity))
-    ∷ starred "TST" (Question (Query SelfTest))
-    ∷ starred "OPC" (Question (Query Completed))
-    ∷ starred "WAI" (Order (Change Nothing))
-    ∷ starred "OPC" (Order Complete)
-    ∷ starred "RST" (Order (Change Reset))
-    ∷ starred "CLS" (Order Clear)
+    starred "IDN" (Only (Query Identity))
+    ∷ starred "TST" (Only (Query SelfTest))
+    ∷ starred "OPC" (Only (Query Completed))
+    ∷ starred "WAI" (Only (Change Nothing))
+    ∷ starred "OPC" (Only Complete)
+    ∷ starred "RST" (Only (Change Reset))
+    ∷ starred "CLS" (Only Clear)
     ∷ starred "ESE" (register Register.Ese)
     ∷ starred "SRE" (register Register.Sre)
-    ∷ starred "ESR" (Question (Inquire StandardEvents))
-    ∷ starred "STB" (Question (Inquire StatusByte))
-    ∷ plain (must "SYSTem" ∷ must "ERRor" ∷ []) (Question (Inquire NextError))
+    ∷ starred "ESR" (Only (Inquire StandardEvents))
+    ∷ starred "STB" (Only (Inquire StatusByte))
+    ∷ plain (must "SYSTem" ∷ must "ERRor" ∷ []) (Only (Inquire NextError))
     ∷ ofSet Operation "OPERation" ++ ofSet Lock "LOCK" ++ ofSet Warning "WARNing"
 
 unfoldable pub rows : List Row
 rows = settingRows 0 table ++ otherRows
 
+abbrev pub sameBool : Bool → Bool → Bool
+sameBool true b = b
+sameBool false b = not b
+
+-- a query, or one of *ESR?, *STB? and SYSTem:ERRor?
+abbrev pub asks : Deed → Bool
+asks (Change x) = false
+asks Complete = false
+asks Clear = false
+asks (Query q) = true
+asks (Inquire q) = true
+
 -- "a query or a setting form the row lacks"
 abbrev pub hasForm : Bool → Role → Bool
 hasForm asked (setting i) = true
 hasForm asked (register r) = true
-hasForm asked (Order d) = not asked
-hasForm asked (Question d) = asked
-
-abbrev pub sameBool : Bool → Bool → Bool
-sameBool true b = b
-sameBool false b = not b
+hasForm asked (Only d) = sameBool asked (asks d)
 
 unfoldable pub fitsRow : Bool → List Text → Bool → Row → Bool
 fitsRow star names asked r = sameBool star (r .star) && (hasForm asked (r .role) && spells (r .nodes) names)

@@ -20,7 +20,7 @@ use Rattle.registers.specs.declared.status.Register.the-variants.{Enable, Ntr, 
 use Rattle.interpreter.specs.declared.deed.Deed.the-variants.{Query}
 use Rattle.interpreter.specs.declared.deed.Query.the-variants.{Condition, SetEvents}
 use Rattle.interpreter.specs.declared.deed.Role.{Role}
-use Rattle.interpreter.specs.declared.deed.Role.the-variants.{Setting, Register, Question}
+use Rattle.interpreter.specs.declared.deed.Role.the-variants.{Setting, Register, Only}
 use Rattle.interpreter.specs.declared.rows.Walk.{Walk}
 use Rattle.interpreter.specs.declared.rows.Walk.the-variants.{To, Missed}
 
@@ -34,8 +34,8 @@ setAt i = if eqb i 0 then Operation else (if eqb i 1 then Lock else Warning)
 
 abbrev pub roleOfSet : RegisterSet → ℕ → Role
 roleOfSet x i =
-    if eqb i 0 then Question (Query (Condition x))
-    else (if eqb i 1 then Question (Query (SetEvents x))
+    if eqb i 0 then Only (Query (Condition x))
+    else (if eqb i 1 then Only (Query (SetEvents x))
     else (if eqb i 2 then Register (Enable x) else (if eqb i 3 then Register (Ntr x) else Register (Ptr x))))
 
 -- ---- the words of the rows' nodes

@@ -3,8 +3,8 @@ use mathlib.Core.Path.{_≡_}
 use mathlib.Core.Bool.{Bool, true, false, _&&_}
 use Prim.Native.Nat.{ℕ}
 use lib.Dec.{leb}
-use lib.ListN.{length, take}
-use Rattle.registers.specs.Settings.{possibleSettings, count}
+use lib.ListN.{take}
+use Rattle.registers.specs.Settings.{possibleSettings}
 use Rattle.registers.specs.Status.{registersOf, troubleOf, possibleStatus}
 use Rattle.registers.specs.declared.settings.Settings.{Settings}
 use Rattle.registers.specs.declared.status.Status.{Status}

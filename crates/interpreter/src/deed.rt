@@ -50,12 +50,11 @@ pub enum Deed {
     Inquire(Inquiry),
 }
 
-// A setting or a register is set and asked; an order has no query form, a question no other.
+// A setting or a register is set and asked; every other header has only one form, and one deed.
 pub enum Role {
     Setting(usize),
     Register(Register),
-    Order(Deed),
-    Question(Deed),
+    Only(Deed),
 }
 
 // Names a register set by its place; past the last place it is the last set.
@@ -74,8 +73,8 @@ fn of_set(set: RegisterSet, place: usize) -> Role
     ensures { λ r. ⌜ r ≡ roleOfSet set place ⌝ }
 {
     match place {
-        0 => Role::Question(Deed::Query(Query::Condition(set))),
-        1 => Role::Question(Deed::Query(Query::SetEvents(set))),
+        0 => Role::Only(Deed::Query(Query::Condition(set))),
+        1 => Role::Only(Deed::Query(Query::SetEvents(set))),
         2 => Role::Register(Register::Enable(set)),
         3 => Role::Register(Register::Ntr(set)),
         _ => Role::Register(Register::Ptr(set)),
@@ -101,17 +100,17 @@ pub(crate) fn role_of(row: usize) -> Role
         return of_set(set_at(within / SET_ROWS), within % SET_ROWS);
     }
     match place {
-        0 => return Role::Question(Deed::Query(Query::Identity)),
-        1 => return Role::Question(Deed::Query(Query::SelfTest)),
-        2 => return Role::Question(Deed::Query(Query::Completed)),
-        3 => return Role::Order(Deed::Change(Change::Nothing)),
-        4 => return Role::Order(Deed::Complete),
-        5 => return Role::Order(Deed::Change(Change::Reset)),
-        6 => return Role::Order(Deed::Clear),
+        0 => return Role::Only(Deed::Query(Query::Identity)),
+        1 => return Role::Only(Deed::Query(Query::SelfTest)),
+        2 => return Role::Only(Deed::Query(Query::Completed)),
+        3 => return Role::Only(Deed::Change(Change::Nothing)),
+        4 => return Role::Only(Deed::Complete),
+        5 => return Role::Only(Deed::Change(Change::Reset)),
+        6 => return Role::Only(Deed::Clear),
         7 => return Role::Register(Register::Ese),
         8 => return Role::Register(Register::Sre),
-        9 => return Role::Question(Deed::Inquire(Inquiry::StandardEvents)),
-        10 => return Role::Question(Deed::Inquire(Inquiry::StatusByte)),
-        _ => return Role::Question(Deed::Inquire(Inquiry::NextError)),
+        9 => return Role::Only(Deed::Inquire(Inquiry::StandardEvents)),
+        10 => return Role::Only(Deed::Inquire(Inquiry::StatusByte)),
+        _ => return Role::Only(Deed::Inquire(Inquiry::NextError)),
     }
 }

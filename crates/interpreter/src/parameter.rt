@@ -192,7 +192,7 @@ pub(crate) fn most(role: Role, asked: bool) -> usize
     match role {
         Role::Setting(row) => (!asked | is_number(row)) as usize,
         Role::Register(_) => !asked as usize,
-        Role::Order(_) | Role::Question(_) => 0,
+        Role::Only(_) => 0,
     }
 }
 

@@ -87,7 +87,7 @@ fn decide(table: &[u8], settings: Settings, heading: Heading, text: &[u8]) -> De
         Role::Register(register) => {
             return parameter::decide_register(table, register, asked, text);
         }
-        Role::Order(deed) | Role::Question(deed) => return Decision::Obey(deed),
+        Role::Only(deed) => return Decision::Obey(deed),
     }
 }
 

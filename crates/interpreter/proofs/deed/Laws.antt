@@ -13,7 +13,7 @@ use Rattle.interpreter.specs.declared.deed.Change.the-variants.{Nothing,
 use Rattle.interpreter.specs.declared.deed.Query.the-variants.{Identity, SelfTest, Completed}
 use Rattle.interpreter.specs.declared.deed.Inquiry.the-variants.{StandardEvents, StatusByte, NextError}
 use Rattle.interpreter.specs.declared.deed.Role.{Role}
-use Rattle.interpreter.specs.declared.deed.Role.the-variants.{Setting, Register, Order, Question}
+use Rattle.interpreter.specs.declared.deed.Role.the-variants.{Setting, Register, Only}
 use Rattle.interpreter.proofs.Lists.{listed, agree}
 
 -- the code's table, by a row's place after the settings
@@ -25,18 +25,18 @@ role-setting i h = agree count Setting roleAt refl i h
 abbrev pub roleTold : ℕ → Role
 roleTold i =
     if leb 12 i then roleOfSet (setAt ((i - 12) / 5)) ((i - 12) % 5)
-    else if eqb i 0 then Question (Query Identity)
-    else if eqb i 1 then Question (Query SelfTest)
-    else if eqb i 2 then Question (Query Completed)
-    else if eqb i 3 then Order (Change Nothing)
-    else if eqb i 4 then Order Complete
-    else if eqb i 5 then Order (Change Reset)
-    else if eqb i 6 then Order Clear
+    else if eqb i 0 then Only (Query Identity)
+    else if eqb i 1 then Only (Query SelfTest)
+    else if eqb i 2 then Only (Query Completed)
+    else if eqb i 3 then Only (Change Nothing)
+    else if eqb i 4 then Only Complete
+    else if eqb i 5 then Only (Change Reset)
+    else if eqb i 6 then Only Clear
     else if eqb i 7 then Register Ese
     else if eqb i 8 then Register Sre
-    else if eqb i 9 then Question (Inquire StandardEvents)
-    else if eqb i 10 then Question (Inquire StatusByte)
-    else Question (Inquire NextError)
+    else if eqb i 9 then Only (Inquire StandardEvents)
+    else if eqb i 10 then Only (Inquire StatusByte)
+    else Only (Inquire NextError)
 
 pub role-told : (i : ℕ) → count + i < rowCount → roleTold i ≡ roleAt (count + i)
 unfolding listed roleAt rows settingRows otherRows table if_then_else_

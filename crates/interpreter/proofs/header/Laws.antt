@@ -1,16 +1,14 @@
 -- For the callers of the header reader: check 3 by the number of the row that was found. By induction over the rows: the first that fits
 -- has the role that check 3 finds, and with none it refuses by -113.
 use mathlib.Core.Path.{_≡_, refl, sym, subst}
-use mathlib.Core.Bool.{Bool, true, false, _&&_}
+use mathlib.Core.Bool.{Bool, true, false}
 use mathlib.Core.List.{List, [], _∷_, map}
 use Prim.Native.Nat.{ℕ, suc, _≤_, _<_}
 use native.Mathlib.Omega.{arith}
 use lib.ListN.{length, getD}
 use Rattle.registers.specs.Text.{Text, if_then_else_}
-use Rattle.registers.specs.Check.{Checked, refused, passed}
-use Rattle.registers.proofs.Tests.{and-both}
-use Rattle.interpreter.specs.Header.{spells}
-use Rattle.interpreter.specs.Rows.{Row, rows, fitsRow, findRow, hasForm, sameBool}
+use Rattle.registers.specs.Check.{refused, passed}
+use Rattle.interpreter.specs.Rows.{Row, rows, fitsRow, findRow}
 use Rattle.interpreter.specs.RowsParts.{rowCount, roleAt, firstFit, rowOf}
 use Rattle.interpreter.specs.declared.deed.Role.{Role}
 use Rattle.interpreter.specs.declared.deed.Role.the-variants.{Setting as setting}
@@ -19,6 +17,9 @@ use Rattle.interpreter.proofs.table.Lengths.{rows-many}
 module _ (star : Bool) (names : List Text) (asked : Bool) where
   abbrev fits : Row → Bool
   fits = fitsRow star names asked
+
+  abbrev roleOf : Row → Role
+  roleOf r = r .role
 
   most-in : (l : List Row) → firstFit fits l ≤ length l
   unfolding firstFit if_then_else_
@@ -40,26 +41,16 @@ module _ (star : Bool) (names : List Text) (asked : Bool) where
       go true ih k = absurd (omega arith)
       go false ih k = ih (omega arith)
 
-  fits-form : (r : Row) → fits r ≡ true → hasForm asked (r .role) ≡ true
-  unfolding fitsRow
-  fits-form r e =
-      let p = and-both (sameBool star (r .star)) (hasForm asked (r .role) && spells (r .nodes) names) e in
-      and-both (hasForm asked (r .role)) (spells (r .nodes) names) (p .1) .0
-
-  -- a search's result is the role of row i, which has the form asked for
-  abbrev Is : Checked Role → List Row → ℕ → Role → Type 0
-  Is f l i d = (f ≡ passed (getD (map (λ (r : Row). r .role) l) i d)) × (hasForm asked (getD (map (λ (r : Row). r .role) l) i d) ≡ true)
-
-  found-in : (l : List Row) (d : Role) → firstFit fits l < length l → Is (findRow star names asked l) l (firstFit fits l) d
+  found-in : (l : List Row) (d : Role) → firstFit fits l < length l → findRow star names asked l ≡ passed (getD (map roleOf l) (firstFit fits l) d)
   unfolding findRow firstFit if_then_else_
   found-in [] d h = absurd (omega arith)
-  found-in (r ∷ l) d h = go (fits r) refl (found-in l d) h
+  found-in (r ∷ l) d h = go (fits r) (found-in l d) h
     where
-      go : (b : Bool) → fits r ≡ b → (firstFit fits l < length l → Is (findRow star names asked l) l (firstFit fits l) d)
+      go : (b : Bool) → (firstFit fits l < length l → findRow star names asked l ≡ passed (getD (map roleOf l) (firstFit fits l) d))
           → (if b then 0 else suc (firstFit fits l)) < suc (length l)
-          → Is (if b then passed (r .role) else findRow star names asked l) (r ∷ l) (if b then 0 else suc (firstFit fits l)) d
-      go true e ih k = (refl, fits-form r e)
-      go false e ih k = ih (omega arith)
+          → (if b then passed (r .role) else findRow star names asked l) ≡ passed (getD (map roleOf (r ∷ l)) (if b then 0 else suc (firstFit fits l)) d)
+      go true ih k = refl
+      go false ih k = ih (omega arith)
 
   -- ---- over the whole table
 
@@ -73,17 +64,9 @@ module _ (star : Bool) (names : List Text) (asked : Bool) where
     unfolding rowOf
     found-none h = let n = rows-many in none-in rows (omega arith)
 
-    found : row < rowCount → Is (findRow star names asked rows) rows row (setting row)
-    unfolding rowOf
-    found h =
+    pub found-role : row < rowCount → findRow star names asked rows ≡ passed (roleAt row)
+    unfolding rowOf roleAt
+    found-role h =
         let n = rows-many in
         let f = found-in rows (setting row) (omega arith) in
-        subst (λ (i : ℕ). Is (findRow star names asked rows) rows i (setting row)) (sym is) f
-
-    pub found-role : row < rowCount → findRow star names asked rows ≡ passed (roleAt row)
-    unfolding roleAt
-    found-role h = found h .0
-
-    pub found-form : row < rowCount → hasForm asked (roleAt row) ≡ true
-    unfolding roleAt
-    found-form h = found h .1
+        subst (λ (i : ℕ). findRow star names asked rows ≡ passed (getD (map roleOf rows) i (setting row))) (sym is) f

@@ -42,10 +42,6 @@ word-visible b e = go (leb b 32) refl
 
 -- ---- the `?` at the end
 
-asks-more : (x y : ℕ) (r : Text) → asks (x ∷ y ∷ r) ≡ asks (y ∷ r)
-unfolding if_then_else_
-asks-more x y r = refl
-
 pub asks-cons : (x : ℕ) (r : Text) → eqb x 63 ≡ false → asks (x ∷ r) ≡ asks r
 unfolding if_then_else_
 asks-cons x [] e = e

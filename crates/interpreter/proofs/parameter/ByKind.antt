@@ -27,9 +27,8 @@ use Rattle.interpreter.specs.WordsParts.{wordCount}
 use Rattle.interpreter.specs.Parameter.{Word, Figure, least, greatest, asksLimits, wordsOf, limitAt, valueGiven, sideGiven}
 use Rattle.interpreter.specs.ParameterParts.{isNumber}
 use Rattle.interpreter.specs.declared.deed.Role.{Role}
-use Rattle.interpreter.specs.declared.deed.Role.the-variants.{Setting, Register, Order, Question}
+use Rattle.interpreter.specs.declared.deed.Role.the-variants.{Setting, Register, Only}
 use Rattle.interpreter.proofs.Lists.{listed, agree}
-use Rattle.interpreter.proofs.deed.Role as roles
 
 -- ---- what two functions say of every row, by computing both for all settings
 
@@ -156,26 +155,17 @@ unfolding if_then_else_
 register-most true = refl
 register-most false = refl
 
-pub most-none : (r : Role) → OneOf (2 ∷ 3 ∷ []) (tagOf roles.the-type r) → (asked : Bool) → 0 ≡ greatest r asked
-unfolding greatest
-most-none (Setting i) h asked = absurd (miss (2 ∷ 3 ∷ []) 0 tt h)
-most-none (Register x) h asked = absurd (miss (2 ∷ 3 ∷ []) 1 tt h)
-most-none (Order d) h asked = refl
-most-none (Question d) h asked = refl
-
 least-asked : (r : Role) → 0 ≡ least r true
 unfolding least if_then_else_
 least-asked (Setting i) = refl
 least-asked (Register r) = refl
-least-asked (Order d) = refl
-least-asked (Question d) = refl
+least-asked (Only d) = refl
 
 least-set : (r : Role) → greatest r false ≡ least r false
 unfolding least greatest if_then_else_
 least-set (Setting i) = refl
 least-set (Register r) = refl
-least-set (Order d) = refl
-least-set (Question d) = refl
+least-set (Only d) = refl
 
 -- what the code compares
 module _ (r : Role) (n : ℕ) where
@@ -199,5 +189,4 @@ greatest-one (Setting i) true = limits-one (kindOf i)
 greatest-one (Setting i) false = omega arith
 greatest-one (Register x) true = omega arith
 greatest-one (Register x) false = omega arith
-greatest-one (Order d) asked = omega arith
-greatest-one (Question d) asked = omega arith
+greatest-one (Only d) asked = omega arith

@@ -26,11 +26,6 @@ pub word-byte : (w i : ℕ) → w < wordCount → i < 16 → getD commandTable (
 unfolding commandTable wordCell
 word-byte w i h k = let l = words-long in List·getD-append wordTable searchTable 0 (w * 16 + i) (omega arith)
 
--- after the words' n first bytes come the rest of the words and then the other parts
-pub words-from : (n : ℕ) → n ≤ wordBytes → drop n commandTable ≡ drop n wordTable ++ searchTable
-unfolding commandTable
-words-from n h = let l = words-long in drop-append-le n wordTable searchTable (omega arith)
-
 behind-words : (i : ℕ) → getD commandTable (wordBytes + i) 0 ≡ getD searchTable i 0
 unfolding commandTable
 behind-words i =

@@ -29,7 +29,7 @@ use Rattle.interpreter.specs.Parameter.{findWord, parameter, settingDeed
 use Rattle.interpreter.specs.Unit.{raisable, Read, readUnit}
 use Rattle.interpreter.specs.UnitParts.{Allowed}
 use Rattle.interpreter.specs.declared.deed.Role.{Role}
-use Rattle.interpreter.specs.declared.deed.Role.the-variants.{Setting as setting, Register as register, Order, Question}
+use Rattle.interpreter.specs.declared.deed.Role.the-variants.{Setting as setting, Register as register, Only}
 use Rattle.interpreter.proofs.Checks.{Holds, Any, refuses-by, passes, hold-bind, hold-check, hold-if, at-passed, at-refused}
 
 -- ---- each reader refuses by such a number
@@ -107,8 +107,7 @@ register-allowed s r t =
 abbrev Proper : Settings → Role → Type 0
 Proper s (setting i) = i < count
 Proper s (register r) = Unit {0}
-Proper s (Order d) = Allowed s d
-Proper s (Question d) = Allowed s d
+Proper s (Only d) = Allowed s d
 
 abbrev EachProper : Settings → List Row → Type 0
 EachProper s [] = Unit {0}
@@ -134,8 +133,7 @@ deed-allowed s (setting i) false (t ∷ ts) p = setting-allowed s i p t
 deed-allowed s (register r) true ts p = passes tt
 deed-allowed s (register r) false [] p = refuses-by refl
 deed-allowed s (register r) false (t ∷ ts) p = register-allowed s r t
-deed-allowed s (Order d) asked ts p = passes p
-deed-allowed s (Question d) asked ts p = passes p
+deed-allowed s (Only d) asked ts p = passes p
 
 -- ---- the whole unit
 

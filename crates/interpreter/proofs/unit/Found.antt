@@ -14,7 +14,7 @@ use Rattle.interpreter.specs.Rows.{Row, rows, settingRows, otherRows, fi
 use Rattle.interpreter.specs.RowsParts.{rowCount, roleAt, rowOf}
 use Rattle.interpreter.specs.UnitParts.{roleFound}
 use Rattle.interpreter.specs.declared.deed.Role.{Role}
-use Rattle.interpreter.specs.declared.deed.Role.the-variants.{Setting, Register, Order, Question}
+use Rattle.interpreter.specs.declared.deed.Role.the-variants.{Setting, Register, Only}
 use Rattle.interpreter.proofs.Lists.{every-at}
 use Rattle.interpreter.proofs.header.Laws.{found-none, found-role}
 use Rattle.interpreter.proofs.table.Lengths.{rows-many}
@@ -34,8 +34,7 @@ role-found star names asked = go (ltb row rowCount) refl
 abbrev settled : Role → Bool
 settled (Setting i) = ltb i count
 settled (Register r) = true
-settled (Order d) = true
-settled (Question d) = true
+settled (Only d) = true
 
 abbrev roleOf : Row → Role
 roleOf r = r .role

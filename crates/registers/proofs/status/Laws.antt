@@ -8,7 +8,7 @@ use native.Mathlib.Omega.{arith}
 use lib.Bits.{bitOr}
 use lib.Dec.{leb, eqb}
 use lib.ListN.{length, take, drop, getD, set, length-take}
-use mir.Syntax.{w8, w16, w64}
+use mir.Syntax.{w64}
 use mir.Val.{Fits}
 use borrow.Author.Tests.{lt-ltb, le-ltb, le-leb, lt-leb, eq-eqb, ne-eqb}
 use Rattle.registers.specs.Text.{if_then_else_, first, empty, every}
@@ -84,22 +84,6 @@ pub bit-is : (on : Bool) (k : ℕ) → (if on then 2 ^ k else 0) ≡ bitIf on k
 unfolding if_then_else_
 bit-is true k = refl
 bit-is false k = refl
-
--- bits of which none has more than its weight: each sum of them fits its type
-module _ {a b : ℕ} (h : a ≤ 131) (k : b ≤ 32) where
-  pub two-fit : Fits w8 (a + b)
-  two-fit = omega arith
-
-  module _ {c : ℕ} (l : c ≤ 16) where
-    pub three-fit : Fits w8 (a + b + c)
-    three-fit = omega arith
-
-    module _ {d : ℕ} (m : d ≤ 4) where
-      pub four-fit : Fits w8 (a + b + c + d)
-      four-fit = omega arith
-
-      pub four-wide : Fits w16 (a + b + c + d)
-      four-wide = omega arith
 
 queue-empty : (l : List ℕ) (q : ℕ) → 0 < length l → empty (take q l) ≡ eqb q 0
 queue-empty [] q h = absurd (omega arith)

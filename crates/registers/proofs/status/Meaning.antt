@@ -23,9 +23,6 @@ module _ (l : List ℕ) (q : ℕ) (long : length l ≡ most) where
   front-more : (x : ℕ) → q < most → take (q + 1) (set l q x) ≡ take q l ++ x ∷ []
   front-more x h = rw add-one (take-suc-set l q x (omega arith))
 
-  front-length : q ≤ most → length (take q l) ≡ q
-  front-length h = rw length-take (omega arith)
-
   full-last : (x : ℕ) → most ≤ q → take q (set l 15 x) ≡ take 15 (take q l) ++ x ∷ []
   full-last x h =
       rw (take-take 15 q l (omega arith), take-all q (set l 15 x) (rw length-set (omega arith)))

@@ -55,20 +55,9 @@ module _ (p : ℕ → Bool) (l : Text) (i : ℕ) (h : i < length l) where
   unfolding if_then_else_
   start-stop e = rw (drop-cons l i 0 h, e)
 
-  pub after-more : p (getD l i 0) ≡ true → after p (drop i l) ≡ after p (drop (i + 1) l)
-  unfolding if_then_else_
-  after-more e = rw (drop-cons l i 0 h, add-one i, e)
-
-  pub after-stop : p (getD l i 0) ≡ false → after p (drop i l) ≡ drop i l
-  unfolding if_then_else_
-  after-stop e = rw (drop-cons l i 0 h, e)
-
 module _ (p : ℕ → Bool) (l : Text) (i : ℕ) (h : length l ≤ i) where
   pub start-end : start p (drop i l) ≡ []
   start-end = rw (drop-of-length-le l h)
-
-  pub after-end : after p (drop i l) ≡ drop i l
-  after-end = rw (drop-of-length-le l h)
 
 -- ---- the whole of that start
 

@@ -4,7 +4,6 @@ use mathlib.Core.Path.{_≡_, refl}
 use mathlib.Core.Bool.{true}
 use mathlib.Core.List.{List, [], _∷_, _++_}
 use Prim.Native.Nat.{ℕ}
-use lib.ListN as L
 use lib.IntN.{ℤ, pos}
 use Rattle.registers.specs.Text.{if_then_else_, bytes, same, white, printable, digit, letter, wordByte, small, capital, every}
 use Rattle.registers.specs.Check.{_>>=_, _>>_, check}

@@ -1,7 +1,7 @@
 -- By what the row is for: what a setting's kind says of its parameters, and what a register may have (parameter/ByKind).
 use Rattle.registers.specs.Settings.{kindOf}
 use Rattle.interpreter.specs.Parameter.{greatest}
-use Rattle.interpreter.proofs.parameter.ByKind.{setting-most, register-most, most-none}
+use Rattle.interpreter.proofs.parameter.ByKind.{setting-most, register-most}
 use Rattle.interpreter.proofs.parameter.most.Statement.{statement}
 use Rattle.interpreter.proofs.parameter.most.Tie as tie
 
@@ -31,8 +31,12 @@ returns-2 : tie.Need-returns-2
 unfolding greatest
 returns-2 c = rw (c .enum-told .given .1) (register-most (c .before .before .args .asked))
 
+enum-told-2 : tie.Need-enum-told-2
+enum-told-2 c = c .match .keys3
+
 returns-3 : tie.Need-returns-3
-returns-3 c = most-none (c .before .args .role) (c .match .keys3) (c .before .args .asked)
+unfolding greatest
+returns-3 c = rw (c .enum-told2 .given .1)
 
 pub most-spec : {M : Type 1} → statement M
 most-spec =
@@ -43,6 +47,7 @@ most-spec =
     cast-result
     enum-told
     cast-result-2
+    enum-told-2
     returns
     returns-2
     returns-3)

@@ -151,16 +151,9 @@ returns-6 c =
 enum-known-role-3 : tie.Need-enum-known-role-3
 enum-known-role-3 c = c .match .keys3
 
-enum-known-role-4 : tie.Need-enum-known-role-4
-enum-known-role-4 c = c .match .keys4
-
 returns-7 : tie.Need-returns-7
 unfolding deedOf
 returns-7 c = passes (c .before .before .before) _ (c .before .role3 .given .1) (Obey (c .before .role3 .given .0 .0)) refl
-
-returns-8 : tie.Need-returns-8
-unfolding deedOf
-returns-8 c = passes (c .before .before .before) _ (c .before .role4 .given .1) (Obey (c .before .role4 .given .0 .0)) refl
 
 pub decide-spec : {M : Type 1} → statement M
 decide-spec =
@@ -180,6 +173,4 @@ decide-spec =
     decide-register-requires
     returns-6
     enum-known-role-3
-    enum-known-role-4
-    returns-7
-    returns-8)
+    returns-7)

@@ -3,7 +3,6 @@ use Rattle.registers.specs.Text.{if_then_else_, bytes, small}
 use Rattle.registers.specs.Words.{shortForm}
 use Rattle.interpreter.specs.WordsParts.{wordList, shortRow, shortTableOf, shortTable}
 use Rattle.interpreter.proofs.words.Shorts.{past-words}
-use borrow.Author.Needs.{needs}
 use Rattle.interpreter.proofs.words.write_short.Statement.{statement}
 use Rattle.interpreter.proofs.words.write_short.Tie as tie
 
