@@ -46,6 +46,13 @@ fewer h = omega arith
 pub rest-is : (l : Text) (at : ℕ) → at ≤ length l → take (length l - at) (drop at l) ≡ drop at l
 rest-is l at h = take-all (length l - at) (drop at l) (rw length-drop (omega arith))
 
+-- what is lent of a list, from a place to another
+pub part-is : (l : List ℕ) (from to : ℕ) → take (to - from) (drop from l) ≡ drop from (take to l)
+part-is l zero to = let e : to - 0 ≡ to = omega arith in rw e
+part-is l (suc from) zero = let e : 0 - suc from ≡ 0 = omega arith in rw e
+part-is [] (suc from) (suc to) = take-all (suc to - suc from) [] (omega arith)
+part-is (x ∷ l) (suc from) (suc to) = let e : suc to - suc from ≡ to - from = omega arith in rw e (part-is l from to)
+
 -- ---- one member
 
 pub every-at {ℓ} : {A : Type ℓ} (p : A → Bool) (l : List A) (k : ℕ) (d : A) → every p l ≡ true → k < length l → p (getD l k d) ≡ true

@@ -129,8 +129,9 @@ pub(crate) fn look_up(table: &[u8], path: &mut [u64], used: usize, text: &[u8]) 
         return Looked::Bad;
     }
     let first = or_zero(star, used);
+    let count = names.count;
     let heading = Heading {
-        row: rows::find(table, path, first, names.count, star, names.asked),
+        row: rows::find(table, &path[first..count], star, names.asked),
         asked: names.asked,
     };
     Looked::At {

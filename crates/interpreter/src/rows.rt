@@ -7,7 +7,7 @@ use crate::table::ROW_SIZE;
 use crate::table::ROWS;
 ghost use mathlib.Core.Path.{_≡_};
 ghost use Prim.Native.Nat.{_+_, _≤_, _<_};
-ghost use lib.ListN.{length, take, drop};
+ghost use lib.ListN.{length};
 ghost use Rattle.interpreter.specs.RowsParts.{nodeCount, rowCount, commandTable, nodeAt, rowCell, PairRead, QuadRead, keyCell, keyMatches, wordIn, nodeOf, leftOut, Walked, formBit, rowOfKeys, Marked, markOf, startOf};
 
 // Where a walk over a row's nodes goes on.
@@ -68,11 +68,11 @@ fn leave_out(node: u8, at: usize) -> Walk
 }
 
 // Takes a row's node at a name, or leaves it out if it is optional.
-fn take_node(table: &[u8], names: &[u64], count: usize, at: usize, node: u8) -> Walk
-    requires { ⌜ (now table ≡ commandTable) × (count ≤ length (now names)) × (at ≤ count) × (wordIn node < nodeCount) ⌝ }
-    ensures { λ r. ⌜ Walked (nodeOf node) (take count (now (names .entry))) at r ⌝ }
+fn take_node(table: &[u8], names: &[u64], at: usize, node: u8) -> Walk
+    requires { ⌜ (now table ≡ commandTable) × (at ≤ length (now names)) × (wordIn node < nodeCount) ⌝ }
+    ensures { λ r. ⌜ Walked (nodeOf node) (now (names .entry)) at r ⌝ }
 {
-    if count <= at {
+    if names.len() <= at {
         return leave_out(node, at);
     }
     if spells(table, names[at], (node % 128) as usize) {
@@ -93,13 +93,12 @@ fn form_bit(star: bool, asked: bool) -> u8
 }
 
 // Makes the names' first letters a mark below 256, which hardly any rows share.
-fn mark(names: &[u64], first: usize, count: usize, star: bool) -> usize
-    requires { ⌜ count ≤ length (now names) ⌝ }
-    ensures { λ r. ⌜ Marked star (drop first (take count (now (names .entry)))) r ⌝ }
+fn mark(names: &[u64], star: bool) -> usize
+    ensures { λ r. ⌜ Marked star (now (names .entry)) r ⌝ }
 {
     let mut letters = star as usize;
-    let mut i = first;
-    while i < count {
+    let mut i: usize = 0;
+    while i < names.len() {
         letters = (letters * 24 + (names[i] % 32) as usize) % 256;
         i += 1;
     }
@@ -107,28 +106,21 @@ fn mark(names: &[u64], first: usize, count: usize, star: bool) -> usize
 }
 
 // Looks up the first row that can have names with these first letters, or ROWS: the second lookup of 02 (#113).
-fn start_row(table: &[u8], names: &[u64], first: usize, count: usize, star: bool) -> usize
-    requires { ⌜ (now table ≡ commandTable) × (count ≤ length (now names)) ⌝ }
-    ensures { λ r. ⌜ r ≡ startOf (markOf star (drop first (take count (now (names .entry))))) ⌝ }
+fn start_row(table: &[u8], names: &[u64], star: bool) -> usize
+    requires { ⌜ now table ≡ commandTable ⌝ }
+    ensures { λ r. ⌜ r ≡ startOf (markOf star (now (names .entry))) ⌝ }
 {
-    table[FIRST_START + mark(names, first, count, star)] as usize
+    table[FIRST_START + mark(names, star)] as usize
 }
 
-// Finds the first row that spells the names after the first so many, in the form asked for, or ROWS. No row before the one where it
-// starts does. At the first node that is missed the inner loop is left and the next row is tried.
-pub(crate) fn find(
-    table: &[u8],
-    names: &[u64],
-    first: usize,
-    count: usize,
-    star: bool,
-    asked: bool,
-) -> usize
-    requires { ⌜ (now table ≡ commandTable) × (first ≤ count) × (count ≤ length (now names)) ⌝ }
-    ensures { λ r. ⌜ r ≡ rowOfKeys star (drop first (take count (now (names .entry)))) asked ⌝ }
+// Finds the first row that spells the names in the form asked for, or ROWS. No row before the one where it starts does. At the first
+// node that is missed the inner loop is left and the next row is tried.
+pub(crate) fn find(table: &[u8], names: &[u64], star: bool, asked: bool) -> usize
+    requires { ⌜ now table ≡ commandTable ⌝ }
+    ensures { λ r. ⌜ r ≡ rowOfKeys star (now (names .entry)) asked ⌝ }
 {
     let bit = form_bit(star, asked);
-    let mut next = start_row(table, names, first, count, star);
+    let mut next = start_row(table, names, star);
     'rows: while next < ROWS {
         let row = next;
         next += 1;
@@ -136,17 +128,17 @@ pub(crate) fn find(
             continue 'rows;
         }
         let n = row_cell(table, row, 1) as usize;
-        let mut at = first;
+        let mut at: usize = 0;
         let mut passed: usize = 0;
         while passed < n {
-            let walk = take_node(table, names, count, at, row_cell(table, row, passed + 2));
+            let walk = take_node(table, names, at, row_cell(table, row, passed + 2));
             match walk {
                 Walk::To(place) => at = place,
                 Walk::Missed => continue 'rows,
             }
             passed += 1;
         }
-        if at < count {
+        if at < names.len() {
             continue 'rows;
         }
         return row;

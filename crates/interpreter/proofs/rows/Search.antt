@@ -64,30 +64,30 @@ module _ {star : Bool} {keys : List ℕ} {asked : Bool} where
 -- ---- over the nodes of one row
 
 -- the first j of the row's n nodes are taken or left out, and the names that are left start at a place
-pub record Trying (star asked : Bool) (keys : List ℕ) (first n row at j : ℕ) : Type 0 where
+pub record Trying (star asked : Bool) (keys : List ℕ) (n row at j : ℕ) : Type 0 where
   pub known : row < rowCount
-  pub seek : Seeking star (drop first keys) asked row
+  pub seek : Seeking star keys asked row
   pub form : formed row (formBit star asked) ≡ true
   pub count : n ≡ length (rowAt row .nodes)
   pub within : at ≤ length keys
-  pub on : greedy (rowAt row .nodes) (drop first keys) ≡ greedy (drop j (rowAt row .nodes)) (drop at keys)
+  pub on : greedy (rowAt row .nodes) keys ≡ greedy (drop j (rowAt row .nodes)) (drop at keys)
 
-pub try-start : {star asked : Bool} {keys : List ℕ} {first row n : ℕ} → row < rowCount → Seeking star (drop first keys) asked row
-    → formed row (formBit star asked) ≡ true → n ≡ rowCell row 1 → first ≤ length keys → Trying star asked keys first n row first 0
-try-start {row = row} h s f e l = record { known = h; seek = s; form = f; count = e ∙ count-cell row h; within = l; on = refl }
+pub try-start : {star asked : Bool} {keys : List ℕ} {row n : ℕ} → row < rowCount → Seeking star keys asked row
+    → formed row (formBit star asked) ≡ true → n ≡ rowCell row 1 → Trying star asked keys n row 0 0
+try-start {row = row} h s f e = record { known = h; seek = s; form = f; count = e ∙ count-cell row h; within = omega arith; on = refl }
 
-module _ {star asked : Bool} {keys : List ℕ} {first n row at j : ℕ} (w : Trying star asked keys first n row at j) where
+module _ {star asked : Bool} {keys : List ℕ} {n row at j : ℕ} (w : Trying star asked keys n row at j) where
   abbrev nodes : List Node
   nodes = rowAt row .nodes
 
   -- one node more, and where the walk goes on
   module _ (h : j < n) (x : ℕ) (cell : x ≡ rowCell row (j + 2)) (k : Walk) (f : Walked (nodeOf x) keys at k) where
-    one-more : greedy nodes (drop first keys) ≡ greedy (nodeOf x ∷ drop (j + 1) nodes) (drop at keys)
+    one-more : greedy nodes keys ≡ greedy (nodeOf x ∷ drop (j + 1) nodes) (drop at keys)
     one-more =
         let c = w .count in
         w .on ∙ ap (λ (ns : List Node). greedy ns (drop at keys)) (rw cell (nodes-from row (w .known) j (omega arith)))
 
-    pub try-on : {next : ℕ} → k ≡ To next → Trying star asked keys first n row next (j + 1)
+    pub try-on : {next : ℕ} → k ≡ To next → Trying star asked keys n row next (j + 1)
     try-on {next} e =
         let g = subst (λ (k : Walk). Walked (nodeOf x) keys at k) e f in
         record {
@@ -99,7 +99,7 @@ module _ {star asked : Bool} {keys : List ℕ} {first n row at j : ℕ} (w : Try
           on = one-more ∙ g .0 (drop (j + 1) nodes);
         }
 
-    pub try-missed : k ≡ Missed → Seeking star (drop first keys) asked (row + 1)
+    pub try-missed : k ≡ Missed → Seeking star keys asked (row + 1)
     try-missed e =
         let g = subst (λ (k : Walk). Walked (nodeOf x) keys at k) e f in
         skip-walk (w .seek) (w .known) (one-more ∙ g (drop (j + 1) nodes))
@@ -108,10 +108,10 @@ module _ {star asked : Bool} {keys : List ℕ} {first n row at j : ℕ} (w : Try
     no-nodes : drop j nodes ≡ []
     no-nodes = let c = w .count in let l : length nodes ≤ j = omega arith in drop-of-length-le nodes l
 
-    pub try-left : at < length keys → Seeking star (drop first keys) asked (row + 1)
+    pub try-left : at < length keys → Seeking star keys asked (row + 1)
     unfolding greedy
     try-left k = skip-walk (w .seek) (w .known) (w .on ∙ rw (no-nodes, drop-cons keys at 0 k))
 
-    pub try-done : length keys ≤ at → row ≡ rowOfKeys star (drop first keys) asked
+    pub try-done : length keys ≤ at → row ≡ rowOfKeys star keys asked
     unfolding greedy
     try-done k = hit (w .seek) (w .known) (w .form) (w .on ∙ rw (no-nodes, drop-of-length-le keys k))

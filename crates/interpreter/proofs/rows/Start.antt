@@ -144,32 +144,22 @@ module _ (star : Bool) (keys : List ℕ) (asked : Bool) where
 
 -- ---- the loop over the names' first letters
 
-pub record Marking (star : Bool) (keys : List ℕ) (first letters i : ℕ) : Type 0 where
-  pub on : markFrom letters (drop i keys) ≡ markOf star (drop first keys)
+pub record Marking (star : Bool) (keys : List ℕ) (letters i : ℕ) : Type 0 where
+  pub on : markFrom letters (drop i keys) ≡ markOf star keys
   pub few : letters < 256
 
-pub marking-start : (star : Bool) (keys : List ℕ) (first : ℕ) → Marking star keys first (boolByte star) first
-marking-start star keys first = record { on = refl; few = go star }
+pub marking-start : (star : Bool) (keys : List ℕ) → Marking star keys (boolByte star) 0
+marking-start star keys = record { on = refl; few = go star }
   where
     go : (s : Bool) → boolByte s < 256
     go true = omega arith
     go false = omega arith
 
-module _ {star : Bool} (names : List ℕ) {count first letters i : ℕ} (room : count ≤ length names) (m : Marking star (take count names) first letters i) where
-  held : length (take count names) ≡ count
-  held = let l = length-take count names in omega arith
-
-  pub marking-on : i < count → Marking star (take count names) first (withLetter letters (getD names i 0 % 32)) (i + 1)
+module _ {star : Bool} {keys : List ℕ} {letters i : ℕ} (m : Marking star keys letters i) where
+  pub marking-on : i < length keys → Marking star keys (withLetter letters (getD keys i 0 % 32)) (i + 1)
   unfolding markFrom
-  marking-on h =
-      let l = held in
-      let d : drop i (take count names) ≡ getD names i 0 ∷ drop (i + 1) (take count names) =
-      rw (add-one i, ← getD-take count names i 0 h) (drop-cons (take count names) i 0 (omega arith)) in
-      record { on = rw d at (m .on); few = omega arith }
+  marking-on h = record { on = rw (drop-cons keys i 0 h, ← add-one i) at (m .on); few = omega arith }
 
-  pub marking-end : count ≤ i → Marked star (drop first (take count names)) letters
+  pub marking-end : length keys ≤ i → Marked star keys letters
   unfolding markFrom
-  marking-end h =
-      let l = held in
-      let e : length (take count names) ≤ i = omega arith in
-      record { is = rw (drop-of-length-le (take count names) e) at (m .on); small = m .few }
+  marking-end h = record { is = rw (drop-of-length-le keys h) at (m .on); small = m .few }

@@ -1,13 +1,13 @@
 -- Laws of one step of a walk over a row's nodes.
-use mathlib.Core.Path.{_≡_, sym, _∙_, ap}
+use mathlib.Core.Path.{_≡_}
 use mathlib.Core.Bool.{Bool, true, false}
 use mathlib.Core.List.{List, _∷_}
 use Prim.Native.Nat.{ℕ, _+_, _≤_, _<_}
 use native.Mathlib.Numerals.{add-one}
 use native.Mathlib.Omega.{arith}
 use lib.Dec.{ltb}
-use lib.ListN.{length, getD, take, drop, length-take, drop-of-length-le}
-use lib.Seq.{drop-cons, getD-take}
+use lib.ListN.{length, getD, drop, drop-of-length-le}
+use lib.Seq.{drop-cons}
 use Rattle.registers.specs.Text.{if_then_else_}
 use Rattle.registers.specs.Words.{Node, must, may}
 use Rattle.interpreter.specs.RowsParts.{nodeAt, keyMatches, greedy, wordIn, nodeOf, leftOut, Walked}
@@ -45,21 +45,3 @@ module _ (node : ℕ) (keys : List ℕ) (at : ℕ) where
             ≡ greedy nodes (drop (at + 1) keys)
         go true nodes = rw (drop-cons keys at 0 h, e, add-one at)
         go false nodes = rw (drop-cons keys at 0 h, e, add-one at)
-
--- the numbers are the first of an array
-module _ (node : ℕ) (names : List ℕ) (count at : ℕ) (few : count ≤ length names) where
-  held : length (take count names) ≡ count
-  held = let l = length-take count names in omega arith
-
-  pub node-end : at ≤ count → count ≤ at → Walked (nodeOf node) (take count names) at (leftOut node at)
-  node-end a h = let l = held in walk-end node (take count names) at (omega arith) (omega arith)
-
-  module _ (h : at < count) {b : Bool} (e : b ≡ keyMatches (nodeAt (wordIn node)) (getD names at 0)) where
-    spelled : keyMatches (nodeAt (wordIn node)) (getD (take count names) at 0) ≡ b
-    spelled = ap (keyMatches (nodeAt (wordIn node))) (getD-take count names at 0 h) ∙ sym e
-
-    pub node-past : b ≡ false → Walked (nodeOf node) (take count names) at (leftOut node at)
-    node-past q = let l = held in walk-past node (take count names) at (omega arith) (spelled ∙ q)
-
-    pub node-on : b ≡ true → Walked (nodeOf node) (take count names) at (To (at + 1))
-    node-on q = let l = held in walk-on node (take count names) at (omega arith) (spelled ∙ q)

@@ -3,12 +3,13 @@
 use mathlib.Core.Path.{_≡_, refl, sym, _∙_}
 use mathlib.Core.Bool.{true, not, _||_}
 use mathlib.Core.List.{List}
-use Prim.Native.Nat.{ℕ}
+use Prim.Native.Nat.{ℕ, _≤_}
 use lib.Dec.{eqb}
 use lib.ListN.{length, take}
 use borrow.Author.Tests.{not-true, not-false}
 use mir.Val.{boolByte}
 use Rattle.interpreter.specs.HeaderParts.{mostNames, orZero, NamesRead}
+use Rattle.interpreter.proofs.Lists.{part-is}
 use Rattle.interpreter.proofs.header.Path.{or-zero-small}
 use Rattle.interpreter.proofs.header.Grammar.{led, look-bad, first-fits, look-found}
 use native.Mathlib.Omega.{arith}
@@ -47,6 +48,17 @@ read-of e = e .before .before .before .before
 is-good : (e : tie.Else1) → read-of e .read-names .result .good ≡ true
 is-good e = not-false _ (e .if1 .left)
 
+-- the search begins among the names that are held
+begins : (z : tie.After-or-zero2) → let n = read-of (z .before) .read-names .result in (z .or-zero2 .result ≤ n .count) × (n .count ≤ mostNames)
+begins z =
+    let e = z .before in
+    let p = read-of e in
+    let s = entry p in
+    let y = first-of p .byte-at in
+    let m = entered p in
+    let fits = first-fits (s .args .text .now) (s .args .path .now) (s .args .used) (s .pre .1) (s .pre .2) (keys p) (kept p) (p .read-names .result) (y .result) (y .ensures) m (is-good e) in
+    (rw (z .or-zero2 .ensures) fits, m .found (is-good e) .few)
+
 byte-at-requires : tie.Need-byte-at-requires
 byte-at-requires c κs = search needs
 
@@ -79,21 +91,24 @@ returns c =
 or-zero-requires-2 : tie.Need-or-zero-requires-2
 or-zero-requires-2 c κs = search needs
 
-find-requires : tie.Need-find-requires
-find-requires c κs =
-    let e = c .before .before in
-    let p = read-of e in
-    let s = entry p in
-    let y = first-of p .byte-at in
-    let m = entered p in
-    let few = m .found (is-good e) .few in
-    let k = kept p in
-    let fits = first-fits (s .args .text .now) (s .args .path .now) (s .args .used) (s .pre .1) (s .pre .2) (keys p) k (p .read-names .result) (y .result) (y .ensures) m (is-good e) in
-    (s .pre .0, rw (c .before .or-zero2 .ensures) fits, omega arith)
+mul-find : tie.Need-mul-find
+mul-find c = let b = begins c in omega (arith, b .0, b .1)
 
-sub-t13 : tie.Need-sub-t13
-sub-t13 c =
-    let e = c .before .before .before .before in
+sub-find : tie.Need-sub-find
+sub-find c = begins c .0
+
+part-find-start : tie.Need-part-find-start
+part-find-start c = begins (c .before) .0
+
+part-find-end : tie.Need-part-find-end
+part-find-end c = let b = begins (c .before) in let k = kept (read-of (c .before .before)) in omega arith
+
+find-requires : tie.Need-find-requires
+find-requires c κs = entry (read-of (c .before .before .before)) .pre .0
+
+sub-t14 : tie.Need-sub-t14
+sub-t14 c =
+    let e = c .before .before .before .before .before in
     let some = read-of e .read-names .ensures .found (is-good e) .some in
     omega arith
 
@@ -102,12 +117,14 @@ same-length-2 c = search needs
 
 returns-2 : tie.Need-returns-2
 returns-2 c =
-    let e = c .before .before .before .before in
+    let z = c .before .before .before .before in
+    let e = z .before in
     let p = read-of e in
     let s = entry p in
     let y = first-of p .byte-at in
+    let part = part-is (keys p) (z .or-zero2 .result) (p .read-names .result .count) in
     λ names h. look-found (s .args .text .now) names (s .args .path .now) (s .args .used) h (s .pre .2) (keys p) (kept p) (p .read-names .result) (c .before .find .result)
-    (y .result) (y .ensures) (entered p) (is-good e) (rw (c .before .before .before .or-zero2 .ensures) at (c .before .find .ensures))
+    (y .result) (y .ensures) (entered p) (is-good e) (rw (part, z .or-zero2 .ensures) at (c .before .find .ensures))
 
 pub look-up-spec : {M : Type 1} → statement M
 look-up-spec =
@@ -120,7 +137,11 @@ look-up-spec =
     same-length
     returns
     or-zero-requires-2
+    mul-find
+    sub-find
+    part-find-start
+    part-find-end
     find-requires
-    sub-t13
+    sub-t14
     same-length-2
     returns-2)

@@ -1,8 +1,6 @@
 -- The search over the rows and, in one, over its nodes. Outer invariant: rows/Search's `Seeking`, no row before this one fits; measure:
 -- the rows that are left. Inner invariant: `Trying`, the nodes before this one are taken or left out; measure: the nodes that are left.
-use mathlib.Core.Path.{_≡_}
 use Prim.Native.Nat.{_-_}
-use lib.ListN.{length, take, drop, length-take}
 use Rattle.interpreter.specs.RowsParts.{rowCount}
 use Rattle.interpreter.proofs.Lists.{fewer}
 use Rattle.interpreter.proofs.rows.Rows.{nodes-few, node-known, unformed, is-formed}
@@ -12,16 +10,16 @@ use Rattle.interpreter.proofs.rows.find.Statement.{statement}
 use Rattle.interpreter.proofs.rows.find.Tie as tie
 
 abbrev Inv-loop : tie.InvT-loop
-Inv-loop table names first count star asked bit next row n at₀ passed₀ at passed = Trying star asked (take count names) first n row at passed
+Inv-loop table names star asked bit next row n at₀ passed₀ at passed = Trying star asked names n row at passed
 
 abbrev μ-loop : tie.MeasureT-loop
-μ-loop table names first count star asked bit next row n at₀ passed₀ at passed = n - passed
+μ-loop table names star asked bit next row n at₀ passed₀ at passed = n - passed
 
 abbrev Inv-rows : tie.InvT-rows
-Inv-rows table names first count star asked bit next₀ next = Seeking star (drop first (take count names)) asked next
+Inv-rows table names star asked bit next₀ next = Seeking star names asked next
 
 abbrev μ-rows : tie.MeasureT-rows
-μ-rows table names first count star asked bit next₀ next = rowCount - next
+μ-rows table names star asked bit next₀ next = rowCount - next
 
 -- at a row: once the form's bit is known, and the start
 abbrev bit-of : tie.In-rows Inv-loop μ-loop Inv-rows μ-rows → tie.After-form-bit Inv-loop μ-loop Inv-rows μ-rows
@@ -34,22 +32,14 @@ entry i = bit-of i .before .before .before
 abbrev row-of : tie.At-loop Inv-loop μ-loop Inv-rows μ-rows → tie.In-rows Inv-loop μ-loop Inv-rows μ-rows
 row-of l = l .before .before .before .before
 
--- so many names there are
-counted : (i : tie.In-rows Inv-loop μ-loop Inv-rows μ-rows) → let a = entry i .args in length (take (a .count) (a .names .now)) ≡ a .count
-counted i =
-    let a = entry i .args in
-    let t = length-take (a .count) (a .names .now) in
-    let p = entry i .pre in
-    omega arith
-
 start-row-requires : tie.Need-start-row-requires Inv-loop μ-loop Inv-rows μ-rows
-start-row-requires c κs = let p = c .before .before .before .pre in (p .0, p .2)
+start-row-requires c κs = c .before .before .before .pre
 
 rows-holds : tie.Need-rows-holds Inv-loop μ-loop Inv-rows μ-rows
 rows-holds c = seek-start (c .start-row .ensures)
 
 row-cell-requires : tie.Need-row-cell-requires Inv-loop μ-loop Inv-rows μ-rows
-row-cell-requires c κs = (entry c .pre .0, c .rows-test .taken, omega arith)
+row-cell-requires c κs = (entry c .pre, c .rows-test .taken, omega arith)
 
 rows-less : tie.Need-rows-less Inv-loop μ-loop Inv-rows μ-rows
 rows-less c = fewer (c .before .before .rows-test .taken)
@@ -61,15 +51,13 @@ rows-again c =
     skip-form (i .before .rows .inv) (i .rows-test .taken) f
 
 row-cell-requires-2 : tie.Need-row-cell-requires-2 Inv-loop μ-loop Inv-rows μ-rows
-row-cell-requires-2 c κs = let i = c .before .before in (entry i .pre .0, i .rows-test .taken, omega arith)
+row-cell-requires-2 c κs = let i = c .before .before in (entry i .pre, i .rows-test .taken, omega arith)
 
 loop-holds : tie.Need-loop-holds Inv-loop μ-loop Inv-rows μ-rows
 loop-holds c =
     let i = c .before .before .before in
     let f = rw (bit-of i .form-bit .ensures) at (is-formed _ _ _ (c .before .before .row-cell .ensures) (c .before .if1 .left)) in
-    let k = counted i in
-    let p = entry i .pre in
-    try-start (i .rows-test .taken) (i .before .rows .inv) f (c .row-cell2 .ensures) (omega arith)
+    try-start (i .rows-test .taken) (i .before .rows .inv) f (c .row-cell2 .ensures)
 
 add-row-cell : tie.Need-add-row-cell Inv-loop μ-loop Inv-rows μ-rows
 add-row-cell c = let w = c .before .loop .inv in let f = nodes-few _ (w .known) in let k = w .count in omega arith
@@ -79,18 +67,15 @@ row-cell-requires-3 c κs =
     let w = c .before .loop .inv in
     let f = nodes-few _ (w .known) in
     let k = w .count in
-    (entry (row-of (c .before)) .pre .0, w .known, omega arith)
+    (entry (row-of (c .before)) .pre, w .known, omega arith)
 
 take-node-requires : tie.Need-take-node-requires Inv-loop μ-loop Inv-rows μ-rows
 take-node-requires c κs =
     let l = c .before .before in
     let w = l .loop .inv in
     let n = w .count in
-    let t = counted (row-of l) in
     let k = node-known _ (w .known) (l .loop .passed) (omega arith) in
-    let i = w .within in
-    let p = entry (row-of l) .pre in
-    (p .0, p .2, omega arith, rw (c .row-cell3 .ensures) k)
+    (entry (row-of l) .pre, w .within, rw (c .row-cell3 .ensures) k)
 
 rows-less-2 : tie.Need-rows-less-2 Inv-loop μ-loop Inv-rows μ-rows
 rows-less-2 c = fewer (row-of (c .before .before .before .before .before) .rows-test .taken)
@@ -116,18 +101,10 @@ rows-less-3 : tie.Need-rows-less-3 Inv-loop μ-loop Inv-rows μ-rows
 rows-less-3 c = fewer (row-of (c .before .before) .rows-test .taken)
 
 rows-again-3 : tie.Need-rows-again-3 Inv-loop μ-loop Inv-rows μ-rows
-rows-again-3 c =
-    let l = c .before .before in
-    let t = counted (row-of l) in
-    let k = c .if2 .taken in
-    try-left (l .loop .inv) (c .before .loop-test .left) (omega arith)
+rows-again-3 c = try-left (c .before .before .loop .inv) (c .before .loop-test .left) (c .if2 .taken)
 
 returns : tie.Need-returns Inv-loop μ-loop Inv-rows μ-rows
-returns c =
-    let l = c .before .before in
-    let t = counted (row-of l) in
-    let k = c .if2 .left in
-    try-done (l .loop .inv) (c .before .loop-test .left) (omega arith)
+returns c = try-done (c .before .before .loop .inv) (c .before .loop-test .left) (c .if2 .left)
 
 returns-2 : tie.Need-returns-2 Inv-loop μ-loop Inv-rows μ-rows
 returns-2 c = seek-end (c .before .rows .inv) (c .rows-test .left)

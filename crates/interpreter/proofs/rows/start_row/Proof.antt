@@ -17,13 +17,13 @@ add-result : tie.Need-add-result
 add-result c = search needs
 
 shared-slice-read-result : tie.Need-shared-slice-read-result
-shared-slice-read-result c = let e = ap length (c .before .before .before .before .pre .0) in let l = commands-long in let m = c .before .mark .ensures .small in omega arith
+shared-slice-read-result c = let e = ap length (c .before .before .before .before .pre) in let l = commands-long in let m = c .before .mark .ensures .small in omega arith
 
 cast-result : tie.Need-cast-result
 cast-result c = omega (arith, c .shared-slice-known3 .given (firstStart + c .before .mark .result))
 
 returns : tie.Need-returns
-returns c = let m = c .before .mark in rw (c .before .before .before .before .pre .0) (start-byte (m .result) (m .ensures .small) ∙ ap startOf (m .ensures .is))
+returns c = let m = c .before .mark in rw (c .before .before .before .before .pre) (start-byte (m .result) (m .ensures .small) ∙ ap startOf (m .ensures .is))
 
 pub start-row-spec : {M : Type 1} → statement M
 start-row-spec =

@@ -1,7 +1,8 @@
 -- Three ways: no name is left, a name spells the node, or it doesn't. In the first and the last the node is left out, if it is optional.
 -- Each is a law of rows/Walks.
+use mathlib.Core.Path.{sym, _∙_}
 use Rattle.interpreter.specs.RowsParts.{wordIn}
-use Rattle.interpreter.proofs.rows.Walks.{node-end, node-on, node-past}
+use Rattle.interpreter.proofs.rows.Walks.{walk-end, walk-on, walk-past}
 use borrow.Author.Needs.{needs}
 use Rattle.interpreter.proofs.rows.take_node.Statement.{statement}
 use Rattle.interpreter.proofs.rows.take_node.Tie as tie
@@ -17,7 +18,7 @@ returns : tie.Need-returns
 returns c =
     let s = c .before .before .before .before in
     let a = s .args in
-    rw (c .leave-out .ensures) (node-end (a .node) (a .names .now) (a .count) (a .at) (s .pre .1) (s .pre .2) (c .before .if1 .taken))
+    rw (c .leave-out .ensures) (walk-end (a .node) (a .names .now) (a .at) (s .pre .1) (c .before .if1 .taken))
 
 mul-spells : tie.Need-mul-spells
 mul-spells c = search needs
@@ -30,17 +31,17 @@ cast-spells c = search needs
 
 spells-requires : tie.Need-spells-requires
 unfolding wordIn
-spells-requires c κs = let p = entry (c .before) .pre in (p .0, p .3)
+spells-requires c κs = let p = entry (c .before) .pre in (p .0, p .2)
 
-add-t13 : tie.Need-add-t13
-add-t13 c = search needs
+add-t12 : tie.Need-add-t12
+add-t12 c = search needs
 
 returns-2 : tie.Need-returns-2
 unfolding wordIn
 returns-2 c =
     let e = c .before .before .before in
     let a = entry e .args in
-    node-on (a .node) (a .names .now) (a .count) (a .at) (entry e .pre .1) (e .if1 .left) (c .before .spells .ensures) (c .if2 .taken)
+    walk-on (a .node) (a .names .now) (a .at) (e .if1 .left) (sym (c .before .spells .ensures) ∙ c .if2 .taken)
 
 leave-out-requires-2 : tie.Need-leave-out-requires-2
 leave-out-requires-2 c κs = search needs
@@ -50,7 +51,7 @@ unfolding wordIn
 returns-3 c =
     let e = c .before .before .before .before in
     let a = entry e .args in
-    rw (c .leave-out2 .ensures) (node-past (a .node) (a .names .now) (a .count) (a .at) (entry e .pre .1) (e .if1 .left) (c .before .before .spells .ensures) (c .before .if2 .left))
+    rw (c .leave-out2 .ensures) (walk-past (a .node) (a .names .now) (a .at) (e .if1 .left) (sym (c .before .before .spells .ensures) ∙ c .before .if2 .left))
 
 pub take-node-spec : {M : Type 1} → statement M
 take-node-spec =
@@ -62,7 +63,7 @@ take-node-spec =
     shared-slice-read-spells
     cast-spells
     spells-requires
-    add-t13
+    add-t12
     returns-2
     leave-out-requires-2
     returns-3)
