@@ -17,6 +17,14 @@ pub is-empty : (t : Text) → empty t ≡ true → t ≡ []
 is-empty [] q = refl
 is-empty (x ∷ xs) q = absurd (false≢true q)
 
+pub no-bytes : (t : Text) → length t ≡ 0 → t ≡ []
+no-bytes [] e = refl
+no-bytes (x ∷ xs) e = absurd (omega arith)
+
+pub some-bytes : (t : Text) → (length t ≡ 0 → ⊥) → empty t ≡ false
+some-bytes [] h = absurd (h refl)
+some-bytes (x ∷ xs) h = refl
+
 -- ---- the same bytes
 
 pub same-eq : (x y : Text) → same x y ≡ true → x ≡ y

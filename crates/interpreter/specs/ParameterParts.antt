@@ -85,8 +85,8 @@ unfoldable pub storeTo : Register → ℤ → Side → Checked Deed
 storeTo x v side = check 222 (leZ (pos 0) v && leZ v (pos (widest x))) >> passed (Change (Store x (natAbs v) side))
 
 -- the parameters of a text that has none, or one
-abbrev pub partsOf : ℕ → Text → List Text
-partsOf n t = if eqb n 0 then [] else t ∷ []
+abbrev pub partsOf : Text → List Text
+partsOf t = if empty t then [] else t ∷ []
 
 -- checks 5 to 7 on a register
 unfoldable pub registerTo : Register → Bool → Text → Checked Deed

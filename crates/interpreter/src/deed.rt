@@ -1,4 +1,4 @@
-// What an accepted unit does, and what a row's header is for.
+// What an accepted unit does, and what its header is for.
 use registers::rounding::Side;
 use registers::settings::Settings;
 use registers::status::Register;
@@ -48,6 +48,12 @@ pub enum Deed {
     Clear,
     Query(Query),
     Inquire(Inquiry),
+}
+
+// What a header comes to: its row, or ROWS where it has none, and whether it asks.
+pub(crate) struct Heading {
+    pub(crate) row: usize,
+    pub(crate) asked: bool,
 }
 
 // A setting or a register is set and asked; every other header has only one form, and one deed.

@@ -2,6 +2,7 @@
 //
 // The path is the numbers of its names. One scan finds a header's end, its grammar and its names, which are added to the path;
 // the path that is left is all of them but the last.
+use crate::deed::Heading;
 use crate::name;
 use crate::rows;
 use registers::text;
@@ -22,12 +23,6 @@ struct Names {
     asked: bool,
     end: usize,
     count: usize,
-}
-
-// What a header comes to: its row, or ROWS, and whether it asks.
-pub(crate) struct Heading {
-    pub(crate) row: usize,
-    pub(crate) asked: bool,
 }
 
 // What is found of a header, how many names the new path has, and where the header ends.

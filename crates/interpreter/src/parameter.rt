@@ -1,6 +1,7 @@
 // Checks 4 to 7: how many parameters a unit has, what each is, and the value that it gives.
 use crate::deed::Change;
 use crate::deed::Deed;
+use crate::deed::Heading;
 use crate::deed::Query;
 use crate::deed::Role;
 use crate::words;
@@ -22,6 +23,7 @@ use registers::text;
 ghost use mathlib.Core.Path.{_≡_};
 ghost use mathlib.Core.Bool.{true, not, _&&_};
 ghost use Prim.Native.Nat.{_+_, _≤_, _<_};
+ghost use lib.ListN.{length};
 ghost use Rattle.registers.specs.Rounding.{rounded, sideIn};
 ghost use Rattle.registers.specs.Settings.{count, kindOf, quantityOf};
 ghost use Rattle.interpreter.specs.RowsParts.{commandTable};
@@ -203,15 +205,16 @@ fn obey_query(query: Query) -> Decision
 }
 
 // Decides on a value of a setting: the limits let it pass or not, and so does exam mode. A query asks for it.
-fn decide_value(settings: Settings, row: usize, asked: bool, rounded: Rounded) -> Decision
-    ensures { λ r. ⌜ meantDeed r ≡ putFit settings row asked (rounded .fit) (rounded .side) ⌝ }
+fn decide_value(settings: Settings, heading: Heading, rounded: Rounded) -> Decision
+    ensures { λ r. ⌜ meantDeed r ≡ putFit settings (heading .row) (heading .asked) (rounded .fit) (rounded .side) ⌝ }
 {
+    let row = heading.row;
     let fit = rounded.fit;
     let side = rounded.side;
     match fit {
         Fit::Outside => return Decision::Refused(Error::DataOutOfRange),
         Fit::Within(value) => {
-            if asked {
+            if heading.asked {
                 return obey_query(Query::Limit { row, value });
             }
             if !settings.accepts(side) {
@@ -239,23 +242,22 @@ fn decide_figure(register: Register, d: Decimal) -> Decision
     }
 }
 
-// Makes checks 5 to 7 on a setting, where check 4 let the number of parameters pass.
+// Makes checks 5 to 7 on a setting, where check 4 let the number of parameters pass: the text is one, or there is none.
 pub(crate) fn decide_setting(
     table: &[u8],
     settings: Settings,
-    row: usize,
-    asked: bool,
-    parts: usize,
+    heading: Heading,
     text: &[u8],
 ) -> Decision
-    requires { ⌜ (now table ≡ commandTable) × (row < count) ⌝ }
-    requires { ⌜ (least (Role.Setting row) asked ≤ parts) × (parts ≤ greatest (Role.Setting row) asked) ⌝ }
-    ensures { λ r. ⌜ meantDeed r ≡ deedOf settings (Role.Setting row) asked (partsOf parts (now (text .entry))) ⌝ }
+    requires { ⌜ (now table ≡ commandTable) × (heading .row < count) ⌝ }
+    requires { ⌜ (least (Role.Setting (heading .row)) (heading .asked) ≤ length (partsOf (now text))) × (length (partsOf (now text)) ≤ greatest (Role.Setting (heading .row)) (heading .asked)) ⌝ }
+    ensures { λ r. ⌜ meantDeed r ≡ deedOf settings (Role.Setting (heading .row)) (heading .asked) (partsOf (now (text .entry))) ⌝ }
 {
-    if parts == 0 {
+    let row = heading.row;
+    if text.len() == 0 {
         return obey_query(Query::Value(row));
     }
-    let parameter = read_parameter(table, setting_takes(row), asked, text);
+    let parameter = read_parameter(table, setting_takes(row), heading.asked, text);
     match parameter {
         Parameter::Refused(e) => return Decision::Refused(e),
         Parameter::Word(word) => {
@@ -263,10 +265,10 @@ pub(crate) fn decide_setting(
                 fit: Fit::Within(word_value(settings, row, word)),
                 side: Side::On,
             };
-            return decide_value(settings, row, asked, within);
+            return decide_value(settings, heading, within);
         }
         Parameter::Figure(d) => {
-            return decide_value(settings, row, asked, figure_value(settings, row, d));
+            return decide_value(settings, heading, figure_value(settings, row, d));
         }
     }
 }

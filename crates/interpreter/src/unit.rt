@@ -1,8 +1,8 @@
 // Checks 1 to 7 on one unit, a part of the line where it stands.
 use crate::deed;
+use crate::deed::Heading;
 use crate::deed::Role;
 use crate::header;
-use crate::header::Heading;
 use crate::header::Looked;
 use crate::header::MOST;
 use crate::parameter;
@@ -81,8 +81,8 @@ fn decide(table: &[u8], settings: Settings, heading: Heading, text: &[u8]) -> De
         return Decision::Refused(Error::MissingParameter);
     }
     match role {
-        Role::Setting(row) => {
-            return parameter::decide_setting(table, settings, row, asked, counted.parts, text);
+        Role::Setting(_) => {
+            return parameter::decide_setting(table, settings, heading, text);
         }
         Role::Register(register) => {
             return parameter::decide_register(table, register, asked, text);

@@ -59,7 +59,7 @@ unfolding parameters if_then_else_
 parameters-some [] h = absurd (h refl)
 parameters-some (b ∷ bs) h = refl
 
-parts-one : (t : Text) → trim t ≡ t → length (parameters t) ≤ 1 → partsOf (length (parameters t)) t ≡ parameters t
+parts-one : (t : Text) → trim t ≡ t → length (parameters t) ≤ 1 → partsOf t ≡ parameters t
 unfolding parameters if_then_else_
 parts-one [] e h = refl
 parts-one (b ∷ bs) e h =
@@ -68,8 +68,8 @@ parts-one (b ∷ bs) e h =
     let one : cutAt (code ",") t ≡ t ∷ [] = cut-one (code ",") t (omega arith) in
     rw (one, e)
 
-pub parts-are : (t : Text) → trim t ≡ t → (n : Counted) → CountedIn t n → n .parts ≤ 1 → partsOf (n .parts) t ≡ parameters t
-parts-are t e n is h = let p = is .parts in rw p (parts-one t e (omega arith))
+pub parts-are : (t : Text) → trim t ≡ t → (n : Counted) → CountedIn t n → n .parts ≤ 1 → partsOf t ≡ parameters t
+parts-are t e n is h = let p = is .parts in parts-one t e (omega arith)
 
 -- ---- trimming: nothing is left of white space, and of nothing else
 

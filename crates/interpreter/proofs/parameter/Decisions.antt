@@ -10,7 +10,8 @@ use lib.Signed.{leZ, mag, nonNeg}
 use mir.Syntax.{w16, w32}
 use mir.Val.{Fits, ofZ, toZ, boolByte}
 use mir.Facts.{toZ-ofZ, toZ-pos}
-use borrow.Author.Tests.{leb-true, ne-eqb}
+use lib.ListN.{length}
+use borrow.Author.Tests.{leb-true}
 use Rattle.registers.specs.Text.{Text, if_then_else_}
 use Rattle.registers.specs.Check.{Checked, refused, passed, _>>=_, _>>_, check}
 use Rattle.registers.specs.Error.{numberOf}
@@ -172,8 +173,9 @@ module _ (x : Register) (t : Text) where
   register-figure e = rw e
 
 -- a parameter is there where check 4 asked for one
-pub register-is : (s : Settings) (x : Register) (asked : Bool) (n : ℕ) (t : Text) → least (register x) asked ≤ n
-    → registerTo x asked t ≡ deedOf s (register x) asked (partsOf n t)
+pub register-is : (s : Settings) (x : Register) (asked : Bool) (t : Text) → least (register x) asked ≤ length (partsOf t)
+    → registerTo x asked t ≡ deedOf s (register x) asked (partsOf t)
 unfolding registerTo deedOf least if_then_else_
-register-is s x true n t h = refl
-register-is s x false n t h = let some : (n ≡ 0 → ⊥) = (λ (e : n ≡ 0). omega arith) in rw (ne-eqb n 0 some)
+register-is s x true t h = refl
+register-is s x false [] h = absurd (omega arith)
+register-is s x false (b ∷ t) h = refl

@@ -23,7 +23,7 @@ use Rattle.interpreter.specs.ParameterParts.{meantDeed}
 use Rattle.interpreter.specs.UnitParts.{roleFound, decided, decidedText, headerRefusal, UnitRead}
 use Rattle.interpreter.specs.declared.deed.Deed.{Deed}
 use Rattle.interpreter.specs.declared.deed.Role.{Role}
-use Rattle.interpreter.specs.declared.header.Heading.{Heading}
+use Rattle.interpreter.specs.declared.deed.Heading.{Heading}
 use Rattle.interpreter.specs.declared.header.Looked.{Looked}
 use Rattle.interpreter.specs.declared.header.Looked.the-variants.{Bad, At}
 use Rattle.interpreter.specs.declared.parameter.Decision.{Decision}

@@ -1,14 +1,17 @@
 -- Checks 2 to 7 of a unit whose header is read, in the order of 01: no empty parameter, a row, its number of parameters, and then what the
 -- row's own checks say of them (`passes`). `says` is what is left of the chain once the role is known.
-use mathlib.Core.Path.{_≡_, refl, sym, _∙_, subst}
-use Prim.Native.Nat.{ℕ, _≤_}
+use mathlib.Core.Path.{_≡_, refl, sym, ap, _∙_, subst}
+use Prim.Native.Nat.{ℕ, _≤_, _<_}
 use native.Mathlib.Omega.{arith}
+use lib.ListN.{length}
 use borrow.Author.Tests.{not-true, not-false, le-leb, lt-leb}
 use Rattle.registers.specs.Check.{check, _>>_}
+use Rattle.registers.specs.Settings.{count}
 use Rattle.interpreter.specs.Parameter.{parameters, least, greatest, deedOf}
 use Rattle.interpreter.specs.ParameterParts.{meantDeed, partsOf}
 use Rattle.interpreter.specs.UnitParts.{decided}
 use Rattle.interpreter.specs.declared.deed.Role.{Role}
+use Rattle.interpreter.specs.declared.deed.Role.the-variants.{Setting}
 use Rattle.interpreter.specs.declared.parameter.Decision.{Decision}
 use Rattle.interpreter.specs.declared.parameter.Decision.the-variants.{Obey}
 use Rattle.interpreter.proofs.parameter.Cuts.{parts-are}
@@ -99,41 +102,61 @@ returns-4 c =
     let few = too-few (p .role-of .result) (parts-of p) (a .heading .asked) (rw (c .before .before .before .before .most .ensures) at (c .if4 .taken)) in
     sym (says p ∙ rw (le-leb (parts-of p) (most-of p) (most-let (c .before .before)), lt-leb (fewest-of p) (parts-of p) few))
 
+-- the text is the one parameter, or there is none
+given : (c : tie.Else4) → let t = entry (role-at c) .args .text .now in partsOf t ≡ parameters t
+given c =
+    let p = role-at c in
+    let a = entry p .args in
+    let n = count-of p .count in
+    let m = most-let (c .before .before) in
+    parts-are (a .text .now) (entry p .pre .2) (n .result) (n .ensures) (omega (arith, greatest-one (p .role-of .result) (a .heading .asked)))
+
+many : (c : tie.Else4) → let p = role-at c in parts-of p ≡ length (partsOf (entry p .args .text .now))
+many c = count-of (role-at c) .count .ensures .parts ∙ sym (ap length (given c))
+
 -- what is left is what the row's own checks say
 passes : (c : tie.Else4) (r : Role) → let p = role-at c in
     let a = entry p .args in
-    p .role-of .result ≡ r → (d : Decision) → meantDeed d ≡ deedOf (a .settings) r (a .heading .asked) (partsOf (parts-of p) (a .text .now))
+    p .role-of .result ≡ r → (d : Decision) → meantDeed d ≡ deedOf (a .settings) r (a .heading .asked) (partsOf (a .text .now))
     → meantDeed d ≡ decided (a .settings) (a .heading .row) (a .heading .asked) (a .text .now)
 unfolding check _>>_
 passes c r q d is =
     let p = role-at c in
     let a = entry p .args in
-    let n = count-of p .count in
     let m = most-let (c .before .before) in
-    let one = parts-are (a .text .now) (entry p .pre .2) (n .result) (n .ensures) (omega (arith, greatest-one (p .role-of .result) (a .heading .asked))) in
-    let said = subst (λ (r : Role). meantDeed d ≡ deedOf (a .settings) r (a .heading .asked) (partsOf (parts-of p) (a .text .now))) (sym q) is in
-    (rw one at said) ∙ sym (says p ∙ rw (le-leb (parts-of p) (most-of p) m, le-leb (fewest-of p) (parts-of p) (least-let c)))
+    let said = subst (λ (r : Role). meantDeed d ≡ deedOf (a .settings) r (a .heading .asked) (partsOf (a .text .now))) (sym q) is in
+    (rw (given c) at said) ∙ sym (says p ∙ rw (le-leb (parts-of p) (most-of p) m, le-leb (fewest-of p) (parts-of p) (least-let c)))
 
-enum-known-role : tie.Need-enum-known-role
-enum-known-role c = c .match .keys1
+-- a setting's row has its number
+setting-told : (c : tie.After-enum-told) → let p = role-at (c .before .before) in
+    let row = entry p .args .heading .row in
+    (p .role-of .result ≡ Setting row) × (row < count)
+setting-told c =
+    let p = role-at (c .before .before) in
+    let a = entry p .args in
+    let pre = entry p .pre in
+    let role = c .enum-told .given in
+    let known = setting-known (a .heading .row) _ (omega arith) (sym (p .role-of .ensures) ∙ role .1) in
+    (role .1 ∙ ap Setting (known .0), known .1)
+
+enum-told : tie.Need-enum-told
+enum-told c = c .match .keys1
 
 decide-setting-requires : tie.Need-decide-setting-requires
 decide-setting-requires c κs =
-    let e = c .before .before .before in
+    let e = c .before .before in
     let p = role-at e in
     let a = entry p .args in
-    let pre = entry p .pre in
-    let role = c .before .role .given in
-    let known = setting-known (a .heading .row) (role .0 .0) (omega arith) (sym (p .role-of .ensures) ∙ role .1) in
-    let few = subst (λ (r : Role). least r (a .heading .asked) ≤ parts-of p) (role .1) (least-let e) in
-    let most = subst (λ (r : Role). parts-of p ≤ greatest r (a .heading .asked)) (role .1) (most-let (e .before .before)) in
-    ((pre .0, known), (few, most))
+    let told = setting-told c in
+    let few = subst (λ (r : Role). least r (a .heading .asked) ≤ parts-of p) (told .0) (least-let e) in
+    let most = subst (λ (r : Role). parts-of p ≤ greatest r (a .heading .asked)) (told .0) (most-let (e .before .before)) in
+    ((entry p .pre .0, told .1), (omega (arith, few, many e), omega (arith, most, many e)))
 
 returns-5 : tie.Need-returns-5
-returns-5 c = passes (c .before .before .before .before) _ (c .before .before .role .given .1) (c .decide-setting .result) (c .decide-setting .ensures)
+returns-5 c = passes (c .before .before .before) _ (setting-told (c .before) .0) (c .decide-setting .result) (c .decide-setting .ensures)
 
-enum-known-role-2 : tie.Need-enum-known-role-2
-enum-known-role-2 c = c .match .keys2
+enum-known-role : tie.Need-enum-known-role
+enum-known-role c = c .match .keys2
 
 decide-register-requires : tie.Need-decide-register-requires
 decide-register-requires c κs = entry (role-at (c .before .before .before)) .pre .0
@@ -143,17 +166,17 @@ returns-6 c =
     let e = c .before .before .before .before in
     let p = role-at e in
     let a = entry p .args in
-    let role = c .before .before .role2 .given in
+    let role = c .before .before .role .given in
     let few = subst (λ (r : Role). least r (a .heading .asked) ≤ parts-of p) (role .1) (least-let e) in
     passes e _ (role .1) (c .decide-register .result)
-    (c .decide-register .ensures ∙ register-is (a .settings) (role .0 .0) (a .heading .asked) (parts-of p) (a .text .now) few)
+    (c .decide-register .ensures ∙ register-is (a .settings) (role .0 .0) (a .heading .asked) (a .text .now) (omega (arith, few, many e)))
 
-enum-known-role-3 : tie.Need-enum-known-role-3
-enum-known-role-3 c = c .match .keys3
+enum-known-role-2 : tie.Need-enum-known-role-2
+enum-known-role-2 c = c .match .keys3
 
 returns-7 : tie.Need-returns-7
 unfolding deedOf
-returns-7 c = passes (c .before .before .before) _ (c .before .role3 .given .1) (Obey (c .before .role3 .given .0 .0)) refl
+returns-7 c = passes (c .before .before .before) _ (c .before .role2 .given .1) (Obey (c .before .role2 .given .0 .0)) refl
 
 pub decide-spec : {M : Type 1} → statement M
 decide-spec =
@@ -166,11 +189,11 @@ decide-spec =
     most-requires
     returns-3
     returns-4
-    enum-known-role
+    enum-told
     decide-setting-requires
     returns-5
-    enum-known-role-2
+    enum-known-role
     decide-register-requires
     returns-6
-    enum-known-role-3
+    enum-known-role-2
     returns-7)
