@@ -15,7 +15,7 @@ ghost use mathlib.Core.Path.{_≡_};
 ghost use mathlib.Core.Bool.{_||_};
 ghost use mathlib.Core.List.{List};
 ghost use Prim.Native.Nat.{_≤_};
-ghost use lib.ListN.{length, take, drop};
+ghost use lib.ListN.{length, take};
 ghost use Rattle.registers.specs.Text.{Text, every, white, printable};
 ghost use Rattle.registers.specs.Error.{numberOf};
 ghost use Rattle.interpreter.specs.Cuts.{trim, trimEnd};
@@ -102,21 +102,15 @@ fn decide_text(table: &[u8], settings: Settings, heading: Heading, text: &[u8]) 
     decide(table, settings, heading, text)
 }
 
-// Makes the same checks on all that follows the header, which ends at a place of the unit.
-fn decide_rest(
-    table: &[u8],
-    settings: Settings,
-    heading: Heading,
-    unit: &[u8],
-    at: usize,
-) -> Decision
-    requires { ⌜ (now table ≡ commandTable) × (heading .row ≤ rowCount) × (at ≤ length (now unit)) ⌝ }
-    ensures { λ r. ⌜ meantDeed r ≡ decidedText settings (heading .row) (heading .asked) (trim (drop at (now (unit .entry)))) ⌝ }
+// Makes the same checks on all that follows the header.
+fn decide_rest(table: &[u8], settings: Settings, heading: Heading, rest: &[u8]) -> Decision
+    requires { ⌜ (now table ≡ commandTable) × (heading .row ≤ rowCount) ⌝ }
+    ensures { λ r. ⌜ meantDeed r ≡ decidedText settings (heading .row) (heading .asked) (trim (now (rest .entry))) ⌝ }
 {
-    let start = text::white_end(unit, at);
-    let rest = &unit[start..];
-    let end = trimmed_end(rest);
-    decide_text(table, settings, heading, &rest[0..end])
+    let start = text::white_end(rest, 0);
+    let text = &rest[start..];
+    let end = trimmed_end(text);
+    decide_text(table, settings, heading, &text[0..end])
 }
 
 // Tells which of checks 1 and 2 refuses a unit that starts with no header.
@@ -154,8 +148,9 @@ pub(crate) fn read(
             used: left,
             end,
         } => {
+            let after = start + end;
             return Reading {
-                decision: decide_rest(table, settings, heading, unit, start + end),
+                decision: decide_rest(table, settings, heading, &unit[after..]),
                 used: left,
             };
         }

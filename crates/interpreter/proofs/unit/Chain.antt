@@ -37,12 +37,12 @@ use Rattle.interpreter.proofs.unit.Found.{role-found}
 
 -- ---- the header starts at s, and the parameters' text comes after it
 
-abbrev behind : Text → ℕ → Text
-behind u s = take (length u - s) (drop s u)
+abbrev lentFrom : Text → ℕ → Text
+lentFrom u s = take (length u - s) (drop s u)
 
 pub record Runs (u : Text) (s : ℕ) : Type 0 where
   pub within : s ≤ length u
-  pub is : behind u s ≡ after white u
+  pub is : lentFrom u s ≡ after white u
 
 pub runs : (u : Text) (s : ℕ) → s ≡ 0 + length (start white (drop 0 u)) → Runs u s
 runs u s at =
@@ -50,7 +50,7 @@ runs u s at =
     record { within = w; is = rest-is u s w ∙ end-drop white u 0 s at }
 
 -- it ends so far after s
-module _ {u : Text} {s : ℕ} (r : Runs u s) (e : ℕ) (is : e ≡ length (start visible (behind u s))) where
+module _ {u : Text} {s : ℕ} (r : Runs u s) (e : ℕ) (is : e ≡ length (start visible (lentFrom u s))) where
   from : drop s u ≡ after white u
   from = sym (rest-is u s (r .within)) ∙ r .is
 
@@ -60,8 +60,8 @@ module _ {u : Text} {s : ℕ} (r : Runs u s) (e : ℕ) (is : e ≡ length (start
   ends-within : s + e ≤ length u
   ends-within = end-within visible u s (s + e) to (r .within)
 
-  ends-behind : trim (drop (s + e) u) ≡ parameterText u
-  ends-behind = ap trim (end-drop visible u s (s + e) to ∙ ap (after visible) from)
+  parameters-after : trim (lentFrom u (s + e)) ≡ parameterText u
+  parameters-after = ap trim (rest-is u (s + e) ends-within ∙ end-drop visible u s (s + e) to ∙ ap (after visible) from)
 
 -- ---- the checks in order
 
@@ -89,8 +89,8 @@ module _ (s : Settings) (asked : Bool) (ps : List Text) where
   enough r = check 109 (leb (least r asked) (length ps))
 
   -- the checks after the header, with what is made of the deed
-  abbrev behindWith : Checked Role → (Deed → Checked Read) → Checked Read
-  behindWith m k = full >> m >>= λ r. few r >> enough r >> deedOf s r asked ps >>= k
+  abbrev checksWith : Checked Role → (Deed → Checked Read) → Checked Read
+  checksWith m k = full >> m >>= λ r. few r >> enough r >> deedOf s r asked ps >>= k
 
 first-check : {A B : Type 0} (x : Checked (Unit {0})) (m : Checked A) (f : A → Checked B) → ((x >> m) >>= f) ≡ (x >> (m >>= f))
 unfolding _>>_ _>>=_
@@ -98,7 +98,7 @@ first-check (refused n) m f = refl
 first-check (passed _) m f = refl
 
 decided-then : (s : Settings) (row : ℕ) (asked : Bool) (t : Text) (k : Deed → Checked Read)
-    → (decided s row asked t >>= k) ≡ behindWith s asked (parameters t) (roleFound row) k
+    → (decided s row asked t >>= k) ≡ checksWith s asked (parameters t) (roleFound row) k
 unfolding decided
 decided-then s row asked t k =
     let ps = parameters t in
@@ -111,7 +111,7 @@ pub record Headed (s : Settings) (path : List Text) (u : Text) (st row used : �
   pub is : readUnit s path u ≡ (decidedText s row asked (parameterText u) >>= λ d. passed (record { deed = d; path = left }))
   pub holds : row < rowCount → Holds left keys used
   pub ends : st + end ≤ length u
-  pub behind : trim (drop (st + end) u) ≡ parameterText u
+  pub text : trim (lentFrom u (st + end)) ≡ parameterText u
 
 module _ (s : Settings) (path : List Text) (u : Text) where
   -- what is left once the header's row is found
@@ -124,18 +124,18 @@ module _ (s : Settings) (path : List Text) (u : Text) where
       let t = parameterText u in
       let k : Deed → Checked Read = λ d. passed (record { deed = d; path = pathAfter (h .place) path (h .names) }) in
       let role = role-found (isCommon (h .place)) (fullNames (h .place) path (h .names)) (h .query) in
-      let e : readUnit s path u ≡ (check 101 (every allowed t) >> behindWith s asked (parameters t) (roleFound row) k) =
+      let e : readUnit s path u ≡ (check 101 (every allowed t) >> checksWith s asked (parameters t) (roleFound row) k) =
       rw (allowed-behind u h is, is, f .query, f .at, role) in
       e ∙ ap (λ (m : Checked Read). check 101 (every allowed t) >> m) (sym (decided-then s row asked t k))
       ∙ sym (first-check (check 101 (every allowed t)) (decided s row asked t) k)
 
-  module _ {st : ℕ} (at : Runs u st) (r : Looked) (keys : List ℕ) (k : LookedUp path (behind u st) r keys) where
+  module _ {st : ℕ} (at : Runs u st) (r : Looked) (keys : List ℕ) (k : LookedUp path (lentFrom u st) r keys) where
     pub bad-header : r ≡ Bad → (n : ℕ) → n ≡ headerRefusal u → readUnit s path u ≡ refused n
     unfolding readUnit headerRefusal check _>>_ _>>=_ if_then_else_
     bad-header q n e = rw e (go (every allowed u) (ap (λ (t : Text). header (start visible t)) (sym (at .is)) ∙ rw q at k))
       where
         go : (ok : Bool) → header (headerText u) ≡ refused 102
-            → (check 101 ok >> header (headerText u) >>= λ h. behindWith s (h .query) (parameters (parameterText u)) (findRow (isCommon (h .place)) (fullNames (h .place) path (h .names)) (h .query) rows) (λ d. passed (record { deed = d; path = pathAfter (h .place) path (h .names) })))
+            → (check 101 ok >> header (headerText u) >>= λ h. checksWith s (h .query) (parameters (parameterText u)) (findRow (isCommon (h .place)) (fullNames (h .place) path (h .names)) (h .query) rows) (λ d. passed (record { deed = d; path = pathAfter (h .place) path (h .names) })))
             ≡ refused (if ok then 102 else 101)
         go true i = rw i
         go false i = refl
@@ -151,7 +151,7 @@ module _ (s : Settings) (path : List Text) (u : Text) where
           is = good-header h (ap (λ (t : Text). header (start visible t)) (sym (at .is)) ∙ g .1) f;
           holds = f .left;
           ends = ends-within at _ (f .ends);
-          behind = ends-behind at _ (f .ends);
+          text = parameters-after at _ (f .ends);
         }
 
 -- only a header that has a row has a deed

@@ -16,36 +16,32 @@ use Rattle.interpreter.proofs.unit.decide_rest.Tie as tie
 abbrev entry : tie.After-trimmed-end → tie.Start
 entry c = c .before .before .before .before .before
 
--- what comes after the header
-abbrev rest-of : tie.After-trimmed-end → Text
-rest-of c = drop (entry c .args .at) (entry c .args .unit .now)
-
 -- the part of it that is handed on
 handed : (c : tie.After-trimmed-end)
-    → let u = entry c .args .unit .now in
+    → let u = entry c .args .rest .now in
     let s = c .before .before .white-end .result in
-    take (c .trimmed-end .result - 0) (take (length u - s) (drop s u)) ≡ trim (rest-of c)
+    take (c .trimmed-end .result - 0) (take (length u - s) (drop s u)) ≡ trim u
 unfolding trim
 handed c =
-    let u = entry c .args .unit .now in
+    let u = entry c .args .rest .now in
     let w = c .before .before .white-end in
     let whole : c .trimmed-end .result - 0 ≡ c .trimmed-end .result = omega arith in
-    let rest = part-to-end u (w .result) ∙ end-drop white u (entry c .args .at) (w .result) (w .ensures) in
-    rw whole (c .trimmed-end .ensures .0 ∙ ap trimEnd rest)
+    let visible = part-to-end u (w .result) ∙ end-drop white u 0 (w .result) (w .ensures) in
+    rw whole (c .trimmed-end .ensures .0 ∙ ap trimEnd visible)
 
 white-end-requires : tie.Need-white-end-requires
 white-end-requires c κs = tt
 
-sub-rest : tie.Need-sub-rest
-sub-rest c =
+sub-text : tie.Need-sub-text
+sub-text c =
     let s = c .before .before .before in
-    end-within white (s .args .unit .now) (s .args .at) (c .white-end .result) (c .white-end .ensures) (s .pre .2)
+    end-within white (s .args .rest .now) 0 (c .white-end .result) (c .white-end .ensures) zero-le
 
-part-rest-start : tie.Need-part-rest-start
-part-rest-start c = sub-rest c
+part-text-start : tie.Need-part-text-start
+part-text-start c = sub-text c
 
-part-rest-end : tie.Need-part-rest-end
-part-rest-end c = le-refl _
+part-text-end : tie.Need-part-text-end
+part-text-end c = le-refl _
 
 trimmed-end-requires : tie.Need-trimmed-end-requires
 trimmed-end-requires c κs = tt
@@ -62,7 +58,7 @@ part-decide-text-end c = omega arith
 decide-text-requires : tie.Need-decide-text-requires
 decide-text-requires c κs =
     let p = entry (c .before) .pre in
-    (p .0, p .1, rw (handed (c .before)) (trim-twice (rest-of (c .before))))
+    (p .0, p .1, rw (handed (c .before)) (trim-twice (entry (c .before) .args .rest .now)))
 
 returns : tie.Need-returns
 returns c = rw (handed (c .before .before)) at (c .decide-text .ensures)
@@ -72,9 +68,9 @@ decide-rest-spec =
     tie.close
     (tie.spec
     white-end-requires
-    sub-rest
-    part-rest-start
-    part-rest-end
+    sub-text
+    part-text-start
+    part-text-end
     trimmed-end-requires
     sub-decide-text
     part-decide-text-start

@@ -1,6 +1,8 @@
 -- A unit, in the order in which the code reads it: where the header starts (`ran`), what the search finds of it (`row-found`, for any path
 -- that the numbers hold), and the checks of what comes after it. That this is the order of 01 is in unit/Chain.
 use mathlib.Core.List.{List}
+use Prim.Native.Nat.{_+_, _≤_}
+use lib.ListN.{length}
 use Rattle.registers.specs.Text.{Text}
 use Rattle.interpreter.specs.HeaderParts.{Holds}
 use Rattle.interpreter.proofs.unit.Chain.{Runs, runs, bad-header, Headed, headed, read-to}
@@ -68,25 +70,37 @@ returns c =
 enum-known-looked : tie.Need-enum-known-looked
 enum-known-looked c = search needs
 
-add-decide-rest : tie.Need-add-decide-rest
-add-decide-rest c =
-    let h = entry (white-at (c .before)) .pre .1 in
-    let e = row-found (c .before) (h .0) (h .1) .ends in
-    omega (arith, entry (white-at (c .before)) .good)
+-- the header ends in the unit
+ends : (p : tie.After-looked) → let v = p .looked .given .0 in
+    let w = white-at p in
+    w .white-end .result + v .1 .1 .0 ≤ length (entry w .args .unit .now)
+ends p = let h = entry (white-at p) .pre .1 in row-found p (h .0) (h .1) .ends
+
+add-after : tie.Need-add-after
+add-after c = let e = ends (c .before) in omega (arith, entry (white-at (c .before)) .good)
+
+sub-decide-rest : tie.Need-sub-decide-rest
+sub-decide-rest c = ends (c .before)
+
+part-decide-rest-start : tie.Need-part-decide-rest-start
+part-decide-rest-start c = ends (c .before)
+
+part-decide-rest-end : tie.Need-part-decide-rest-end
+part-decide-rest-end c = search needs
 
 decide-rest-requires : tie.Need-decide-rest-requires
 decide-rest-requires c κs =
-    let h = entry (white-at (c .before)) .pre .1 in
-    let f = row-found (c .before) (h .0) (h .1) in
-    (entry (white-at (c .before)) .pre .0, f .within, f .ends)
+    let l = c .before .before in
+    let h = entry (white-at l) .pre in
+    (h .0, row-found l (h .1 .0) (h .1 .1) .within)
 
 returns-2 : tie.Need-returns-2
 returns-2 c =
-    let l = c .before .before in
+    let l = c .before .before .before in
     let a = entry (white-at l) .args in
     λ names h.
     let f = row-found l names h in
-    read-to (a .settings) names (a .unit .now) f (c .decide-rest .result) (rw (f .behind) at (c .decide-rest .ensures))
+    read-to (a .settings) names (a .unit .now) f (c .decide-rest .result) (rw (f .text) at (c .decide-rest .ensures))
 
 pub read-spec : {M : Type 1} → statement M
 read-spec =
@@ -101,6 +115,9 @@ read-spec =
     header-error-requires
     returns
     enum-known-looked
-    add-decide-rest
+    add-after
+    sub-decide-rest
+    part-decide-rest-start
+    part-decide-rest-end
     decide-rest-requires
     returns-2)
