@@ -3,6 +3,7 @@ use crate::line;
 use crate::present::Present;
 use crate::sizes::ANSWER;
 use crate::sizes::LINE;
+use crate::table;
 ghost use mathlib.Core.Path.{_≡_};
 ghost use mathlib.Core.List.{[], _∷_};
 ghost use Prim.Native.Nat.{_+_, _^_, _≤_, _<_, min};
@@ -91,19 +92,19 @@ pub(crate) fn feed_line(
     held
 }
 
-// Takes bytes in, line by line.
+// Takes bytes in, line by line. The table is made once for all of them.
 pub(crate) fn feed(
-    table: &[u8],
     mut flow: Flow,
     line: &mut [u8; LINE],
     out: &mut [u8; ANSWER],
     bytes: &[u8],
 ) -> Flow
-    requires { ⌜ (now table ≡ commandTable) × FlowFits flow × (flow .read ≡ 0) ⌝ }
+    requires { ⌜ FlowFits flow × (flow .read ≡ 0) ⌝ }
     ensures { λ r. ⌜ FlowFed flow (now (line .entry)) (now (out .entry)) (now (bytes .entry)) r (now (line .exit)) (now (out .exit)) ⌝ }
 {
+    let table = table::commands();
     while flow.read < bytes.len() {
-        flow = feed_line(table, flow, line, out, bytes);
+        flow = feed_line(&table, flow, line, out, bytes);
     }
     flow
 }

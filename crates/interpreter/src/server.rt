@@ -8,7 +8,6 @@ use crate::state::Outcome;
 use crate::state::State;
 use crate::table;
 ghost use mathlib.Core.Path.{_≡_};
-ghost use Rattle.interpreter.specs.RowsParts.{commandTable};
 ghost use Rattle.interpreter.specs.State.{numberOf};
 ghost use Rattle.interpreter.specs.FlowParts.{FlowFits};
 ghost use Rattle.interpreter.specs.Server.{Serves};
@@ -30,19 +29,19 @@ struct Progress {
 // Serves lines while the output has room for one answer more: each is received, and an answer that then waits is
 // taken after those before it.
 fn lines(
-    table: &[u8],
     mut flow: Flow,
     line: &mut [u8; LINE],
     out: &mut [u8; ANSWER],
     input: &[u8],
     output: &mut [u8],
 ) -> Progress
-    requires { ⌜ (now table ≡ commandTable) × FlowFits flow × (flow .read ≡ 0) ⌝ }
+    requires { ⌜ FlowFits flow × (flow .read ≡ 0) ⌝ }
     ensures { λ r. ⌜ FlowServed flow (now (line .entry)) (now (out .entry)) (now (input .entry)) (now (output .entry)) r (now (line .exit)) (now (out .exit)) (now (output .exit)) ⌝ }
 {
+    let table = table::commands();
     let mut written: usize = 0;
     while (flow.read < input.len()) & (ANSWER <= output.len() - written) {
-        flow = flow::feed_line(table, flow, line, out, input);
+        flow = flow::feed_line(&table, flow, line, out, input);
         let waiting = flow.present.answered;
         written = flow::paste(out, waiting, output, written);
         flow.present.answered = 0;
@@ -65,14 +64,8 @@ pub fn serve(state: State, input: &[u8], output: &mut [u8]) -> Served
     }
     let mut line = state.line;
     let mut answer = state.answer;
-    let done = lines(
-        &table::commands(),
-        state::flow_of(state),
-        &mut line,
-        &mut answer,
-        input,
-        output,
-    );
+    let flow = state::flow_of(state);
+    let done = lines(flow, &mut line, &mut answer, input, output);
     Served {
         outcome: Outcome::Done,
         read: done.flow.read,

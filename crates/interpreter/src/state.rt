@@ -3,7 +3,6 @@ use crate::flow;
 use crate::flow::Flow;
 use crate::present::Present;
 use crate::sizes;
-use crate::table;
 use registers::error::Error;
 use registers::group::Group;
 use registers::settings::Settings;
@@ -152,13 +151,7 @@ impl State {
         }
         let mut line = self.line;
         let mut answer = self.answer;
-        let flow = flow::feed(
-            &table::commands(),
-            flow_of(self),
-            &mut line,
-            &mut answer,
-            bytes,
-        );
+        let flow = flow::feed(flow_of(self), &mut line, &mut answer, bytes);
         Fed {
             outcome: Outcome::Done,
             count: flow.count,

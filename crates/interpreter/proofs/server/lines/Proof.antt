@@ -14,14 +14,11 @@ use Rattle.interpreter.proofs.server.lines.Statement.{statement}
 use Rattle.interpreter.proofs.server.lines.Tie as tie
 
 abbrev Inv-loop : tie.InvT-loop
-Inv-loop table flow₀ line₀ out₀ input output₀ written₀ flow line out output written =
+Inv-loop flow₀ line₀ out₀ input output₀ table written₀ flow line out output written =
     Serving (service (flowBox flow₀ line₀ out₀) 0 [] output₀) (length output₀) input line out output flow written
 
 abbrev μ-loop : tie.MeasureT-loop
-μ-loop table flow₀ line₀ out₀ input output₀ written₀ flow line out output written = length input - flow .read
-
-abbrev entry : tie.At-loop Inv-loop μ-loop → tie.Start Inv-loop μ-loop
-entry l = l .before .before .before .before
+μ-loop flow₀ line₀ out₀ input output₀ table written₀ flow line out output written = length input - flow .read
 
 -- where there is a line to take in, and room for its answer
 abbrev turn : tie.Then1 Inv-loop μ-loop → tie.At-loop Inv-loop μ-loop
@@ -29,7 +26,7 @@ turn t = t .before .before
 
 -- once it is taken in, and once its answer is laid down
 abbrev tested : tie.After-feed-line Inv-loop μ-loop → tie.Then1 Inv-loop μ-loop
-tested f = f .before .before .before
+tested f = f .before .before .before .before
 
 abbrev fed : tie.After-paste Inv-loop μ-loop → tie.After-feed-line Inv-loop μ-loop
 fed p = p .before .before .before .before
@@ -38,19 +35,25 @@ fed p = p .before .before .before .before
 outs : (p : tie.After-paste-arg3 Inv-loop μ-loop) → length (p .before .before .before .feed-line .last .1 .1 .1 .0) ≡ mostAnswer
 outs p = search needs
 
+commands-requires : tie.Need-commands-requires Inv-loop μ-loop
+commands-requires c κs = tt
+
 loop-holds : tie.Need-loop-holds Inv-loop μ-loop
 loop-holds c =
     let s = c .before .before .before in
     let a = s .args in
-    serve-begun (a .flow) (a .line .now) (a .out .now) (a .input .now) (a .output .now) (s .pre .1) (s .pre .2)
+    serve-begun (a .flow) (a .line .now) (a .out .now) (a .input .now) (a .output .now) (s .pre .0) (s .pre .1)
 
 sub-if1 : tie.Need-sub-if1 Inv-loop μ-loop
 sub-if1 c = let wrote = c .before .loop .inv .wrote in omega arith
 
+slice-aggregate-feed-line : tie.Need-slice-aggregate-feed-line Inv-loop μ-loop
+slice-aggregate-feed-line c = omega arith
+
 feed-line-requires : tie.Need-feed-line-requires Inv-loop μ-loop
 feed-line-requires c κs =
-    let l = turn (c .before .before) in
-    (entry l .pre .0, l .loop .inv .fits, l .loop .inv .read-in)
+    let l = turn (c .before .before .before) in
+    (l .before .commands .ensures, l .loop .inv .fits, l .loop .inv .read-in)
 
 paste-requires : tie.Need-paste-requires Inv-loop μ-loop
 paste-requires c κs =
@@ -89,8 +92,10 @@ lines-spec =
     (tie.spec
     Inv-loop
     μ-loop
+    commands-requires
     loop-holds
     sub-if1
+    slice-aggregate-feed-line
     feed-line-requires
     paste-requires
     loop-less

@@ -13,7 +13,7 @@ entry e = e .before .before .before .before
 
 -- once its lines and answer are lent to a flow, and once the chunk is served
 abbrev admitted : tie.After-flow-of → tie.Else1
-admitted f = f .before .before .before .before .before
+admitted f = f .before .before .before
 
 abbrev flow-at : tie.After-lines → tie.After-flow-of
 flow-at l = l .before .before .before .before
@@ -26,12 +26,6 @@ returns c =
     let a = c .before .before .before .before .args in
     refused-chunk (a .state) _ (c .before .possible .ensures) (a .input .now) (a .output .now) (c .if1 .taken)
 
-commands-requires : tie.Need-commands-requires
-commands-requires c κs = tt
-
-slice-aggregate-lines : tie.Need-slice-aggregate-lines
-slice-aggregate-lines c = omega arith
-
 flow-of-requires : tie.Need-flow-of-requires
 flow-of-requires c κs = tt
 
@@ -39,7 +33,7 @@ lines-requires : tie.Need-lines-requires
 lines-requires c κs =
     let f = c .before .before .before in
     let e = admitted f in
-    (f .before .before .commands .ensures, rw (f .flow-of .ensures) (flow-fits _ _ (e .before .possible .ensures) (e .if1 .left)), rw (f .flow-of .ensures) refl)
+    (rw (f .flow-of .ensures) (flow-fits _ _ (e .before .possible .ensures) (e .if1 .left)), rw (f .flow-of .ensures) refl)
 
 state-of-requires : tie.Need-state-of-requires
 state-of-requires c κs = tt
@@ -62,8 +56,6 @@ serve-spec =
     (tie.spec
     possible-requires
     returns
-    commands-requires
-    slice-aggregate-lines
     flow-of-requires
     lines-requires
     state-of-requires

@@ -14,7 +14,7 @@ entry e = e .before .before .before
 
 -- once its lines and answer are lent to a flow, and once the bytes are fed
 abbrev admitted : tie.After-flow-of → tie.Else1
-admitted f = f .before .before .before .before .before
+admitted f = f .before .before .before
 
 abbrev flow-at : tie.After-feed → tie.After-flow-of
 flow-at f = f .before .before .before
@@ -27,12 +27,6 @@ returns c =
     let a = c .before .before .before .args in
     refused-4 (a .self) (received (a .bytes .now)) refl _ (c .before .possible .ensures) (c .if1 .taken)
 
-commands-requires : tie.Need-commands-requires
-commands-requires c κs = tt
-
-slice-aggregate-feed : tie.Need-slice-aggregate-feed
-slice-aggregate-feed c = omega arith
-
 flow-of-requires : tie.Need-flow-of-requires
 flow-of-requires c κs = tt
 
@@ -40,7 +34,7 @@ feed-requires : tie.Need-feed-requires
 feed-requires c κs =
     let f = c .before .before in
     let e = admitted f in
-    (f .before .before .commands .ensures, rw (f .flow-of .ensures) (flow-fits _ _ (e .before .possible .ensures) (e .if1 .left)), rw (f .flow-of .ensures) refl)
+    (rw (f .flow-of .ensures) (flow-fits _ _ (e .before .possible .ensures) (e .if1 .left)), rw (f .flow-of .ensures) refl)
 
 state-of-requires : tie.Need-state-of-requires
 state-of-requires c κs = tt
@@ -61,8 +55,6 @@ piece-spec =
     (tie.spec
     possible-requires
     returns
-    commands-requires
-    slice-aggregate-feed
     flow-of-requires
     feed-requires
     state-of-requires
