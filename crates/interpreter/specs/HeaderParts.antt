@@ -1,6 +1,6 @@
 -- What the header reader's own functions say. Nothing of 01 is defined here: see Header.antt and Rows.antt.
 use mathlib.Core.Path.{_≡_}
-use mathlib.Core.Bool.{Bool, true, false}
+use mathlib.Core.Bool.{Bool, true, false, not, _||_}
 use mathlib.Core.List.{List, [], _∷_, _++_, map}
 use Prim.Native.Char.{code}
 use Prim.Native.Nat.{ℕ, _+_, _≤_, _<_}
@@ -79,6 +79,16 @@ pub record NamesGood (joined : Bool) (t : Text) (at : ℕ) (path : List ℕ) (r 
 pub record NamesRead (joined : Bool) (t : Text) (at : ℕ) (path : List ℕ) (r : Names) (keys : List ℕ) : Type 0 where
   pub good : r .good ≡ every name (namesIn joined (drop at t))
   pub found : r .good ≡ true → NamesGood joined t at path r keys
+
+-- what leads them: after a `*` there is one, and a `:` leads from the root
+abbrev pub starred : Text → Bool
+starred t = eqb (first t) (code "*")
+
+abbrev pub rooted : Text → Bool
+rooted t = eqb (first t) (code ":")
+
+abbrev pub HeaderRead : ℕ → Text → List ℕ → Names → List ℕ → Type 0
+HeaderRead used t keys r keys′ = NamesRead (not (starred t)) t (boolByte (starred t || rooted t)) (take (orZero (not (rooted t)) used) keys) r keys′
 
 -- checks 2 and 3 on a header: the row of the names that it stands for, where it ends, and the path that it leaves where there is
 -- such a row

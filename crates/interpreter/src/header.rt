@@ -9,10 +9,10 @@ use registers::text;
 ghost use mathlib.Core.Path.{_≡_};
 ghost use mathlib.Core.List.{List};
 ghost use Prim.Native.Nat.{_≤_, _<_};
-ghost use lib.ListN.{length, take};
+ghost use lib.ListN.{length};
 ghost use Rattle.registers.specs.Text.{Text};
 ghost use Rattle.interpreter.specs.RowsParts.{commandTable};
-ghost use Rattle.interpreter.specs.HeaderParts.{mostNames, orZero, Entered, TailRead, NamesRead, Holds, LookedUp};
+ghost use Rattle.interpreter.specs.HeaderParts.{mostNames, orZero, Entered, TailRead, HeaderRead, Holds, LookedUp};
 
 // How many names are held: no row has more than five nodes, so a header with more names has no row, and nothing is lost.
 pub(crate) const MOST: usize = 7;
@@ -76,20 +76,17 @@ fn read_tail(text: &[u8], at: usize, count: usize) -> Names
     }
 }
 
-// Reads a name that starts at a place, or names joined by single colons, and adds them to the path.
-fn read_names(
-    table: &[u8],
-    text: &[u8],
-    at: usize,
-    joined: bool,
-    path: &mut [u64],
-    used: usize,
-) -> Names
+// Reads the names of the header that a text starts with and adds them to the path, or to none where a `:` leads. After a `*` there is
+// one name; others are joined by single colons.
+fn read_names(table: &[u8], path: &mut [u64], used: usize, text: &[u8]) -> Names
     requires { ⌜ (now table ≡ commandTable) × (used ≤ mostNames) × (length (now path) ≡ mostNames) ⌝ }
-    ensures { λ r. ⌜ NamesRead joined (now (text .entry)) at (take used (now (path .entry))) r (now (path .exit)) ⌝ }
+    ensures { λ r. ⌜ HeaderRead used (now (text .entry)) (now (path .entry)) r (now (path .exit)) ⌝ }
 {
-    let mut count = used;
-    let mut i = at;
+    let lead = text::byte_at(text, 0);
+    let star = lead == b'*';
+    let root = lead == b':';
+    let mut count = or_zero(!root, used);
+    let mut i = (star | root) as usize;
     loop {
         let name = name::read(table, text, i);
         if name.key == 0 {
@@ -102,7 +99,7 @@ fn read_names(
         }
         count = enter(path, count, name.key);
         let end = name.end;
-        if !joined | (text::byte_at(text, end) != b':') {
+        if star | (text::byte_at(text, end) != b':') {
             return read_tail(text, end, count);
         }
         i = end + 1;
@@ -115,11 +112,8 @@ pub(crate) fn look_up(table: &[u8], path: &mut [u64], used: usize, text: &[u8]) 
     requires { ⌜ (now table ≡ commandTable) × (used < mostNames) × (length (now path) ≡ mostNames) ⌝ }
     ensures { λ r. ⌜ ((names : List Text) → Holds names (now (path .entry)) used → LookedUp names (now (text .entry)) r (now (path .exit))) ⌝ }
 {
-    let lead = text::byte_at(text, 0);
-    let star = lead == b'*';
-    let root = lead == b':';
-    let from = or_zero(!root, used);
-    let names = read_names(table, text, (star | root) as usize, !star, path, from);
+    let star = text::byte_at(text, 0) == b'*';
+    let names = read_names(table, path, used, text);
     if !names.good {
         return Looked::Bad;
     }

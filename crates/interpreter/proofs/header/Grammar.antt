@@ -1,5 +1,5 @@
 -- A whole header: its grammar by what leads it, a star, a colon or neither (`Led`), the row that it has, and the path that it leaves.
-use mathlib.Core.Path.{_≡_, refl, sym, _∙_, ap}
+use mathlib.Core.Path.{_≡_, refl, sym, _∙_}
 use mathlib.Core.Bool.{Bool, true, false, not, _||_, false≢true}
 use mathlib.Core.List.{List, [], _∷_}
 use Prim.Native.Nat.{ℕ, _+_, _-_, _≤_, _<_}
@@ -14,7 +14,7 @@ use Rattle.registers.proofs.Tests.{and-both}
 use Rattle.interpreter.specs.Cuts.{cutAt}
 use Rattle.interpreter.specs.Header.{Place, common, root, here, Header, header, placed, name, asks, isCommon, fullNames, pathAfter}
 use Rattle.interpreter.specs.RowsParts.{rowCount, rowOf, rowOfKeys}
-use Rattle.interpreter.specs.HeaderParts.{mostNames, bodyOf, asksIn, namesIn, orZero, Holds, NamesGood, NamesRead, LookedUp}
+use Rattle.interpreter.specs.HeaderParts.{mostNames, bodyOf, asksIn, namesIn, orZero, Holds, NamesGood, HeaderRead, starred, rooted, LookedUp}
 use Rattle.interpreter.specs.declared.header.Names.{Names}
 use Rattle.interpreter.specs.declared.header.Looked.the-variants.{At}
 use Rattle.interpreter.proofs.header.Scan.{asks-cons, body-cons, body-first}
@@ -67,17 +67,20 @@ led-here t e f =
     let b = body-first (λ b. eqb b 58) refl t f in
     record { one = λ e. refl; is = header-body (start visible t) ∙ rw (a, b); long = omega arith }
 
-pub led : (t : Text) (b : ℕ) → b ≡ first t → (s r : Bool) → eqb b 42 ≡ s → eqb b 58 ≡ r → Led t s r
-led t b is true true e f = absurd (let x = eqb-true b 42 e in let y = eqb-true b 58 f in omega arith)
-led [] b is true false e f = absurd (let x = eqb-true b 42 e in omega arith)
-led (x ∷ u) b is true false e f = let q : x ≡ 42 = sym is ∙ eqb-true b 42 e in rw q (led-star u)
-led [] b is false true e f = absurd (let x = eqb-true b 58 f in omega arith)
-led (x ∷ u) b is false true e f = let q : x ≡ 58 = sym is ∙ eqb-true b 58 f in rw q (led-root u)
-led t b is false false e f = led-here t (ap (λ (y : ℕ). eqb y 42) (sym is) ∙ e) (ap (λ (y : ℕ). eqb y 58) (sym is) ∙ f)
+led-by : (t : Text) (s r : Bool) → starred t ≡ s → rooted t ≡ r → Led t s r
+led-by t true true e f = absurd (let x = eqb-true (first t) 42 e in let y = eqb-true (first t) 58 f in omega arith)
+led-by [] true false e f = absurd (let x = eqb-true 0 42 e in omega arith)
+led-by (x ∷ u) true false e f = rw (eqb-true x 42 e) (led-star u)
+led-by [] false true e f = absurd (let x = eqb-true 0 58 f in omega arith)
+led-by (x ∷ u) false true e f = rw (eqb-true x 58 f) (led-root u)
+led-by t false false e f = led-here t e f
+
+pub led : (t : Text) → Led t (starred t) (rooted t)
+led t = led-by t (starred t) (rooted t) refl refl
 
 -- ---- what is found
 
-module _ (t : Text) (s r : Bool) (l : Led t s r) where
+module _ (t : Text) {s r : Bool} (l : Led t s r) where
   abbrev n : ℕ
   n = boolByte (s || r)
 
@@ -123,9 +126,8 @@ module _ (t : Text) (before : List ℕ) (used : ℕ) (room : used < mostNames) (
       let c = counted before used room was (bodyOf (start visible (drop 1 t))) keys long (x .count) (g .few) (g .held) in
       omega arith
 
-  pub first-fits : (b : ℕ) → b ≡ first t → NamesRead (not (eqb b 42)) t (boolByte (eqb b 42 || eqb b 58)) (take (orZero (not (eqb b 58)) used) before) x keys
-      → x .good ≡ true → orZero (eqb b 42) used ≤ x .count
-  first-fits b is m good = first-at (eqb b 42) (eqb b 58) (led t b is (eqb b 42) (eqb b 58) refl refl) (m .found good)
+  pub first-fits : HeaderRead used t before x keys → x .good ≡ true → orZero (starred t) used ≤ x .count
+  first-fits m good = first-at (starred t) (rooted t) (led t) (m .found good)
 
 -- entered after the path, or at the root
 module _ (t : Text) (path : List Text) (before : List ℕ) (used : ℕ) (p : Holds path before used) (was : length before ≡ mostNames)
@@ -138,24 +140,22 @@ module _ (t : Text) (path : List Text) (before : List ℕ) (used : ℕ) (p : Hol
   look-at true false l good g f =
       let name-of = bodyOf (start visible (drop 1 t)) in
       let e = and-both (name name-of) true good .0 in
-      looked t true false l path before used p was keys long x row good g
+      looked t l path before used p was keys long x row good g
       (f ∙ star-row before used (p .few) was name-of keys long (x .count) (g .few) (g .held) e (x .asked))
       (λ h. star-left before used (p .few) was name-of keys long (x .count) (g .few) (g .held) path p)
   look-at false true l good g f =
       let names = cutAt 58 (bodyOf (start visible (drop 1 t))) in
       let at = f ∙ path-row [] names refl good keys long (x .count) (g .few) (g .held) (x .asked) in
-      looked t false true l path before used p was keys long x row good g at
+      looked t l path before used p was keys long x row good g at
       (λ h. path-left [] names refl good keys long (x .count) (g .few) (g .held) (x .asked) (rw at at h))
   look-at false false l good g f =
       let names = cutAt 58 (bodyOf (start visible (drop 0 t))) in
       let held = rw (p .is) at (g .held) in
       let at = f ∙ path-row path names (p .all) good keys long (x .count) (g .few) held (x .asked) in
-      looked t false false l path before used p was keys long x row good g at
+      looked t l path before used p was keys long x row good g at
       (λ h. path-left path names (p .all) good keys long (x .count) (g .few) held (x .asked) (rw at at h))
   look-at true true l good g f = absurd (false≢true (sym (l .one refl)))
 
-  pub look-found : (b : ℕ) → b ≡ first t → NamesRead (not (eqb b 42)) t (boolByte (eqb b 42 || eqb b 58)) (take (orZero (not (eqb b 58)) used) before) x keys
-      → x .good ≡ true → row ≡ rowOfKeys (eqb b 42) (drop (orZero (eqb b 42) used) (take (x .count) keys)) (x .asked)
+  pub look-found : HeaderRead used t before x keys → x .good ≡ true → row ≡ rowOfKeys (starred t) (drop (orZero (starred t) used) (take (x .count) keys)) (x .asked)
       → LookedUp path t (At (record { row = row; asked = x .asked }) (x .count - 1) (x .end)) keys
-  look-found b is m good f =
-      look-at (eqb b 42) (eqb b 58) (led t b is (eqb b 42) (eqb b 58) refl refl) (sym (m .good) ∙ good) (m .found good) f
+  look-found m good f = look-at (starred t) (rooted t) (led t) (sym (m .good) ∙ good) (m .found good) f

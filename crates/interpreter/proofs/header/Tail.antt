@@ -6,24 +6,21 @@ use Prim.Native.Nat.{ℕ, _+_, _≤_, _<_}
 use native.Mathlib.Omega.{arith}
 use lib.Dec.{eqb}
 use lib.ListN.{length, getD, drop}
-use borrow.Author.Tests.{eq-eqb, eqb-true}
+use borrow.Author.Tests.{eq-eqb, eqb-true, not-false}
 use mir.Val.{boolByte}
 use Rattle.registers.specs.Text.{Text, if_then_else_, white, visible, empty, first, rest, start}
 use Rattle.registers.proofs.text.Laws.{rest-at, first-within, start-more, start-stop, start-end}
 use Rattle.interpreter.specs.HeaderParts.{unasked, TailRead}
 
 -- a colon joins another name, or none does
-module _ (joined : Bool) (b : ℕ) where
-  pub is-last : (not joined || not (eqb b 58)) ≡ true → {x : ℕ} → b ≡ x → joined ≡ true → x ≡ 58 → ⊥
-  is-last e q j c = let z : false ≡ true = rw (j, eq-eqb b 58 (q ∙ c)) at e in false≢true z
+module _ (b : ℕ) where
+  pub is-last : (star : Bool) → (star || not (eqb b 58)) ≡ true → {x : ℕ} → b ≡ x → not star ≡ true → x ≡ 58 → ⊥
+  is-last true e q j c = false≢true j
+  is-last false e q j c = false≢true (rw (eq-eqb b 58 (q ∙ c)) at e)
 
-  pub is-joined : (not joined || not (eqb b 58)) ≡ false → (joined ≡ true) × (b ≡ 58)
-  is-joined e = go joined refl (eqb b 58) refl e
-    where
-      go : (j : Bool) → joined ≡ j → (q : Bool) → eqb b 58 ≡ q → (not j || not q) ≡ false → (joined ≡ true) × (b ≡ 58)
-      go true i true r k = (i, eqb-true b 58 r)
-      go true i false r k = absurd (false≢true (sym k))
-      go false i q r k = absurd (false≢true (sym k))
+  pub is-joined : (star : Bool) → (star || not (eqb b 58)) ≡ false → (not star ≡ true) × (b ≡ 58)
+  is-joined true e = absurd (false≢true (sym e))
+  is-joined false e = (refl, eqb-true b 58 (not-false _ e))
 
 -- the byte that was read at a place
 module _ (t : Text) (at b : ℕ) (is : b ≡ first (drop at t)) where

@@ -8,8 +8,8 @@ use Prim.Native.String.{String}
 use native.Mathlib.Numerals.{add-one}
 use native.Mathlib.Omega.{arith}
 use lib.Dec.{eqb}
-use lib.ListN.{length, getD, take, drop, length-take, drop-of-length-le}
-use lib.Seq.{drop-cons, getD-take}
+use lib.ListN.{length, getD, drop, drop-of-length-le}
+use lib.Seq.{drop-cons}
 use borrow.Author.Tests.{eq-eqb, eqb-true}
 use mir.Val.{boolByte}
 use Rattle.registers.specs.Text.{if_then_else_, letter, small, digit, wordByte, every, first, bytes, capital}

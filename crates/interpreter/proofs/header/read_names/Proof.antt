@@ -1,8 +1,16 @@
 -- The loop over a header's names. Invariant: header/Entering's `Naming`, the names before i stand after the path and the text at i tells
 -- the rest. Measure: the bytes of the text after i; a name that another follows has at least its colon.
-use mathlib.Core.Path.{refl, sym, _∙_}
-use Prim.Native.Nat.{_-_, _<_}
+use mathlib.Core.Path.{refl, sym, _∙_, subst}
+use mathlib.Core.Bool.{Bool, not, _||_}
+use mathlib.Core.List.{List}
+use Prim.Native.Nat.{ℕ, _-_, _<_}
+use lib.Dec.{eqb}
 use lib.ListN.{length, take}
+use mir.Val.{boolByte}
+use borrow.Author.Needs.{needs}
+use Rattle.interpreter.specs.HeaderParts.{orZero, NamesRead, HeaderRead}
+use Rattle.interpreter.specs.declared.header.Names.{Names}
+use Rattle.interpreter.proofs.header.Path.{or-zero-small}
 use Rattle.interpreter.proofs.header.Tail.{is-last, is-joined, colon-within}
 use Rattle.interpreter.proofs.header.Entering.{Naming, naming-start, naming-none, naming-on, naming-end}
 use native.Mathlib.Omega.{arith}
@@ -10,13 +18,35 @@ use Rattle.interpreter.proofs.header.read_names.Statement.{statement}
 use Rattle.interpreter.proofs.header.read_names.Tie as tie
 
 abbrev Inv-loop : tie.InvT-loop
-Inv-loop table text at joined path₀ used count₀ i₀ path count i = Naming joined text at (take used path₀) path count i
+Inv-loop table path₀ used text lead star root count₀ i₀ path count i = Naming (not star) text i₀ (take count₀ path₀) path count i
 
 abbrev μ-loop : tie.MeasureT-loop
-μ-loop table text at joined path₀ used count₀ i₀ path count i = length text - i
+μ-loop table path₀ used text lead star root count₀ i₀ path count i = length text - i
+
+-- once the byte that leads them is read, and where the path then ends
+abbrev start-of : tie.After-or-zero Inv-loop μ-loop → tie.Start Inv-loop μ-loop
+start-of z = z .before .before .before .before .before
 
 abbrev entry : tie.At-loop Inv-loop μ-loop → tie.Start Inv-loop μ-loop
-entry l = l .before .before .before .before
+entry l = start-of (l .before)
+
+-- whether a `*` leads them
+abbrev star-at : tie.At-loop Inv-loop μ-loop → Bool
+star-at l = eqb (l .before .before .byte-at .result) 42
+
+-- what was read, by the text's first byte
+led : (l : tie.At-loop Inv-loop μ-loop) {r : Names} {left : List ℕ}
+    → let a = entry l .args in
+    let b = l .before .before .byte-at .result in
+    NamesRead (not (eqb b 42)) (a .text .now) (boolByte (eqb b 42 || eqb b 58)) (take (l .before .or-zero .result) (a .path .now)) r left
+    → HeaderRead (a .used) (a .text .now) (a .path .now) r left
+led l {r} {left} m =
+    let a = entry l .args in
+    let t = a .text .now in
+    let b = l .before .before .byte-at in
+    let n = subst (λ (n : ℕ). NamesRead (not (eqb (b .result) 42)) t (boolByte (eqb (b .result) 42 || eqb (b .result) 58)) (take n (a .path .now)) r left)
+    (l .before .or-zero .ensures) m in
+    subst (λ (x : ℕ). NamesRead (not (eqb x 42)) t (boolByte (eqb x 42 || eqb x 58)) (take (orZero (not (eqb x 58)) (a .used)) (a .path .now)) r left) (b .ensures) n
 
 -- once a name is entered
 abbrev name-of : tie.After-enter Inv-loop μ-loop → tie.After-read Inv-loop μ-loop
@@ -31,14 +61,28 @@ goes-on : (c : tie.Else2 Inv-loop μ-loop)
 goes-on c =
     let n = name-of (entered c) in
     let a = entry (n .before) .args in
-    let y = c .before .byte-at in
-    colon-within (a .text .now) (n .read .result .end) (y .result) (y .ensures) (is-joined (a .joined) (y .result) (c .if2 .left) .1)
+    let y = c .before .byte-at2 in
+    colon-within (a .text .now) (n .read .result .end) (y .result) (y .ensures) (is-joined (y .result) (star-at (n .before)) (c .if2 .left) .1)
+
+byte-at-requires : tie.Need-byte-at-requires Inv-loop μ-loop
+byte-at-requires c κs = tt
+
+or-zero-requires : tie.Need-or-zero-requires Inv-loop μ-loop
+or-zero-requires c κs = tt
+
+cast-i : tie.Need-cast-i Inv-loop μ-loop
+cast-i c = search needs
 
 loop-holds : tie.Need-loop-holds Inv-loop μ-loop
-loop-holds c = let p = c .before .before .before .pre in naming-start _ _ _ _ _ (p .1) (p .2)
+loop-holds c =
+    let s = start-of c in
+    let small = or-zero-small (not (eqb (c .before .byte-at .result) 58)) (s .args .used) in
+    let e = c .or-zero .ensures in
+    let p = s .pre in
+    naming-start _ _ _ _ _ (omega arith) (p .2)
 
 read-requires : tie.Need-read-requires Inv-loop μ-loop
-read-requires c κs = c .before .before .before .before .pre .0
+read-requires c κs = entry c .pre .0
 
 same-length : tie.Need-same-length Inv-loop μ-loop
 same-length c =
@@ -48,13 +92,15 @@ same-length c =
     omega arith
 
 returns : tie.Need-returns Inv-loop μ-loop
-returns c = naming-none (c .before .before .before .loop .inv) _ (c .before .before .read .ensures) (c .if1 .taken) _ refl _
+returns c =
+    let l = c .before .before .before in
+    led l (naming-none (l .loop .inv) _ (c .before .before .read .ensures) (c .if1 .taken) _ refl _)
 
 enter-requires : tie.Need-enter-requires Inv-loop μ-loop
 enter-requires c κs = let n = c .before .before .before .before .loop .inv in (n .few, n .long)
 
-byte-at-requires : tie.Need-byte-at-requires Inv-loop μ-loop
-byte-at-requires c κs = tt
+byte-at-requires-2 : tie.Need-byte-at-requires-2 Inv-loop μ-loop
+byte-at-requires-2 c κs = tt
 
 read-tail-requires : tie.Need-read-tail-requires Inv-loop μ-loop
 read-tail-requires c κs = tt
@@ -72,8 +118,9 @@ returns-2 : tie.Need-returns-2 Inv-loop μ-loop
 returns-2 c =
     let e = c .before .before .before .before .before in
     let n = name-of e in
-    naming-end (n .before .loop .inv) (n .read .result) (n .read .ensures) (e .before .before .if1 .left) (e .enter .ensures) (e .enter .kept .0)
-    (is-last _ _ (c .before .if2 .taken) (c .before .before .byte-at .ensures)) (c .read-tail .result) (c .read-tail .ensures)
+    led (n .before)
+    (naming-end (n .before .loop .inv) (n .read .result) (n .read .ensures) (e .before .before .if1 .left) (e .enter .ensures) (e .enter .kept .0)
+    (is-last _ (star-at (n .before)) (c .before .if2 .taken) (c .before .before .byte-at2 .ensures)) (c .read-tail .result) (c .read-tail .ensures))
 
 add-i : tie.Need-add-i Inv-loop μ-loop
 add-i c = let w = goes-on c in omega (arith, entry (name-of (entered c) .before) .good .1 .0)
@@ -88,8 +135,8 @@ loop-again : tie.Need-loop-again Inv-loop μ-loop
 loop-again c =
     let e = entered c in
     let n = name-of e in
-    let j = is-joined _ _ (c .if2 .left) in
-    naming-on (n .before .loop .inv) (n .read .result) (n .read .ensures) (e .before .before .if1 .left) (e .enter .ensures) (e .enter .kept .0) (j .0) (sym (c .before .byte-at .ensures) ∙ j .1)
+    let j = is-joined _ (star-at (n .before)) (c .if2 .left) in
+    naming-on (n .before .loop .inv) (n .read .result) (n .read .ensures) (e .before .before .if1 .left) (e .enter .ensures) (e .enter .kept .0) (j .0) (sym (c .before .byte-at2 .ensures) ∙ j .1)
 
 pub read-names-spec : {M : Type 1} → statement M
 read-names-spec =
@@ -97,12 +144,15 @@ read-names-spec =
     (tie.spec
     Inv-loop
     μ-loop
+    byte-at-requires
+    or-zero-requires
+    cast-i
     loop-holds
     read-requires
     same-length
     returns
     enter-requires
-    byte-at-requires
+    byte-at-requires-2
     read-tail-requires
     same-length-2
     returns-2

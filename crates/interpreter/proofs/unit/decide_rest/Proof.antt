@@ -6,7 +6,7 @@ use native.Mathlib.Nat.{le-refl}
 use native.Mathlib.Omega.{arith}
 use lib.ListN.{length, take, drop}
 use borrow.Rule.Slice.PartAt.{part-to-end}
-use Rattle.registers.specs.Text.{Text, white}
+use Rattle.registers.specs.Text.{white}
 use Rattle.registers.proofs.text.Laws.{end-drop, end-within}
 use Rattle.interpreter.specs.Cuts.{trimEnd, trim}
 use Rattle.interpreter.proofs.unit.Trims.{trim-twice}

@@ -1,6 +1,5 @@
 -- Refused with nothing changed where the state couldn't be the box's; otherwise its parts are lent to a flow, the bytes are fed, and the
 -- flow is a state again (state/Records, state/Events).
-use native.Mathlib.Omega.{arith}
 use mathlib.Core.Path.{refl}
 use Rattle.interpreter.specs.Events.{received}
 use Rattle.interpreter.proofs.state.Records.{flow-fits, short-of}
