@@ -1,6 +1,6 @@
 -- What the header reader's own functions say. Nothing of 01 is defined here: see Header.antt and Rows.antt.
 use mathlib.Core.Path.{_≡_}
-use mathlib.Core.Bool.{Bool, true, false, not, _||_}
+use mathlib.Core.Bool.{Bool, true, not, _||_}
 use mathlib.Core.List.{List, [], _∷_, _++_, map}
 use Prim.Native.Char.{code}
 use Prim.Native.Nat.{ℕ, _+_, _≤_, _<_}
@@ -12,7 +12,9 @@ use Rattle.registers.specs.Check.{refused, passed}
 use Rattle.interpreter.specs.Cuts.{front, cutAt}
 use Rattle.interpreter.specs.Header.{Header, header, name, asks, fullNames, pathAfter, isCommon}
 use Rattle.interpreter.specs.NameParts.{keyOf}
-use Rattle.interpreter.specs.RowsParts.{rowCount, rowOf}
+use Rattle.interpreter.specs.DeedParts.{rowCount}
+use Rattle.interpreter.specs.TableParts.{orZero}
+use Rattle.interpreter.specs.RowsParts.{rowOf}
 use Rattle.interpreter.specs.declared.header.Names.{Names}
 use Rattle.interpreter.specs.declared.header.Looked.{Looked}
 use Rattle.interpreter.specs.declared.header.Looked.the-variants.{Bad, At}
@@ -36,7 +38,7 @@ unasked t = if eqb (first t) (code "?") then rest t else t
 
 -- ---- the path as numbers
 
--- so many names are held
+-- how many names are held
 abbrev pub mostNames : ℕ
 mostNames = 7
 
@@ -51,12 +53,7 @@ Held keys used = (names : List Text) × Holds names keys used
 
 -- ---- what each function finds
 
--- a number, or 0
-abbrev pub orZero : Bool → ℕ → ℕ
-orZero true n = n
-orZero false n = 0
-
--- a number is added to others, as long as so many are held
+-- a number is added to others, unless all places are taken
 pub record Entered (keys : List ℕ) (count key r : ℕ) (keys′ : List ℕ) : Type 0 where
   pub is : take r keys′ ≡ take mostNames (take count keys ++ key ∷ [])
   pub few : r ≤ mostNames

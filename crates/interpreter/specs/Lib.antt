@@ -5,6 +5,8 @@ pub mod Header
 pub mod Rows
 pub mod NameParts
 pub mod WordsParts
+pub mod DeedParts
+pub mod TableParts
 pub mod RowsParts
 pub mod HeaderParts
 pub mod Parameter

@@ -1,19 +1,22 @@
 -- How the code reads a name: as a number. Nothing of 01 is defined here: see Header.antt.
 use mathlib.Core.Path.{_≡_}
 use mathlib.Core.List.{[], _∷_}
-use Prim.Native.Nat.{ℕ, _+_, _*_, _%_}
+use Prim.Native.Nat.{ℕ, _+_, _-_, _*_, _%_, _^_}
 use lib.ListN.{length, drop}
 use Rattle.registers.specs.Text.{Text, if_then_else_, letter, wordByte, first, start}
 use Rattle.interpreter.specs.declared.name.Name.{Name}
 
--- a byte of a name as a number below 32: a letter by its place in the alphabet, in either case, and 31 for a digit or an
--- underscore; 0 for a byte that no name has
+-- a byte of a name as a number of five bits: a letter by its place in the alphabet, in either case, and the last number for a digit
+-- or an underscore; 0 for a byte that no name has
+abbrev pub codeCount : ℕ
+codeCount = 32
+
 unfoldable pub codeOf : ℕ → ℕ
-codeOf b = if letter b then b % 32 else (if wordByte b then 31 else 0)
+codeOf b = if letter b then b % codeCount else (if wordByte b then codeCount - 1 else 0)
 
 -- a number with one code more, in 64 bits: what doesn't fit is shifted out
 unfoldable pub withCode : ℕ → ℕ → ℕ
-withCode k c = k % 576460752303423488 * 32 + c
+withCode k c = k % 2 ^ 59 * codeCount + c
 
 unfoldable pub keyFrom : ℕ → Text → ℕ
 keyFrom k [] = k

@@ -1,5 +1,5 @@
 -- Checks 4 to 7 on the parameters of a unit: how many, what each is, and the value that it gives. Check 6 is the lower crate's.
-use mathlib.Core.Bool.{Bool, true, false, _&&_, _||_}
+use mathlib.Core.Bool.{Bool, true, false, not, _&&_, _||_}
 use mathlib.Core.List.{List, [], _∷_, map}
 use Prim.Native.Nat.{ℕ, zero, suc}
 use Prim.Native.Char.{code}
@@ -31,6 +31,10 @@ use Rattle.interpreter.specs.declared.deed.Role.the-variants.{Setting as
 -- check 2: "commas part the parameters"; none where nothing follows the header
 unfoldable pub parameters : Text → List Text
 parameters t = if empty t then [] else map trim (cutAt (code ",") t)
+
+-- no "empty parameter"
+abbrev pub noneEmpty : List Text → Bool
+noneEmpty ps = every (λ p. not (empty p)) ps
 
 -- ---- check 4: "-108 too many parameters, -109 too few"; a number row's query has "one optional parameter"
 
@@ -74,11 +78,13 @@ parameter ws numbers q t =
 abbrev pub limitWords : List String
 limitWords = "MINimum" ∷ "MAXimum" ∷ []
 
+-- the words of a row: "A bool is ON, OFF, or a number"; those of the column Values; MINimum and MAXimum
 abbrev pub wordsOf : Kind → List String
 wordsOf bool = "OFF" ∷ "ON" ∷ []
 wordsOf (words ws) = ws
 wordsOf (number k low high) = limitWords
 
+-- check 5: "-104 if the row takes words only"
 abbrev pub takesNumbers : Kind → Bool
 takesNumbers bool = true
 takesNumbers (words ws) = false
@@ -109,13 +115,14 @@ sideGiven (words ws) g = On
 sideGiven (number k low high) (Word n) = On
 sideGiven (number k low high) (Figure d) = sideIn k d
 
--- with the limits' -222 stands that of exam mode
+-- check 7: "-222 outside the limits", and exam mode's -222 (02, #107)
+abbrev pub putGiven : Settings → ℕ → ℤ → Side → Checked Deed
+putGiven s i v x = check 222 (within s i v) >> check 222 (accepted s x) >> passed (Change (Put i v x))
+
 unfoldable pub settingDeed : Settings → ℕ → Text → Checked Deed
 settingDeed s i t =
     parameter (wordsOf (kindOf i)) (takesNumbers (kindOf i)) (quantityOf i) t >>= λ g.
-    let v = valueGiven s i (kindOf i) g in
-    let x = sideGiven (kindOf i) g in
-    check 222 (within s i v) >> check 222 (accepted s x) >> passed (Change (Put i v x))
+    putGiven s i (valueGiven s i (kindOf i) g) (sideGiven (kindOf i) g)
 
 -- the query of a number row with MINimum or MAXimum; a number in a query was refused by check 5
 abbrev pub limitGiven : Settings → ℕ → Given → ℤ

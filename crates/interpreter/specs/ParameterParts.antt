@@ -1,6 +1,6 @@
 -- What the parameter reader's own functions say. Nothing of 01 is defined here: see Parameter.antt.
 use mathlib.Core.Path.{_≡_}
-use mathlib.Core.Bool.{Bool, true, false, not, _&&_}
+use mathlib.Core.Bool.{Bool, true, false, _&&_}
 use mathlib.Core.List.{List, [], _∷_}
 use Prim.Native.Nat.{ℕ, _+_, _≤_}
 use Prim.Native.String.{String}
@@ -20,8 +20,8 @@ use Rattle.registers.specs.declared.rounding.Side.{Side}
 use Rattle.registers.specs.declared.settings.Settings.{Settings}
 use Rattle.registers.specs.declared.status.Register.{Register}
 use Rattle.registers.specs.declared.suffix.Quantity.{Quantity}
-use Rattle.interpreter.specs.WordsParts.{wordCount, taken}
-use Rattle.interpreter.specs.Parameter.{Given, Word, Figure, parameters, findWord, registerDeed}
+use Rattle.interpreter.specs.WordsParts.{wordCount, wordsIn}
+use Rattle.interpreter.specs.Parameter.{Given, Word, Figure, parameters, noneEmpty, findWord, registerDeed}
 use Rattle.interpreter.specs.declared.deed.Deed.{Deed}
 use Rattle.interpreter.specs.declared.deed.Deed.the-variants.{Change, Query}
 use Rattle.interpreter.specs.declared.deed.Change.the-variants.{Put, Store}
@@ -45,10 +45,10 @@ meantDeed (Obey d) = passed d
 
 pub record CountedIn (t : Text) (r : Counted) : Type 0 where
   pub parts : r .parts ≡ length (parameters t)
-  pub full : r .full ≡ every (λ p. not (empty p)) (parameters t)
+  pub full : r .full ≡ noneEmpty (parameters t)
 
 pub record TakesOf (ws : List String) (also : Bool) (q : Quantity) (r : Takes) : Type 0 where
-  pub words : taken (r .words) ≡ ws
+  pub words : wordsIn (r .words) ≡ ws
   pub numbers : r .numbers ≡ also
   pub quantity : r .quantity ≡ q
   pub room : r .words .first + r .words .count ≤ wordCount

@@ -18,8 +18,11 @@ use Rattle.interpreter.specs.declared.deed.Inquiry.the-variants.{Standar
 
 -- ---- queries that see the core alone: "*IDN? answers `COURSE,BENCH24,0,4.00`; *TST? `0`; *OPC? `1`", "Register answers are decimal"
 
+abbrev pub identity : Text
+identity = bytes "COURSE,BENCH24,0,4.00"
+
 unfoldable pub replyTo : queries.Query → Core → Text
-replyTo Identity c = bytes "COURSE,BENCH24,0,4.00"
+replyTo Identity c = identity
 replyTo SelfTest c = bytes "0"
 replyTo Completed c = bytes "1"
 replyTo (Limit i v) c = answerOf (kindOf i) v

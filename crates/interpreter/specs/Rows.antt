@@ -30,7 +30,7 @@ plain nodes role = record { star = false; nodes = nodes; role = role }
 abbrev pub starred : String → Role → Row
 starred w role = record { star = true; nodes = must w ∷ []; role = role }
 
--- the five commands of a register set
+-- the five commands of STATus:OPERation, and of STATus:LOCK and STATus:WARNing (02, #104)
 abbrev pub ofSet : RegisterSet → String → List Row
 ofSet x w =
     plain (must "STATus" ∷ must w ∷ must "CONDition" ∷ []) (Only (Query (Condition x)))
@@ -45,7 +45,7 @@ unfoldable pub settingRows : ℕ → List Setting → List Row
 settingRows i [] = []
 settingRows i (s ∷ ss) = plain (s .nodes) (setting i) ∷ settingRows (suc i) ss
 
--- "Registers and queue"
+-- "Registers and queue", and the sets that 02 adds (#104)
 unfoldable pub otherRows : List Row
 otherRows =
     starred "IDN" (Only (Query Identity))
@@ -69,19 +69,19 @@ abbrev pub sameBool : Bool → Bool → Bool
 sameBool true b = b
 sameBool false b = not b
 
--- a query, or one of *ESR?, *STB? and SYSTem:ERRor?
-abbrev pub asks : Deed → Bool
-asks (Change x) = false
-asks Complete = false
-asks Clear = false
-asks (Query q) = true
-asks (Inquire q) = true
+-- a query of settings and registers, or one of *ESR?, *STB? and SYSTem:ERRor?
+abbrev pub isQuery : Deed → Bool
+isQuery (Change x) = false
+isQuery Complete = false
+isQuery Clear = false
+isQuery (Query q) = true
+isQuery (Inquire q) = true
 
 -- "a query or a setting form the row lacks"
 abbrev pub hasForm : Bool → Role → Bool
 hasForm asked (setting i) = true
 hasForm asked (register r) = true
-hasForm asked (Only d) = sameBool asked (asks d)
+hasForm asked (Only d) = sameBool asked (isQuery d)
 
 unfoldable pub fitsRow : Bool → List Text → Bool → Row → Bool
 fitsRow star names asked r = sameBool star (r .star) && (hasForm asked (r .role) && spells (r .nodes) names)

@@ -5,17 +5,17 @@ use mathlib.Core.List.{List, [], _∷_}
 use Prim.Native.Nat.{ℕ}
 use lib.Dec.{leb}
 use lib.ListN.{length}
-use Rattle.registers.specs.Text.{Text, white, visible, printable, every, empty, start, after}
+use Rattle.registers.specs.Text.{Text, white, visible, printable, every, start, after}
 use Rattle.registers.specs.Check.{Checked, passed, _>>=_, _>>_, check}
 use Rattle.registers.specs.Queue.{among, mayBeQueued}
 use Rattle.registers.specs.declared.settings.Settings.{Settings}
 use Rattle.interpreter.specs.Cuts.{trim}
 use Rattle.interpreter.specs.Header.{header, fullNames, pathAfter, isCommon}
 use Rattle.interpreter.specs.Rows.{rows, findRow}
-use Rattle.interpreter.specs.Parameter.{parameters, least, greatest, deedOf}
+use Rattle.interpreter.specs.Parameter.{parameters, noneEmpty, least, greatest, deedOf}
 use Rattle.interpreter.specs.declared.deed.Deed.{Deed}
 
--- the numbers that a unit can be refused by: all that 01 puts into the queue but -350, which a full queue makes, -363 and -410, which
+-- the numbers that a unit can be refused by: all that 01 and 02 put into the queue but -350, which a full queue makes, -363 and -410, which
 -- are a newline's, and -420, which is a take's
 abbrev pub raisable : ℕ → Bool
 raisable n = mayBeQueued n && not (among n (350 ∷ 363 ∷ 410 ∷ 420 ∷ []))
@@ -32,13 +32,17 @@ headerText u = start visible (after white u)
 abbrev pub parameterText : Text → Text
 parameterText u = trim (after visible (after white u))
 
+-- check 1: "a byte that is neither white space nor 33 to 126"
+abbrev pub allowed : ℕ → Bool
+allowed b = white b || printable b
+
 -- the checks in 01's order: 1, 2, 3, 4, then 5 to 7 in deedOf
 unfoldable pub readUnit : Settings → List Text → Text → Checked Read
 readUnit s path u =
-    check 101 (every (λ b. white b || printable b) u) >>
+    check 101 (every allowed u) >>
     header (headerText u) >>= λ h.
     let ps = parameters (parameterText u) in
-    check 102 (every (λ p. not (empty p)) ps) >>
+    check 102 (noneEmpty ps) >>
     findRow (isCommon (h .place)) (fullNames (h .place) path (h .names)) (h .query) rows >>= λ r.
     check 108 (leb (length ps) (greatest r (h .query))) >>
     check 109 (leb (least r (h .query)) (length ps)) >>

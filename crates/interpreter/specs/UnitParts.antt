@@ -1,20 +1,20 @@
 -- What the unit reader's own functions say. Nothing of 01 is defined here: see Unit.antt.
 use mathlib.Core.Path.{_≡_}
-use mathlib.Core.Bool.{Bool, true, not, _||_}
+use mathlib.Core.Bool.{Bool, true}
 use mathlib.Core.List.{List}
 use Prim.Native.Nat.{ℕ, _≤_, _<_}
 use lib.Dec.{leb, ltb}
 use lib.ListN.{length}
-use Rattle.registers.specs.Text.{Text, if_then_else_, white, printable, every, empty}
+use Rattle.registers.specs.Text.{Text, if_then_else_, every}
 use Rattle.registers.specs.Check.{Checked, refused, passed, _>>=_, _>>_, check}
 use Rattle.registers.specs.Error.{numberOf}
 use Rattle.registers.specs.Settings.{count, within, accepted}
 use Rattle.registers.specs.Status.{widest}
 use Rattle.registers.specs.declared.settings.Settings.{Settings}
-use Rattle.interpreter.specs.Parameter.{parameters, least, greatest, deedOf}
-use Rattle.interpreter.specs.RowsParts.{rowCount, roleAt}
+use Rattle.interpreter.specs.Parameter.{parameters, noneEmpty, least, greatest, deedOf}
+use Rattle.interpreter.specs.DeedParts.{rowCount, roleAt}
 use Rattle.interpreter.specs.HeaderParts.{Holds}
-use Rattle.interpreter.specs.Unit.{readUnit}
+use Rattle.interpreter.specs.Unit.{allowed, readUnit}
 use Rattle.interpreter.specs.declared.deed.Deed.{Deed}
 use Rattle.interpreter.specs.declared.deed.Deed.the-variants.{Change as change, Complete, Clear, Query as query, Inquire}
 use Rattle.interpreter.specs.declared.deed.Change.{Change}
@@ -32,7 +32,7 @@ roleFound row = if ltb row rowCount then passed (roleAt row) else refused 113
 -- the checks after the header
 unfoldable pub decided : Settings → ℕ → Bool → Text → Checked Deed
 decided s row asked t =
-    check 102 (every (λ p. not (empty p)) (parameters t)) >>
+    check 102 (noneEmpty (parameters t)) >>
     roleFound row >>= λ r.
     check 108 (leb (length (parameters t)) (greatest r asked)) >>
     check 109 (leb (least r asked) (length (parameters t))) >>
@@ -40,11 +40,11 @@ decided s row asked t =
 
 -- check 1 on the text after a header, and then those
 unfoldable pub decidedText : Settings → ℕ → Bool → Text → Checked Deed
-decidedText s row asked t = check 101 (every (λ b. white b || printable b) t) >> decided s row asked t
+decidedText s row asked t = check 101 (every allowed t) >> decided s row asked t
 
 -- checks 1 and 2 on a unit that starts with no header
 unfoldable pub headerRefusal : Text → ℕ
-headerRefusal u = if every (λ b. white b || printable b) u then 102 else 101
+headerRefusal u = if every allowed u then 102 else 101
 
 -- a unit is refused by an error's number, or leaves its deed and a path
 abbrev pub UnitRead : Settings → List Text → Text → Decision → ℕ → List ℕ → Type 0

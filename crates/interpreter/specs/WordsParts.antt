@@ -1,4 +1,4 @@
--- How the code keeps the words of the parameters, as a table of bytes, and what the functions say that compare, choose and write them.
+-- How the code keeps the words of the parameters, as a table of bytes, and what the functions that compare, choose and write them say.
 -- Nothing of 01 is defined here: see Parameter.antt.
 use mathlib.Core.Path.{_≡_}
 use mathlib.Core.Bool.{Bool, _||_}
@@ -20,9 +20,12 @@ wordList = "CURRent" ∷ "SCURrent" ∷ "VOLTage" ∷ "R12V" ∷ "R24V" ∷ "CON
 abbrev pub wordCount : ℕ
 wordCount = 10
 
--- how many bytes they take in the table
+-- how many bytes a word takes in the table, and all of them
+abbrev pub wordSize : ℕ
+wordSize = 16
+
 abbrev pub wordBytes : ℕ
-wordBytes = wordCount * 16
+wordBytes = wordCount * wordSize
 
 unfoldable pub wordAt : ℕ → String
 wordAt i = getD wordList i ""
@@ -32,9 +35,9 @@ unfoldable pub placeIn : List String → String → ℕ
 placeIn [] w = 0
 placeIn (v ∷ vs) w = let more = suc (placeIn vs w) in if same (bytes v) (bytes w) then 0 else more
 
--- 16 bytes to a word: the lengths of its short and its long form, its letters, and zeros
+-- a word: the lengths of its short and its long form, its letters, and zeros
 unfoldable pub wordRow : String → Text
-wordRow w = length (shortForm w) ∷ length (longForm w) ∷ longForm w ++ replicate (14 - length (longForm w)) 0
+wordRow w = length (shortForm w) ∷ length (longForm w) ∷ longForm w ++ replicate (wordSize - 2 - length (longForm w)) 0
 
 unfoldable pub wordTableOf : List String → Text
 wordTableOf [] = []
@@ -43,9 +46,12 @@ wordTableOf (w ∷ ws) = wordRow w ++ wordTableOf ws
 unfoldable pub wordTable : Text
 wordTable = wordTableOf wordList
 
--- 5 bytes to a word: the length of its short form, its letters, and zeros
+-- in the table of short forms a word has the length of its short form, its letters, and zeros
+abbrev pub shortSize : ℕ
+shortSize = 5
+
 unfoldable pub shortRow : String → Text
-shortRow w = length (shortForm w) ∷ shortForm w ++ replicate (4 - length (shortForm w)) 0
+shortRow w = length (shortForm w) ∷ shortForm w ++ replicate (shortSize - 1 - length (shortForm w)) 0
 
 unfoldable pub shortTableOf : List String → Text
 shortTableOf [] = []
@@ -63,7 +69,7 @@ agreed (b ∷ bs) [] = 0
 agreed (b ∷ bs) (x ∷ xs) = let more = suc (agreed bs xs) in if eqb (capital b) x then more else 0
 
 unfoldable pub wordCell : ℕ → ℕ → ℕ
-wordCell w i = getD wordTable (w * 16 + i) 0
+wordCell w i = getD wordTable (w * wordSize + i) 0
 
 -- the length of one of a word's forms
 unfoldable pub formLength : ℕ → ℕ → Bool
@@ -78,14 +84,17 @@ firstWords = map (λ (s : Setting). placeIn wordList (getD (wordsOf (s .kind)) 0
 unfoldable pub wordCounts : List ℕ
 wordCounts = map (λ (s : Setting). length (wordsOf (s .kind))) table
 
-abbrev pub taken : Words → List String
-taken w = take (w .count) (drop (w .first) wordList)
+abbrev pub wordsIn : Words → List String
+wordsIn w = take (w .count) (drop (w .first) wordList)
 
--- the words before the seventh are those of the settings that take no numbers
+-- the words before this one are those of the settings that take no numbers
+abbrev pub firstWithNumbers : ℕ
+firstWithNumbers = 6
+
 abbrev pub withNumbers : Words → Bool
-withNumbers w = leb 6 (w .first)
+withNumbers w = leb firstWithNumbers (w .first)
 
 pub record TakenOf (ws : List String) (numbers : Bool) (r : Words) : Type 0 where
-  pub words : taken r ≡ ws
+  pub words : wordsIn r ≡ ws
   pub also : withNumbers r ≡ numbers
   pub room : r .first + r .count ≤ wordCount

@@ -5,7 +5,7 @@ use registers::status::Register;
 use registers::status::RegisterSet;
 ghost use mathlib.Core.Path.{_≡_};
 ghost use Prim.Native.Nat.{_<_};
-ghost use Rattle.interpreter.specs.RowsParts.{rowCount, roleAt, setAt, roleOfSet};
+ghost use Rattle.interpreter.specs.DeedParts.{rowCount, roleAt, setAt, roleOfSet};
 
 // A change of settings or registers, and what was rounded off the number that it was given.
 pub enum Change {
@@ -42,6 +42,7 @@ pub enum Inquiry {
     NextError,
 }
 
+// What an accepted unit does.
 pub enum Deed {
     Change(Change),
     Complete,

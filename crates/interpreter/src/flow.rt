@@ -10,7 +10,7 @@ ghost use Prim.Native.Nat.{_+_, _^_, _≤_, _<_, min};
 ghost use lib.ListN.{length, drop};
 ghost use lib.Seq as seq;
 ghost use Rattle.registers.specs.Text.{Text};
-ghost use Rattle.interpreter.specs.RowsParts.{commandTable};
+ghost use Rattle.interpreter.specs.TableParts.{commandTable};
 ghost use Rattle.interpreter.specs.Line.{newlines};
 ghost use Rattle.interpreter.specs.FlowParts.{FlowFits, firstLine, FlowFed};
 

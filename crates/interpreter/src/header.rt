@@ -11,11 +11,12 @@ ghost use mathlib.Core.List.{List};
 ghost use Prim.Native.Nat.{_≤_, _<_};
 ghost use lib.ListN.{length};
 ghost use Rattle.registers.specs.Text.{Text};
-ghost use Rattle.interpreter.specs.RowsParts.{commandTable};
-ghost use Rattle.interpreter.specs.HeaderParts.{mostNames, orZero, Entered, TailRead, HeaderRead, Holds, LookedUp};
+ghost use Rattle.interpreter.specs.TableParts.{commandTable};
+ghost use Rattle.interpreter.specs.TableParts.{orZero};
+ghost use Rattle.interpreter.specs.HeaderParts.{mostNames, Entered, TailRead, HeaderRead, Holds, LookedUp};
 
 // How many names are held: no row has more than five nodes, so a header with more names has no row, and nothing is lost.
-pub(crate) const MOST: usize = 7;
+pub(crate) const MOST_NAMES: usize = 7;
 
 // The names of a header: whether it is one, whether it asks, where it ends, and how many names are held.
 struct Names {

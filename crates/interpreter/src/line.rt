@@ -1,5 +1,5 @@
 // A line: its units left to right, and its end.
-use crate::header::MOST;
+use crate::header::MOST_NAMES;
 use crate::parameter::Decision;
 use crate::perform;
 use crate::present::Present;
@@ -15,7 +15,7 @@ ghost use lib.ListN.{length};
 ghost use Rattle.registers.specs.Text.{Text};
 ghost use Rattle.registers.specs.Queue.{most};
 ghost use Rattle.interpreter.specs.Box.{mostAnswer};
-ghost use Rattle.interpreter.specs.RowsParts.{commandTable};
+ghost use Rattle.interpreter.specs.TableParts.{commandTable};
 ghost use Rattle.interpreter.specs.HeaderParts.{Holds, Held};
 ghost use Rattle.interpreter.specs.LineParts.{StoppedWith, UnitRan, UnitsRan, LineRan};
 
@@ -39,7 +39,13 @@ fn stop(present: Present, error: Error) -> Done
 
 // Runs one unit after those before it: checks 1 to 7, then the lock and check 8, then check 9. Where check 9 refuses, "the query
 // isn't performed", and what it would have left is forgotten.
-fn run_unit(table: &[u8], done: Done, path: &mut [u64; MOST], unit: &[u8], out: &mut [u8]) -> Done
+fn run_unit(
+    table: &[u8],
+    done: Done,
+    path: &mut [u64; MOST_NAMES],
+    unit: &[u8],
+    out: &mut [u8],
+) -> Done
     requires { ⌜ (now table ≡ commandTable) × Held (now path) (done .used) ⌝ }
     requires { ⌜ (done .present .answered < mostAnswer) × (length (now out) ≡ mostAnswer) × (done .present .status .queued ≤ most) ⌝ }
     ensures { λ r. ⌜ ((names : List Text) → Holds names (now (path .entry)) (done .used) → UnitRan done names (now (unit .entry)) (now (out .entry)) r (now (path .exit)) (now (out .exit))) ⌝ }
@@ -82,7 +88,7 @@ fn run_units(table: &[u8], present: Present, line: &[u8], out: &mut [u8]) -> Pre
         used: 0,
         obeyed: true,
     };
-    let mut path = [0u64; MOST];
+    let mut path = [0u64; MOST_NAMES];
     let mut at: usize = 0;
     loop {
         let end = bytes::scan::find(line, at, line.len(), b';');

@@ -6,8 +6,8 @@ use crate::table::FIRST_CODE;
 use registers::text;
 ghost use mathlib.Core.Path.{_≡_};
 ghost use Prim.Native.Nat.{_<_};
-ghost use Rattle.interpreter.specs.NameParts.{codeOf, withCode, NameRead, RestRead};
-ghost use Rattle.interpreter.specs.RowsParts.{commandTable};
+ghost use Rattle.interpreter.specs.NameParts.{codeCount, codeOf, withCode, NameRead, RestRead};
+ghost use Rattle.interpreter.specs.TableParts.{commandTable};
 
 // A name's number, 0 where none starts, and where it ends.
 pub(crate) struct Name {
@@ -15,7 +15,13 @@ pub(crate) struct Name {
     pub(crate) end: usize,
 }
 
-// Gives a byte of a name as a number below 32, the same for a letter in either case; 0 for a byte that no name has.
+// How many numbers of five bits there are.
+pub(crate) const CODES: u64 = 32;
+
+// What of a number is kept where a code is added: its lowest 59 bits.
+const KEPT: u64 = 576_460_752_303_423_488;
+
+// Gives a byte of a name as a number of five bits, the same for a letter in either case; 0 for a byte that no name has.
 fn code(table: &[u8], b: u8) -> u64
     requires { ⌜ now table ≡ commandTable ⌝ }
     ensures { λ r. ⌜ r ≡ codeOf b ⌝ }
@@ -25,10 +31,10 @@ fn code(table: &[u8], b: u8) -> u64
 
 // Adds a byte to a number. What doesn't fit into 64 bits is shifted out.
 fn with_code(key: u64, code: u64) -> u64
-    requires { ⌜ code < 32 ⌝ }
+    requires { ⌜ code < codeCount ⌝ }
     ensures { λ r. ⌜ r ≡ withCode key code ⌝ }
 {
-    key % 576460752303423488 * 32 + code
+    key % KEPT * CODES + code
 }
 
 // Reads the rest of a name after its first letter.

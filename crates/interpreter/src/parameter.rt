@@ -26,9 +26,9 @@ ghost use Prim.Native.Nat.{_+_, _≤_, _<_};
 ghost use lib.ListN.{length};
 ghost use Rattle.registers.specs.Rounding.{rounded, sideIn};
 ghost use Rattle.registers.specs.Settings.{count, kindOf, quantityOf};
-ghost use Rattle.interpreter.specs.RowsParts.{commandTable};
+ghost use Rattle.interpreter.specs.TableParts.{commandTable};
 ghost use Rattle.interpreter.specs.Parameter.{Word, Figure, parameter, wordsOf, takesNumbers, least, greatest, valueGiven, sideGiven, deedOf};
-ghost use Rattle.interpreter.specs.WordsParts.{wordCount, taken};
+ghost use Rattle.interpreter.specs.WordsParts.{wordCount, wordsIn};
 ghost use Rattle.interpreter.specs.ParameterParts.{meantGiven, meantDeed, CountedIn, TakesOf, aWord, isNumber, roundedTo, putFit, storeTo, registerTo, partsOf};
 
 // Checks 5 and 6 on a parameter: a word of the row by its place in the row's list, or a number.
@@ -105,7 +105,7 @@ fn setting_takes(row: usize) -> Takes
 // underscore is none of the table, so the search refuses it by the same number.
 fn find_word(table: &[u8], words: Words, text: &[u8]) -> Parameter
     requires { ⌜ (now table ≡ commandTable) × (words .first + words .count ≤ wordCount) ⌝ }
-    ensures { λ r. ⌜ meantGiven r ≡ aWord (taken words) (now (text .entry)) ⌝ }
+    ensures { λ r. ⌜ meantGiven r ≡ aWord (wordsIn words) (now (text .entry)) ⌝ }
 {
     let mut n: usize = 0;
     while n < words.count {
@@ -120,7 +120,7 @@ fn find_word(table: &[u8], words: Words, text: &[u8]) -> Parameter
 // Makes checks 5 and 6. A digit, a sign or a point starts a number, and no query takes one.
 fn read_parameter(table: &[u8], takes: Takes, asked: bool, text: &[u8]) -> Parameter
     requires { ⌜ (now table ≡ commandTable) × (takes .words .first + takes .words .count ≤ wordCount) ⌝ }
-    ensures { λ r. ⌜ meantGiven r ≡ parameter (taken (takes .words)) (takes .numbers && not asked) (takes .quantity) (now (text .entry)) ⌝ }
+    ensures { λ r. ⌜ meantGiven r ≡ parameter (wordsIn (takes .words)) (takes .numbers && not asked) (takes .quantity) (now (text .entry)) ⌝ }
 {
     let b = text::byte_at(text, 0);
     if text::is_letter(b) {

@@ -1,14 +1,19 @@
 // Check 3: the row that spells the names of a header.
+use crate::name::CODES;
 use crate::table::FIRST_KEY;
 use crate::table::FIRST_ROW;
 use crate::table::FIRST_START;
 use crate::table::KEYS_SIZE;
+use crate::table::MARKS;
+use crate::table::OPTIONAL;
 use crate::table::ROW_SIZE;
 use crate::table::ROWS;
 ghost use mathlib.Core.Path.{_≡_};
 ghost use Prim.Native.Nat.{_+_, _≤_, _<_};
 ghost use lib.ListN.{length};
-ghost use Rattle.interpreter.specs.RowsParts.{nodeCount, rowCount, commandTable, nodeAt, rowCell, PairRead, QuadRead, keyCell, keyMatches, wordIn, nodeOf, leftOut, Walked, formBit, rowOfKeys, Marked, markOf, startOf};
+ghost use Rattle.interpreter.specs.DeedParts.{rowCount};
+ghost use Rattle.interpreter.specs.TableParts.{rowSize, nodeCount, commandTable, nodeAt, markOf, startOf};
+ghost use Rattle.interpreter.specs.RowsParts.{rowCell, PairRead, QuadRead, keyCell, keyMatches, wordIn, nodeOf, leftOut, Walked, formBit, rowOfKeys, Marked};
 
 // Where a walk over a row's nodes goes on.
 enum Walk {
@@ -18,7 +23,7 @@ enum Walk {
 
 // Reads a byte of a row in the table: its forms, how many nodes it has, then the nodes.
 fn row_cell(table: &[u8], row: usize, i: usize) -> u8
-    requires { ⌜ (now table ≡ commandTable) × (row < rowCount) × (i < 8) ⌝ }
+    requires { ⌜ (now table ≡ commandTable) × (row < rowCount) × (i < rowSize) ⌝ }
     ensures { λ r. ⌜ r ≡ rowCell row i ⌝ }
 {
     table[FIRST_ROW + row * ROW_SIZE + i]
@@ -61,7 +66,7 @@ fn spells(table: &[u8], key: u64, word: usize) -> bool
 fn leave_out(node: u8, at: usize) -> Walk
     ensures { λ r. ⌜ r ≡ leftOut node at ⌝ }
 {
-    if node < 128 {
+    if node < OPTIONAL {
         return Walk::Missed;
     }
     Walk::To(at)
@@ -75,7 +80,7 @@ fn take_node(table: &[u8], names: &[u64], at: usize, node: u8) -> Walk
     if names.len() <= at {
         return leave_out(node, at);
     }
-    if spells(table, names[at], (node % 128) as usize) {
+    if spells(table, names[at], (node % OPTIONAL) as usize) {
         return Walk::To(at + 1);
     }
     leave_out(node, at)
@@ -92,14 +97,14 @@ fn form_bit(star: bool, asked: bool) -> u8
     }
 }
 
-// Makes the names' first letters a mark below 256, which hardly any rows share.
+// Makes the names' first letters a mark, which hardly any rows share.
 fn mark(names: &[u64], star: bool) -> usize
     ensures { λ r. ⌜ Marked star (now (names .entry)) r ⌝ }
 {
     let mut letters = star as usize;
     let mut i: usize = 0;
     while i < names.len() {
-        letters = (letters * 24 + (names[i] % 32) as usize) % 256;
+        letters = (letters * 24 + (names[i] % CODES) as usize) % MARKS;
         i += 1;
     }
     letters

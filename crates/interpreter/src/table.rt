@@ -1,7 +1,7 @@
 // The table that the header search and the parameter reader look into: made once where a chunk of bytes is served, and lent
 // down. It is tied to 01's rows and words by its statement.
 ghost use mathlib.Core.Path.{_≡_};
-ghost use Rattle.interpreter.specs.RowsParts.{commandTable};
+ghost use Rattle.interpreter.specs.TableParts.{commandTable};
 
 // How many words the parameters have, how many rows there are, and how many words the rows' nodes have.
 pub(crate) const WORDS: usize = 10;
@@ -17,6 +17,14 @@ pub(crate) const ROW_SIZE: usize = 8;
 
 pub(crate) const KEYS_SIZE: usize = 16;
 
+// How many bytes there are, each of which has a code, and how many marks of first letters.
+const BYTES: usize = 256;
+
+pub(crate) const MARKS: usize = 256;
+
+// What a node's byte has more where the node may be left out.
+pub(crate) const OPTIONAL: u8 = 128;
+
 // Where the rows begin, after the parameters' words; then the numbers of the nodes' words, the codes of all bytes, and the
 // rows where a search starts.
 pub(crate) const FIRST_ROW: usize = WORDS * WORD_SIZE;
@@ -25,9 +33,9 @@ pub(crate) const FIRST_KEY: usize = FIRST_ROW + ROWS * ROW_SIZE;
 
 pub(crate) const FIRST_CODE: usize = FIRST_KEY + NODES * KEYS_SIZE;
 
-pub(crate) const FIRST_START: usize = FIRST_CODE + 256;
+pub(crate) const FIRST_START: usize = FIRST_CODE + BYTES;
 
-const SIZE: usize = FIRST_START + 256;
+const SIZE: usize = FIRST_START + MARKS;
 
 // What stands in the table, by its numbers, as tests/print-table prints it.
 //

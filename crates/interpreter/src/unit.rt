@@ -4,7 +4,7 @@ use crate::deed::Heading;
 use crate::deed::Role;
 use crate::header;
 use crate::header::Looked;
-use crate::header::MOST;
+use crate::header::MOST_NAMES;
 use crate::parameter;
 use crate::parameter::Decision;
 use crate::table::ROWS;
@@ -12,16 +12,17 @@ use registers::error::Error;
 use registers::settings::Settings;
 use registers::text;
 ghost use mathlib.Core.Path.{_≡_};
-ghost use mathlib.Core.Bool.{_||_};
 ghost use mathlib.Core.List.{List};
 ghost use Prim.Native.Nat.{_≤_};
 ghost use lib.ListN.{length, take};
-ghost use Rattle.registers.specs.Text.{Text, every, white, printable};
+ghost use Rattle.registers.specs.Text.{Text, every};
 ghost use Rattle.registers.specs.Error.{numberOf};
 ghost use Rattle.interpreter.specs.Cuts.{trim, trimEnd};
-ghost use Rattle.interpreter.specs.RowsParts.{rowCount, commandTable};
+ghost use Rattle.interpreter.specs.DeedParts.{rowCount};
+ghost use Rattle.interpreter.specs.TableParts.{commandTable};
 ghost use Rattle.interpreter.specs.HeaderParts.{Holds, Held};
 ghost use Rattle.interpreter.specs.ParameterParts.{meantDeed};
+ghost use Rattle.interpreter.specs.Unit.{allowed};
 ghost use Rattle.interpreter.specs.UnitParts.{decided, decidedText, headerRefusal, UnitRead};
 
 // What checks 1 to 7 say of a unit, and how many names the path has that it leaves.
@@ -32,7 +33,7 @@ pub(crate) struct Reading {
 
 // Makes check 1. All bytes are looked at, without a branch: a unit is short and mostly good.
 fn all_allowed(unit: &[u8]) -> bool
-    ensures { λ r. ⌜ r ≡ every (λ b. white b || printable b) (now (unit .entry)) ⌝ }
+    ensures { λ r. ⌜ r ≡ every allowed (now (unit .entry)) ⌝ }
 {
     let mut all = true;
     let mut i: usize = 0;
@@ -127,7 +128,7 @@ fn header_error(unit: &[u8]) -> Error
 pub(crate) fn read(
     table: &[u8],
     settings: Settings,
-    path: &mut [u64; MOST],
+    path: &mut [u64; MOST_NAMES],
     used: usize,
     unit: &[u8],
 ) -> Reading

@@ -10,8 +10,8 @@ ghost use Rattle.registers.specs.Answer.{Laid};
 ghost use Rattle.registers.specs.Settings.{count, kindOf};
 ghost use Rattle.registers.specs.Words.{shortForm, longForm, matches};
 ghost use Rattle.interpreter.specs.Parameter.{wordsOf, takesNumbers};
-ghost use Rattle.interpreter.specs.RowsParts.{commandTable};
-ghost use Rattle.interpreter.specs.WordsParts.{wordCount, wordAt, agreed, formLength, wordCell, TakenOf, shortTable};
+ghost use Rattle.interpreter.specs.TableParts.{commandTable};
+ghost use Rattle.interpreter.specs.WordsParts.{wordCount, wordSize, wordAt, agreed, formLength, wordCell, TakenOf, shortTable};
 
 // Words that stand together in the table: where they begin, and how many there are.
 pub(crate) struct Words {
@@ -19,9 +19,7 @@ pub(crate) struct Words {
     pub(crate) count: usize,
 }
 
-// Where each setting's words begin, and how many there are, row by row as the settings stand:
-// OUTPut, PON, RELay, MONitor:MODE, VOLTage, RANGe, FREQuency, RMS, RMS:MODE, PEAK:MODE, RMS:TIME, PEAK:TIME, HIGH, LOW,
-// BRIGhtness, KLOCk, EXAM.
+// Where each setting's words begin, and how many there are, by the setting's row (table.rt lists the rows and the words).
 const FIRST_WORDS: [u8; Settings::COUNT] = [6, 6, 6, 0, 8, 3, 8, 8, 5, 5, 8, 8, 8, 8, 8, 6, 6];
 
 const WORD_COUNTS: [u8; Settings::COUNT] = [2, 2, 2, 3, 2, 2, 2, 2, 2, 2, 2, 2, 2, 2, 2, 2, 2];
@@ -34,7 +32,7 @@ pub(crate) const FIRST_WITH_NUMBERS: usize = 6;
 
 // Reads a byte of a word in the table: the lengths of its two forms, then its letters.
 fn word_cell(table: &[u8], word: usize, i: usize) -> u8
-    requires { ⌜ (now table ≡ commandTable) × (word < wordCount) × (i < 16) ⌝ }
+    requires { ⌜ (now table ≡ commandTable) × (word < wordCount) × (i < wordSize) ⌝ }
     ensures { λ r. ⌜ r ≡ wordCell word i ⌝ }
 {
     table[word * WORD_SIZE + i]

@@ -7,7 +7,7 @@ use Rattle.registers.specs.Text.{if_then_else_}
 use Rattle.registers.specs.Settings.{count, table}
 use Rattle.registers.specs.declared.status.Register.the-variants.{Ese, Sre}
 use Rattle.interpreter.specs.Rows.{rows, settingRows, otherRows}
-use Rattle.interpreter.specs.RowsParts.{rowCount, roleAt, setAt, roleOfSet}
+use Rattle.interpreter.specs.DeedParts.{rowCount, roleAt, setAt, roleOfSet, commonRows, setRows}
 use Rattle.interpreter.specs.declared.deed.Deed.the-variants.{Change, Complete, Clear, Query, Inquire}
 use Rattle.interpreter.specs.declared.deed.Change.the-variants.{Nothing, Reset}
 use Rattle.interpreter.specs.declared.deed.Query.the-variants.{Identity, SelfTest, Completed}
@@ -24,7 +24,7 @@ role-setting i h = agree count Setting roleAt refl i h
 
 abbrev pub roleTold : ℕ → Role
 roleTold i =
-    if leb 12 i then roleOfSet (setAt ((i - 12) / 5)) ((i - 12) % 5)
+    if leb commonRows i then roleOfSet (setAt ((i - commonRows) / setRows)) ((i - commonRows) % setRows)
     else if eqb i 0 then Only (Query Identity)
     else if eqb i 1 then Only (Query SelfTest)
     else if eqb i 2 then Only (Query Completed)

@@ -13,8 +13,10 @@ use Rattle.registers.specs.Check.{Checked, refused, passed, check, _>>_}
 use Rattle.registers.proofs.Tests.{and-both}
 use Rattle.interpreter.specs.Cuts.{cutAt}
 use Rattle.interpreter.specs.Header.{Place, common, root, here, Header, header, placed, name, asks, isCommon, fullNames, pathAfter}
-use Rattle.interpreter.specs.RowsParts.{rowCount, rowOf, rowOfKeys}
-use Rattle.interpreter.specs.HeaderParts.{mostNames, bodyOf, asksIn, namesIn, orZero, Holds, NamesGood, HeaderRead, starred, rooted, LookedUp}
+use Rattle.interpreter.specs.DeedParts.{rowCount}
+use Rattle.interpreter.specs.RowsParts.{rowOf, rowOfKeys}
+use Rattle.interpreter.specs.TableParts.{orZero}
+use Rattle.interpreter.specs.HeaderParts.{mostNames, bodyOf, asksIn, namesIn, Holds, NamesGood, HeaderRead, starred, rooted, LookedUp}
 use Rattle.interpreter.specs.declared.header.Names.{Names}
 use Rattle.interpreter.specs.declared.header.Looked.the-variants.{At}
 use Rattle.interpreter.proofs.header.Scan.{asks-cons, body-cons, body-first}

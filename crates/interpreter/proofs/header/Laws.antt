@@ -9,7 +9,9 @@ use lib.ListN.{length, getD}
 use Rattle.registers.specs.Text.{Text, if_then_else_}
 use Rattle.registers.specs.Check.{refused, passed}
 use Rattle.interpreter.specs.Rows.{Row, rows, fitsRow, findRow}
-use Rattle.interpreter.specs.RowsParts.{rowCount, roleAt, firstFit, rowOf}
+use Rattle.interpreter.specs.DeedParts.{rowCount, roleAt}
+use Rattle.interpreter.specs.TableParts.{firstFit}
+use Rattle.interpreter.specs.RowsParts.{rowOf}
 use Rattle.interpreter.specs.declared.deed.Role.{Role}
 use Rattle.interpreter.specs.declared.deed.Role.the-variants.{Setting as setting}
 use Rattle.interpreter.proofs.table.Lengths.{rows-many}

@@ -12,8 +12,10 @@ use Rattle.registers.proofs.Tests.{and-both, and-true}
 use Rattle.interpreter.specs.Cuts.{front}
 use Rattle.interpreter.specs.Header.{name}
 use Rattle.interpreter.specs.NameParts.{keyOf}
-use Rattle.interpreter.specs.RowsParts.{rowCount, rowOf, rowOfKeys}
-use Rattle.interpreter.specs.HeaderParts.{mostNames, orZero, Holds}
+use Rattle.interpreter.specs.DeedParts.{rowCount}
+use Rattle.interpreter.specs.RowsParts.{rowOf, rowOfKeys}
+use Rattle.interpreter.specs.TableParts.{orZero}
+use Rattle.interpreter.specs.HeaderParts.{mostNames, Holds}
 use Rattle.interpreter.proofs.rows.Numbers.{row-same, held-same, found-few}
 
 every-join {ℓ} : {A : Type ℓ} (p : A → Bool) (l m : List A) → every p l ≡ true → every p m ≡ true → every p (l ++ m) ≡ true

@@ -14,7 +14,9 @@ use Rattle.registers.proofs.Tests.{and-both}
 use Rattle.interpreter.specs.Header.{name}
 use Rattle.interpreter.specs.Rows.{Row, rows, hasForm, sameBool, fitsRow}
 use Rattle.interpreter.specs.NameParts.{keyOf}
-use Rattle.interpreter.specs.RowsParts.{rowCount, firstFit, rowOf, keyMatches, greedy, fitsKeys, rowOfKeys}
+use Rattle.interpreter.specs.DeedParts.{rowCount}
+use Rattle.interpreter.specs.TableParts.{firstFit}
+use Rattle.interpreter.specs.RowsParts.{rowOf, keyMatches, greedy, fitsKeys, rowOfKeys}
 use Rattle.interpreter.proofs.rows.Greedy.{clear, rows-clear, greedy-spells}
 use Rattle.interpreter.proofs.rows.Rows.{few, rows-few}
 use Rattle.interpreter.proofs.table.Lengths.{rows-many}

@@ -15,7 +15,9 @@ use Rattle.registers.specs.Words.{Node, must}
 use Rattle.registers.specs.Settings.{table}
 use Rattle.registers.proofs.Tests.{and-assoc}
 use Rattle.interpreter.specs.Rows.{Row, plain, rows, settingRows, otherRows, hasForm, sameBool}
-use Rattle.interpreter.specs.RowsParts.{nodeCount, rowCount, nodeList, nodeAt, nodeByte, formByte, rowRow, rowTableOf, rowTable, greedy, fitsKeys, nodeOf, wordIn, rowCell, formBit, formed}
+use Rattle.interpreter.specs.DeedParts.{rowCount}
+use Rattle.interpreter.specs.TableParts.{nodeCount, nodeList, nodeAt, nodeByte, formByte, rowRow, rowTableOf, rowTable}
+use Rattle.interpreter.specs.RowsParts.{greedy, fitsKeys, nodeOf, wordIn, rowCell, formBit, formed}
 use Rattle.interpreter.specs.WordsParts.{placeIn}
 use Rattle.interpreter.specs.declared.deed.Role.the-variants.{Setting as setting}
 use Rattle.interpreter.proofs.Lists.{every-at, map-at, getD-map, cell-at}

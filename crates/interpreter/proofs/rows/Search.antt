@@ -11,7 +11,9 @@ use Rattle.registers.specs.Text.{if_then_else_}
 use Rattle.registers.specs.Words.{Node}
 use Rattle.registers.proofs.Tests.{and-fails}
 use Rattle.interpreter.specs.Rows.{rows}
-use Rattle.interpreter.specs.RowsParts.{rowCount, firstFit, greedy, fitsKeys, rowOfKeys, markOf, startOf, nodeOf, rowCell, formBit, formed, Walked}
+use Rattle.interpreter.specs.DeedParts.{rowCount}
+use Rattle.interpreter.specs.TableParts.{firstFit, markOf, startOf}
+use Rattle.interpreter.specs.RowsParts.{greedy, fitsKeys, rowOfKeys, nodeOf, rowCell, formBit, formed, Walked}
 use Rattle.interpreter.specs.declared.rows.Walk.{Walk}
 use Rattle.interpreter.specs.declared.rows.Walk.the-variants.{To, Missed}
 use Rattle.interpreter.proofs.rows.Start.{same-row, start-most}

@@ -18,7 +18,9 @@ use Rattle.registers.specs.Settings.{table}
 use Rattle.registers.proofs.Tests.{and-both}
 use Rattle.interpreter.specs.Rows.{Row, rows, settingRows, otherRows, hasForm, sameBool}
 use Rattle.interpreter.specs.NameParts.{codeOf, withCode, keyFrom, keyOf}
-use Rattle.interpreter.specs.RowsParts.{rowCount, firstFit, keyMatches, greedy, fitsKeys, rowOfKeys, withLetter, markFrom, markOf, canMark, startOf, Marked}
+use Rattle.interpreter.specs.DeedParts.{rowCount}
+use Rattle.interpreter.specs.TableParts.{firstFit, withLetter, markFrom, markOf, canMark, startOf}
+use Rattle.interpreter.specs.RowsParts.{keyMatches, greedy, fitsKeys, rowOfKeys, Marked}
 use Rattle.interpreter.proofs.rows.Greedy.{wordOf}
 use Rattle.interpreter.proofs.table.Lengths.{rows-many}
 

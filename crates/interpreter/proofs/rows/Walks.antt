@@ -10,7 +10,8 @@ use lib.ListN.{length, getD, drop, drop-of-length-le}
 use lib.Seq.{drop-cons}
 use Rattle.registers.specs.Text.{if_then_else_}
 use Rattle.registers.specs.Words.{Node, must, may}
-use Rattle.interpreter.specs.RowsParts.{nodeAt, keyMatches, greedy, wordIn, nodeOf, leftOut, Walked}
+use Rattle.interpreter.specs.TableParts.{nodeAt}
+use Rattle.interpreter.specs.RowsParts.{keyMatches, greedy, wordIn, nodeOf, leftOut, Walked}
 use Rattle.interpreter.specs.declared.rows.Walk.the-variants.{To, Missed}
 
 module _ (node : ℕ) (keys : List ℕ) (at : ℕ) where

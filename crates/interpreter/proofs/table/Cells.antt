@@ -10,7 +10,9 @@ use Rattle.registers.specs.Text.{Text, if_then_else_}
 use Rattle.registers.specs.Words.{shortForm, longForm}
 use Rattle.interpreter.specs.NameParts.{codeOf, keyOf}
 use Rattle.interpreter.specs.WordsParts.{wordBytes, wordCount, wordTable, wordCell}
-use Rattle.interpreter.specs.RowsParts.{keyBytes, firstKey, firstCode, firstStart, rowCount, nodeCount, nodeList, nodeAt, rowTable, eight, keyRow, keyTableOf, keyTable, listFrom, codeTable, startOf, startTable, searchTable, commandTable, rowCell, quadAt, keyCell}
+use Rattle.interpreter.specs.DeedParts.{rowCount}
+use Rattle.interpreter.specs.TableParts.{keyBytes, firstKey, firstCode, firstStart, nodeCount, nodeList, nodeAt, rowTable, eight, keyRow, keyTableOf, keyTable, listFrom, codeTable, startOf, startTable, searchTable, commandTable}
+use Rattle.interpreter.specs.RowsParts.{rowCell, quadAt, keyCell}
 use Rattle.interpreter.proofs.Lists.{table-at}
 use Rattle.interpreter.proofs.table.Lengths.{words-long, rows-long, nodes-many, keys-wide, keys-long, lists, codes-long}
 

@@ -13,7 +13,8 @@ use Rattle.registers.specs.Words.{shortForm, longForm}
 use Rattle.registers.specs.Settings.{table}
 use Rattle.interpreter.specs.Rows.{Row, rows, settingRows, otherRows}
 use Rattle.interpreter.specs.NameParts.{codeOf}
-use Rattle.interpreter.specs.RowsParts.{tableBytes, rowBytes, keyBytes, rowCount, nodeCount, nodeList, rowRow, rowTableOf, rowTable, keyRow, keyTableOf, keyTable, listFrom, codeTable, startOf, startTable, searchTable, commandTable}
+use Rattle.interpreter.specs.DeedParts.{rowCount}
+use Rattle.interpreter.specs.TableParts.{tableBytes, rowBytes, keyBytes, nodeCount, nodeList, rowRow, rowTableOf, rowTable, keyRow, keyTableOf, keyTable, listFrom, codeTable, startOf, startTable, searchTable, commandTable}
 use Rattle.interpreter.specs.WordsParts.{wordBytes, wordCount, wordList, wordRow, wordTableOf, wordTable}
 use Rattle.interpreter.proofs.Lists.{table-length}
 

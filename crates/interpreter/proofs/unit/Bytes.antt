@@ -9,9 +9,7 @@ use lib.ListN.{length, getD, drop, drop-of-length-le}
 use lib.Seq.{drop-cons}
 use borrow.Author.Tests.{eqb-true, leb-true, leb-false, le-leb, lt-ltb, le-ltb}
 use Rattle.registers.specs.Text.{Text, white, printable, every}
-
-abbrev pub allowed : ℕ → Bool
-allowed b = white b || printable b
+use Rattle.interpreter.specs.Unit.{allowed}
 
 pub allowed-is : (b : ℕ) → allowed b ≡ (ltb b 127 && not (eqb b 10))
 unfolding white printable

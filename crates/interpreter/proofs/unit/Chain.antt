@@ -1,14 +1,14 @@
 -- The whole unit: where its header and its parameters stand, and its checks by what the header comes to. The code reads the header before
 -- it tests the bytes; that is the order of 01 all the same, since every byte of a header is allowed (unit/HeaderAllowed).
 use mathlib.Core.Path.{_≡_, refl, ap, sym, _∙_}
-use mathlib.Core.Bool.{Bool, true, false, not}
+use mathlib.Core.Bool.{Bool, true, false}
 use mathlib.Core.List.{List}
 use Prim.Native.Nat.{ℕ, _+_, _-_, _≤_, _<_}
 use native.Mathlib.Omega.{arith}
 use lib.Dec.{leb, ltb}
 use lib.ListN.{length, take, drop}
 use borrow.Author.Tests.{ltb-true}
-use Rattle.registers.specs.Text.{Text, if_then_else_, white, visible, every, empty, start, after}
+use Rattle.registers.specs.Text.{Text, if_then_else_, white, visible, every, start, after}
 use Rattle.registers.specs.Check.{Checked, refused, passed, check, _>>=_, _>>_}
 use Rattle.registers.specs.declared.settings.Settings.{Settings}
 use Rattle.registers.proofs.text.Laws.{end-drop, end-within}
@@ -16,9 +16,9 @@ use Rattle.interpreter.specs.Cuts.{trim}
 use Rattle.interpreter.specs.Header.{Header, header, isCommon, fullNames, pathAfter}
 use Rattle.interpreter.specs.HeaderParts.{Holds, FoundRow, LookedUp}
 use Rattle.interpreter.specs.Rows.{rows, findRow}
-use Rattle.interpreter.specs.RowsParts.{rowCount}
-use Rattle.interpreter.specs.Parameter.{parameters, least, greatest, deedOf}
-use Rattle.interpreter.specs.Unit.{Read, headerText, parameterText, readUnit}
+use Rattle.interpreter.specs.DeedParts.{rowCount}
+use Rattle.interpreter.specs.Parameter.{parameters, noneEmpty, least, greatest, deedOf}
+use Rattle.interpreter.specs.Unit.{allowed, Read, headerText, parameterText, readUnit}
 use Rattle.interpreter.specs.ParameterParts.{meantDeed}
 use Rattle.interpreter.specs.UnitParts.{roleFound, decided, decidedText, headerRefusal, UnitRead}
 use Rattle.interpreter.specs.declared.deed.Deed.{Deed}
@@ -31,7 +31,6 @@ use Rattle.interpreter.specs.declared.parameter.Decision.the-variants.{R
 use Rattle.interpreter.proofs.Lists.{rest-is}
 use Rattle.interpreter.proofs.header.Laws.{found-most}
 use Rattle.interpreter.proofs.Checks.{apart}
-use Rattle.interpreter.proofs.unit.Bytes.{allowed}
 use Rattle.interpreter.proofs.unit.HeaderAllowed.{allowed-behind}
 use Rattle.interpreter.proofs.unit.Found.{role-found}
 
@@ -80,7 +79,7 @@ joined {B = B} {C = C} (passed _) (passed a) y z k f = go (y a) (z a)
 
 module _ (s : Settings) (asked : Bool) (ps : List Text) where
   abbrev full : Checked (Unit {0})
-  full = check 102 (every (λ p. not (empty p)) ps)
+  full = check 102 (noneEmpty ps)
 
   abbrev few : Role → Checked (Unit {0})
   few r = check 108 (leb (length ps) (greatest r asked))

@@ -9,7 +9,8 @@ use Rattle.registers.specs.Text.{Text, if_then_else_}
 use Rattle.registers.specs.Check.{refused, passed}
 use Rattle.registers.specs.Settings.{count, table}
 use Rattle.interpreter.specs.Rows.{rows, settingRows, otherRows, findRow}
-use Rattle.interpreter.specs.RowsParts.{rowCount, roleAt, rowOf}
+use Rattle.interpreter.specs.DeedParts.{rowCount, roleAt}
+use Rattle.interpreter.specs.RowsParts.{rowOf}
 use Rattle.interpreter.specs.UnitParts.{roleFound}
 use Rattle.interpreter.specs.declared.deed.Role.{Role}
 use Rattle.interpreter.specs.declared.deed.Role.the-variants.{Setting, Register, Only}

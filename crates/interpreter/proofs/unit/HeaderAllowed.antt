@@ -11,10 +11,9 @@ use Rattle.registers.proofs.Tests.{and-both, and-true, and-assoc}
 use Rattle.interpreter.specs.Cuts.{front, trimEnd, trim}
 use Rattle.interpreter.specs.Header.{Header, header, asks}
 use Rattle.interpreter.specs.HeaderParts.{bodyOf}
-use Rattle.interpreter.specs.Unit.{headerText, parameterText}
+use Rattle.interpreter.specs.Unit.{allowed, headerText, parameterText}
 use Rattle.interpreter.proofs.Lists.{every-map}
 use Rattle.interpreter.proofs.header.Bytes.{solid, body-solid}
-use Rattle.interpreter.proofs.unit.Bytes.{allowed}
 
 -- ---- white space
 

@@ -11,7 +11,7 @@ use Rattle.registers.specs.Check.{Checked, refused, check, _>>=_, _>>_}
 use Rattle.registers.specs.declared.settings.Settings.{Settings}
 use Rattle.interpreter.specs.Parameter.{parameters, least, greatest, deedOf}
 use Rattle.interpreter.specs.ParameterParts.{CountedIn}
-use Rattle.interpreter.specs.RowsParts.{rowCount, roleAt}
+use Rattle.interpreter.specs.DeedParts.{rowCount, roleAt}
 use Rattle.interpreter.specs.UnitParts.{roleFound, decided}
 use Rattle.interpreter.specs.declared.deed.Deed.{Deed}
 use Rattle.interpreter.specs.declared.deed.Role.{Role}

@@ -16,7 +16,7 @@ use Rattle.registers.specs.Text.{if_then_else_, bytes, same}
 use Rattle.registers.specs.Words.{shortForm}
 use Rattle.registers.specs.Settings.{count, table, settingAt, kindOf, wordText}
 use Rattle.interpreter.specs.Parameter.{wordsOf, takesNumbers}
-use Rattle.interpreter.specs.WordsParts.{wordCount, wordList, wordAt, placeIn, firstWords, wordCounts, taken, withNumbers, TakenOf}
+use Rattle.interpreter.specs.WordsParts.{wordCount, wordList, wordAt, placeIn, firstWords, wordCounts, wordsIn, withNumbers, TakenOf}
 use Rattle.interpreter.specs.declared.words.Words.{Words}
 use Rattle.interpreter.proofs.Lists.{listed, agree}
 
@@ -29,7 +29,7 @@ pub taken-of : (i : ℕ) → i < count → TakenOf (wordsOf (kindOf i)) (takesNu
 unfolding listed firstWords wordCounts placeIn wordList settingAt table same bytes if_then_else_
 taken-of i h =
     record {
-      words = agree count (λ k. taken (at-row k)) (λ k. wordsOf (kindOf k)) refl i h;
+      words = agree count (λ k. wordsIn (at-row k)) (λ k. wordsOf (kindOf k)) refl i h;
       also = agree count (λ k. withNumbers (at-row k)) (λ k. takesNumbers (kindOf k)) refl i h;
       room = leb-true (getD firstWords i 0 + getD wordCounts i 0) wordCount
           (agree count (λ k. leb (getD firstWords k 0 + getD wordCounts k 0) wordCount) (λ _. true) refl i h);
@@ -42,7 +42,7 @@ unfolding shortForm bytes
 no-word = refl
 
 -- the words that a setting takes stand together in the table
-module _ (s : Words) (ws : List String) (is : taken s ≡ ws) where
+module _ (s : Words) (ws : List String) (is : wordsIn s ≡ ws) where
   -- whether a place has no word
   abbrev absent : ℤ → Bool
   absent z = ltZ z (pos 0) || leZ (pos (s .count)) z
@@ -54,7 +54,7 @@ module _ (s : Words) (ws : List String) (is : taken s ≡ ws) where
   place-none (pos n) e =
       let h = leb-true (s .count) n (sym (absent-at n) ∙ e) in
       let l = length-take (s .count) (drop (s .first) wordList) in
-      let none = List·getD-eq-default (taken s) "" {n = n} (omega arith) in
+      let none = List·getD-eq-default (wordsIn s) "" {n = n} (omega arith) in
       rw (← is, none) no-word
   place-none (negsuc n) e = refl
 

@@ -8,7 +8,7 @@ use borrow.Author.Needs.{needs}
 use Rattle.registers.specs.Text.{if_then_else_}
 use Rattle.registers.specs.Settings.{count, table}
 use Rattle.interpreter.specs.Rows.{rows, settingRows, otherRows}
-use Rattle.interpreter.specs.RowsParts.{rowCount, roleAt}
+use Rattle.interpreter.specs.DeedParts.{rowCount, roleAt, commonRows}
 use Rattle.interpreter.proofs.deed.Laws.{role-setting, role-told}
 use Rattle.interpreter.proofs.deed.role_of.Statement.{statement}
 use Rattle.interpreter.proofs.deed.role_of.Tie as tie
@@ -32,7 +32,7 @@ returns-2 c =
     let s = c .before .before .before .before in
     let row = s .args .row in
     let after = c .before .before .before .if1 .left in
-    rw (c .of-set .ensures, c .before .set-at .ensures) (rw (le-leb 12 (row - count) (c .before .before .if2 .taken)) at (role-told (row - count) (placed row after (s .pre))) ∙ again row after)
+    rw (c .of-set .ensures, c .before .set-at .ensures) (rw (le-leb commonRows (row - count) (c .before .before .if2 .taken)) at (role-told (row - count) (placed row after (s .pre))) ∙ again row after)
 
 returns-14 : tie.Need-returns-14
 unfolding if_then_else_
@@ -42,7 +42,7 @@ returns-14 c =
     let place = row - count in
     let after = c .before .before .if1 .left in
     let n = c .match .rest in
-    rw (lt-leb 12 place (c .before .if2 .left), ne-eqb place 0 (n .0 .0 .0 .0 .0 .0 .0 .0 .0 .0 .1), ne-eqb place 1 (n .0 .0 .0 .0 .0 .0 .0 .0 .0 .1), ne-eqb place 2 (n .0 .0 .0 .0 .0 .0 .0 .0 .1), ne-eqb place 3 (n .0 .0 .0 .0 .0 .0 .0 .1), ne-eqb place 4 (n .0 .0 .0 .0 .0 .0 .1), ne-eqb place 5 (n .0 .0 .0 .0 .0 .1), ne-eqb place 6 (n .0 .0 .0 .0 .1), ne-eqb place 7 (n .0 .0 .0 .1), ne-eqb place 8 (n .0 .0 .1), ne-eqb place 9 (n .0 .1), ne-eqb place 10 (n .1))
+    rw (lt-leb commonRows place (c .before .if2 .left), ne-eqb place 0 (n .0 .0 .0 .0 .0 .0 .0 .0 .0 .0 .1), ne-eqb place 1 (n .0 .0 .0 .0 .0 .0 .0 .0 .0 .1), ne-eqb place 2 (n .0 .0 .0 .0 .0 .0 .0 .0 .1), ne-eqb place 3 (n .0 .0 .0 .0 .0 .0 .0 .1), ne-eqb place 4 (n .0 .0 .0 .0 .0 .0 .1), ne-eqb place 5 (n .0 .0 .0 .0 .0 .1), ne-eqb place 6 (n .0 .0 .0 .0 .1), ne-eqb place 7 (n .0 .0 .0 .1), ne-eqb place 8 (n .0 .0 .1), ne-eqb place 9 (n .0 .1), ne-eqb place 10 (n .1))
     at (role-told place (placed row after (s .pre)))
     ∙ again row after
 

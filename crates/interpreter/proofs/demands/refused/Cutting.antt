@@ -2,19 +2,19 @@
 -- leave the same core. The cut line's units are the obeyed ones, since none of them has a `;` and the first is not blank; and the refusal
 -- changes no core.
 use mathlib.Core.Path.{_≡_, refl, sym, _∙_, ap}
-use mathlib.Core.Bool.{Bool, true, false, not, _||_, false≢true}
+use mathlib.Core.Bool.{Bool, true, false, not, false≢true}
 use mathlib.Core.List.{List, [], _∷_, _++_}
 use Prim.Native.Nat.{ℕ}
 use Prim.Native.Char.{code}
 use lib.Dec.{eqb}
 use borrow.Author.Tests.{eqb-true}
-use Rattle.registers.specs.Text.{Text, if_then_else_, every, white, printable, empty, after}
+use Rattle.registers.specs.Text.{Text, if_then_else_, every, white, empty, after}
 use Rattle.registers.specs.Check.{Checked, refused, passed, _>>=_, _>>_, check}
 use Rattle.registers.specs.declared.settings.Settings.{Settings}
 use Rattle.registers.proofs.Tests.{and-both, and-true}
 use Rattle.interpreter.specs.Cuts.{cutAt}
 use Rattle.interpreter.specs.Box.{Box, box, withLine}
-use Rattle.interpreter.specs.Unit.{Read, readUnit}
+use Rattle.interpreter.specs.Unit.{allowed, Read, readUnit}
 use Rattle.interpreter.specs.Line.{Obeyed, attempt, refuse, next, runUnits, unitsOf, interrupted, finished, runLine, endLine, atNewline}
 use Rattle.interpreter.specs.Demand3.{obeyedNext, obeyed, refusalNext, refusal, joinUnits, cutLine, lineRefusal}
 use Rattle.interpreter.proofs.Choices.{if-elim}
@@ -67,7 +67,7 @@ after-all p (b ∷ bs) h = let q = and-both (p b) (every p bs) h in rw (q .0, af
 
 blank-refused : (s : Settings) (path : List Text) (u : Text) → every white u ≡ true → (n : ℕ) × (readUnit s path u ≡ refused n)
 unfolding readUnit check _>>=_ _>>_
-blank-refused s path u h = rw (after-all white u h, header-none) (go (every (λ b. white b || printable b) u))
+blank-refused s path u h = rw (after-all white u h, header-none) (go (every allowed u))
   where
     none : Checked Read
     none = refused 102

@@ -15,7 +15,7 @@ use Rattle.registers.proofs.Tests.{and-both, and-fails, every-append}
 use Rattle.interpreter.specs.Cuts.{trimEnd, trim}
 use Rattle.interpreter.specs.Header.{pathAfter}
 use Rattle.interpreter.specs.Parameter.{parameters, least, greatest, settingDeed, deedOf}
-use Rattle.interpreter.specs.Unit.{headerText, parameterText, readUnit}
+use Rattle.interpreter.specs.Unit.{allowed, headerText, parameterText, readUnit}
 use Rattle.interpreter.specs.Line.{unitsOf}
 use Rattle.interpreter.specs.Demand2.{Spelling}
 use Rattle.interpreter.specs.declared.deed.Deed.{Deed}
@@ -25,7 +25,6 @@ use Rattle.interpreter.proofs.demands.trip.ReadBack.{plainByte, plainTe
 use Rattle.interpreter.proofs.Checks.{apart}
 use Rattle.interpreter.proofs.Lists.{every-map}
 use Rattle.interpreter.proofs.header.Bytes.{solid, header-is-solid}
-use Rattle.interpreter.proofs.unit.Bytes.{allowed}
 use Rattle.interpreter.proofs.unit.HeaderAllowed.{white-allowed, solid-allowed}
 
 -- ---- white space and solid bytes

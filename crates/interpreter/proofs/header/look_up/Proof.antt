@@ -7,7 +7,8 @@ use Prim.Native.Nat.{ℕ, _≤_}
 use lib.Dec.{eqb}
 use lib.ListN.{length, take, drop}
 use borrow.Author.Tests.{not-true, not-false}
-use Rattle.interpreter.specs.HeaderParts.{mostNames, orZero, starred}
+use Rattle.interpreter.specs.TableParts.{orZero}
+use Rattle.interpreter.specs.HeaderParts.{mostNames, starred}
 use Rattle.interpreter.specs.RowsParts.{rowOfKeys}
 use Rattle.interpreter.proofs.Lists.{part-is}
 use Rattle.interpreter.proofs.header.Grammar.{led, look-bad, first-fits, look-found}

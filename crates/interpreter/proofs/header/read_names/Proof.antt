@@ -8,7 +8,8 @@ use lib.Dec.{eqb}
 use lib.ListN.{length, take}
 use mir.Val.{boolByte}
 use borrow.Author.Needs.{needs}
-use Rattle.interpreter.specs.HeaderParts.{orZero, NamesRead, HeaderRead}
+use Rattle.interpreter.specs.TableParts.{orZero}
+use Rattle.interpreter.specs.HeaderParts.{NamesRead, HeaderRead}
 use Rattle.interpreter.specs.declared.header.Names.{Names}
 use Rattle.interpreter.proofs.header.Path.{or-zero-small}
 use Rattle.interpreter.proofs.header.Tail.{is-last, is-joined, colon-within}

@@ -1,7 +1,7 @@
 use mathlib.Core.Path.{ap}
 use Prim.Native.Nat.{_+_}
 use lib.ListN.{length}
-use Rattle.interpreter.specs.RowsParts.{firstCode}
+use Rattle.interpreter.specs.TableParts.{firstCode}
 use Rattle.interpreter.proofs.table.Lengths.{commands-long}
 use Rattle.interpreter.proofs.table.Cells.{code-byte}
 use native.Mathlib.Omega.{arith}

@@ -7,7 +7,7 @@ use borrow.Author.Needs.{needs}
 use Rattle.registers.specs.Text.{letter, first}
 use Rattle.registers.specs.Check.{_>>=_}
 use Rattle.interpreter.specs.Parameter.{parameter}
-use Rattle.interpreter.specs.WordsParts.{taken}
+use Rattle.interpreter.specs.WordsParts.{wordsIn}
 use Rattle.interpreter.specs.ParameterParts.{aFigure}
 use Rattle.interpreter.proofs.parameter.Words.{starts-word, starts-figure, starts-neither}
 use Rattle.interpreter.proofs.parameter.read_parameter.Statement.{statement}
@@ -27,12 +27,12 @@ no-letter l = sym (rw (l .before .before .byte-at .ensures) at (l .before .is-le
 -- where it starts a number, which may be given
 figure-is : (f : tie.Else2)
     → let a = entry (f .before .before .before) .args in
-    aFigure (a .takes .quantity) (a .text .now) ≡ parameter (taken (a .takes .words)) (a .takes .numbers && not (a .asked)) (a .takes .quantity) (a .text .now)
+    aFigure (a .takes .quantity) (a .text .now) ≡ parameter (wordsIn (a .takes .words)) (a .takes .numbers && not (a .asked)) (a .takes .quantity) (a .text .now)
 figure-is f =
     let l = f .before .before .before in
     let a = entry l .args in
     let left = rw (f .before .before .is-digit .ensures, l .before .before .byte-at .ensures) at (f .if2 .left) in
-    starts-figure (taken (a .takes .words)) (a .takes .numbers && not (a .asked)) (a .takes .quantity) (a .text .now) (no-letter l) (not-false _ left)
+    starts-figure (wordsIn (a .takes .words)) (a .takes .numbers && not (a .asked)) (a .takes .quantity) (a .text .now) (no-letter l) (not-false _ left)
 
 byte-at-requires : tie.Need-byte-at-requires
 byte-at-requires c κs = tt
@@ -48,7 +48,7 @@ returns c =
     let b = c .before .before .before in
     let a = start-of b .args in
     let letter = sym (rw (b .byte-at .ensures) at (c .before .before .is-letter .ensures)) ∙ c .before .if1 .taken in
-    c .find-word .ensures ∙ starts-word (taken (a .takes .words)) (a .takes .numbers && not (a .asked)) (a .takes .quantity) (a .text .now) letter
+    c .find-word .ensures ∙ starts-word (wordsIn (a .takes .words)) (a .takes .numbers && not (a .asked)) (a .takes .quantity) (a .text .now) letter
 
 is-digit-requires : tie.Need-is-digit-requires
 is-digit-requires c κs = tt
@@ -58,7 +58,7 @@ returns-2 c =
     let l = c .before .before .before in
     let a = entry l .args in
     let no-figure = rw (c .before .before .is-digit .ensures, l .before .before .byte-at .ensures) at (c .if2 .taken) in
-    starts-neither (taken (a .takes .words)) (a .takes .numbers && not (a .asked)) (a .takes .quantity) (a .text .now) (no-letter l) (not-true _ no-figure)
+    starts-neither (wordsIn (a .takes .words)) (a .takes .numbers && not (a .asked)) (a .takes .quantity) (a .text .now) (no-letter l) (not-true _ no-figure)
 
 read-requires : tie.Need-read-requires
 read-requires c κs = tt

@@ -1,7 +1,7 @@
 -- The search over the rows and, in one, over its nodes. Outer invariant: rows/Search's `Seeking`, no row before this one fits; measure:
 -- the rows that are left. Inner invariant: `Trying`, the nodes before this one are taken or left out; measure: the nodes that are left.
 use Prim.Native.Nat.{_-_}
-use Rattle.interpreter.specs.RowsParts.{rowCount}
+use Rattle.interpreter.specs.DeedParts.{rowCount}
 use Rattle.interpreter.proofs.Lists.{fewer}
 use Rattle.interpreter.proofs.rows.Rows.{nodes-few, node-known, unformed, is-formed}
 use Rattle.interpreter.proofs.rows.Search.{Seeking, seek-start, seek-end, skip-form, Trying, try-start, try-on, try-missed, try-left, try-done}

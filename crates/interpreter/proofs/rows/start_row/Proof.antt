@@ -3,7 +3,7 @@ use mathlib.Core.Path.{_∙_, ap}
 use native.Mathlib.Omega.{arith}
 use Prim.Native.Nat.{_+_}
 use lib.ListN.{length}
-use Rattle.interpreter.specs.RowsParts.{firstStart, startOf}
+use Rattle.interpreter.specs.TableParts.{firstStart, startOf}
 use Rattle.interpreter.proofs.table.Lengths.{commands-long}
 use Rattle.interpreter.proofs.table.Cells.{start-byte}
 use borrow.Author.Needs.{needs}

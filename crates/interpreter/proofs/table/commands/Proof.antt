@@ -4,7 +4,7 @@ use Rattle.registers.specs.Text.{if_then_else_, bytes, same, letter, small, dig
 use Rattle.registers.specs.Words.{shortForm, longForm}
 use Rattle.interpreter.specs.Rows.{rows, settingRows, otherRows}
 use Rattle.interpreter.specs.NameParts.{codeOf, withCode, keyFrom, keyOf}
-use Rattle.interpreter.specs.RowsParts.{commandTable, searchTable, rowTable, rowTableOf, rowRow, formByte, nodeByte, nodeList, keyTable, keyTableOf, keyRow, codeTable, listFrom, startTable, startOf, firstFit, canMark}
+use Rattle.interpreter.specs.TableParts.{commandTable, searchTable, rowTable, rowTableOf, rowRow, formByte, nodeByte, nodeList, keyTable, keyTableOf, keyRow, codeTable, listFrom, startTable, startOf, firstFit, canMark}
 use Rattle.interpreter.specs.WordsParts.{placeIn}
 use Rattle.interpreter.specs.WordsParts.{wordTable, wordTableOf, wordRow, wordList}
 use Rattle.interpreter.proofs.table.commands.Statement.{statement}

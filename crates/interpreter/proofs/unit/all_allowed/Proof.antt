@@ -5,7 +5,8 @@ use native.Mathlib.Omega.{arith}
 use lib.ListN.{length, drop}
 use Rattle.registers.specs.Text.{every}
 use Rattle.interpreter.proofs.Lists.{fewer}
-use Rattle.interpreter.proofs.unit.Bytes.{allowed, all-allowed, more-allowed}
+use Rattle.interpreter.specs.Unit.{allowed}
+use Rattle.interpreter.proofs.unit.Bytes.{all-allowed, more-allowed}
 use Rattle.interpreter.proofs.unit.all_allowed.Statement.{statement}
 use Rattle.interpreter.proofs.unit.all_allowed.Tie as tie
 
