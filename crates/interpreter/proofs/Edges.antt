@@ -1,34 +1,19 @@
--- The longest line and the longest answer, and one byte more of each (02, #106). So many bytes are more than the check computes one at a
--- time: what is held of a line is by its law here.
+-- So many bytes are more than the check computes one at a time: what is held of a line is by its law here.
 use mathlib.Core.Path.{_≡_, refl}
-use mathlib.Core.Bool.{true, false}
-use mathlib.Core.List.{List, [], _∷_}
+use mathlib.Core.Bool.{true}
+use mathlib.Core.List.{[]}
 use Prim.Native.Nat.{ℕ, zero, suc, zero-le}
 use Prim.Native.Char.{code}
 use lib.Dec.{ltb}
-use lib.ListN.{replicate, length-replicate}
-use Rattle.registers.specs.Text.{Text, if_then_else_, every}
+use lib.ListN.{length-replicate}
+use Rattle.registers.specs.Text.{if_then_else_, every}
 use Rattle.interpreter.specs.Box.{powerUp, mostLine, mostAnswer}
 use Rattle.interpreter.specs.Reply.{joined, fitsAnswer}
 use Rattle.interpreter.specs.Line.{newlines}
-use Rattle.interpreter.specs.Events.{Event, received, happens, after}
+use Rattle.interpreter.specs.Events.{happens, after}
 use Rattle.interpreter.specs.Demand3.{inLine}
+use Rattle.interpreter.specs.Edges.{letters, lineOf, Edges}
 use Rattle.interpreter.proofs.flow.Laws.{piece-held}
-
--- so many times the letter X
-abbrev letters : ℕ → Text
-letters n = replicate n (code "X")
-
--- so many bytes of a line, before its newline
-abbrev pub lineOf : ℕ → List Event
-lineOf n = received (letters n) ∷ []
-
-pub record Edges : Type 0 where
-  pub longestLine : after powerUp (lineOf 4096) .core .overlong ≡ false
-  pub longerLine : after powerUp (lineOf 4097) .core .overlong ≡ true
-  -- without its newline, which has to fit too
-  pub longestAnswer : fitsAnswer [] (letters 4095) ≡ true
-  pub longerAnswer : fitsAnswer [] (letters 4096) ≡ false
 
 no-newline : (n : ℕ) → newlines (letters n) ≡ 0
 unfolding newlines if_then_else_

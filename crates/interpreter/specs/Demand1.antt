@@ -10,9 +10,9 @@ use Rattle.registers.specs.Text.{Text, if_then_else_, every, white, empty}
 use Rattle.registers.specs.Check.{refused}
 use Rattle.registers.specs.Group.{widestGroup}
 use Rattle.interpreter.specs.Cuts.{cutAt}
-use Rattle.interpreter.specs.Box.{Box, box, withLine, raise, answerIs}
+use Rattle.interpreter.specs.Box.{Box, box, raise, answerIs}
 use Rattle.interpreter.specs.Unit.{raisable}
-use Rattle.interpreter.specs.Line.{attempt, refuse, runUnits, finished}
+use Rattle.interpreter.specs.Line.{atNewline, attempt, refuse, runUnits, finished}
 use Rattle.interpreter.specs.Events.{Event, started, received, take, condition, look, Result, result, Happened, happened, happens, lent}
 use Rattle.interpreter.specs.Histories.{newline}
 use Rattle.interpreter.specs.State.{boxOf, admitted, Happens}
@@ -58,13 +58,7 @@ pub record UnitRefused (b after : Box) (n : ℕ) : Type 0 where
 abbrev pub UnitRefusals : Type 0
 UnitRefusals = (u : Text) (us path : List Text) (b : Box) (n : ℕ) → attempt path b u ≡ refused n → UnitRefused b (runUnits (u ∷ us) path b) n
 
--- ---- the newline's own refusals
-
--- "At any newline, also of a blank or overlong line, a waiting answer is first discarded with -410"; the line's bytes are gone
-abbrev pub discarded : Box → Box
-discarded b =
-    let c = box (withLine [] false (b .core)) (b .trouble) in
-    if empty (b .core .answer) then c else raise 410 (answerIs [] c)
+-- ---- the newline's own refusals, once "a waiting answer is first discarded with -410" and the line's bytes are gone (`atNewline`)
 
 -- what a line's units leave: those that are obeyed run, and the one after them, if there is one, raises its error
 abbrev pub unitsLeave : List Text → Box → Box
@@ -76,13 +70,13 @@ unitsLeave us b =
 -- a newline found the box b and left another
 pub record LineRefused (b after : Box) : Type 0 where
   -- "at the newline -363 is raised and no unit runs"
-  pub overlong : b .core .overlong ≡ true → after ≡ raise 363 (discarded b)
+  pub overlong : b .core .overlong ≡ true → after ≡ raise 363 (atNewline b)
   -- "A blank line that isn't overlong does nothing else"
-  pub blank : b .core .overlong ≡ false → every white (b .core .line) ≡ true → after ≡ discarded b
+  pub blank : b .core .overlong ≡ false → every white (b .core .line) ≡ true → after ≡ atNewline b
   -- "Otherwise the line is cut at every `;`"; a unit raises no -363 and no -410
   pub units : b .core .overlong ≡ false → every white (b .core .line) ≡ false
-      → after ≡ finished (unitsLeave (cutAt (code ";") (b .core .line)) (discarded b))
-  pub ofUnit : let n = refusal (cutAt (code ";") (b .core .line)) [] (discarded b) in (n ≡ 0 → ⊥) → raisable n ≡ true
+      → after ≡ finished (unitsLeave (cutAt (code ";") (b .core .line)) (atNewline b))
+  pub ofUnit : let n = refusal (cutAt (code ";") (b .core .line)) [] (atNewline b) in (n ≡ 0 → ⊥) → raisable n ≡ true
 
 abbrev pub LineRefusals : Type 0
 LineRefusals = (b : Box) → LineRefused b (happens b newline .box)

@@ -11,6 +11,7 @@ pub mod RowsParts
 pub mod HeaderParts
 pub mod Parameter
 pub mod ParameterParts
+pub mod Exam
 pub mod Unit
 pub mod UnitParts
 pub mod Box
@@ -26,6 +27,7 @@ pub mod FlowParts
 pub mod State
 pub mod StateParts
 pub mod Examples
+pub mod Edges
 pub mod Histories
 pub mod Demand1
 pub mod Demand2

@@ -27,16 +27,16 @@ leavesKey (condition Warning n) = true
 leavesKey look = true
 
 -- settings, and what they and the registers are later
-pub record Held (before later : Settings) (registers : Registers) : Type 0 where
-  -- "no line changes any setting but the output"
+pub record UnderLock (before later : Settings) (registers : Registers) : Type 0 where
+  -- no line changes any setting but the output
   pub others : (i : ℕ) → (i ≡ output → ⊥) → valueAt later i ≡ valueAt before i
-  -- "and that only to off"
+  -- and that only to off: "switching off is never blocked"
   pub onlyOff : (valueAt later output ≡ valueAt before output → ⊥) → valueAt later output ≡ pos 0
   -- and the lock still holds
   pub still : locked registers ≡ true
 
 abbrev pub HeldIn : Box → Box → Type 0
-HeldIn b c = Held (b .core .settings) (c .core .settings) (c .core .registers)
+HeldIn b c = UnderLock (b .core .settings) (c .core .settings) (c .core .registers)
 
 -- in any history of the definition
 abbrev pub InHistories : Type 0

@@ -36,6 +36,12 @@ parameters t = if empty t then [] else map trim (cutAt (code ",") t)
 abbrev pub noneEmpty : List Text → Bool
 noneEmpty ps = every (λ p. not (empty p)) ps
 
+-- "Number rows": those with a step
+abbrev pub isNumber : Kind → Bool
+isNumber bool = false
+isNumber (words ws) = false
+isNumber (number k low high) = true
+
 -- ---- check 4: "-108 too many parameters, -109 too few"; a number row's query has "one optional parameter"
 
 abbrev pub asksLimits : Kind → ℕ

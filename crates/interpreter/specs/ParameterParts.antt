@@ -11,7 +11,7 @@ use Rattle.registers.specs.Text.{Text, if_then_else_, wordByte, every, empty}
 use Rattle.registers.specs.Check.{Checked, refused, passed, _>>=_, _>>_, check}
 use Rattle.registers.specs.Error.{numberOf}
 use Rattle.registers.specs.Number.{number as readNumber}
-use Rattle.registers.specs.Settings.{Kind, bool, words, number, within, accepted}
+use Rattle.registers.specs.Settings.{words, within, accepted}
 use Rattle.registers.specs.Status.{widest}
 use Rattle.registers.specs.declared.rounding.Fit.{Fit}
 use Rattle.registers.specs.declared.rounding.Fit.the-variants.{Within, Outside}
@@ -59,12 +59,6 @@ aWord ws t = check 141 (every wordByte t) >> findWord 0 ws t
 
 unfoldable pub aFigure : Quantity → Text → Checked Given
 aFigure q t = readNumber q t >>= λ d. passed (Figure d)
-
--- a setting's values are numbers
-abbrev pub isNumber : Kind → Bool
-isNumber bool = false
-isNumber (words ws) = false
-isNumber (number k low high) = true
 
 -- a value, where it is within the limits, and what was rounded off
 unfoldable pub fitIn : Settings → ℕ → ℤ → Fit

@@ -28,8 +28,8 @@ abbrev pub service : Box → ℕ → Text → Text → Service
 service b n answers rest = record { box = b; read = n; answers = answers; rest = rest }
 
 -- what the take left stands after the answers before it
-abbrev pub tookBehind : ℕ → Text → Happened → Service
-tookBehind n answers h =
+abbrev pub tookAfter : ℕ → Text → Happened → Service
+tookAfter n answers h =
     service (h .box) n (answers ++ take (h .result .value) (h .result .buffer)) (drop (h .result .value) (h .result .buffer))
 
 -- "takes after each line, skips lines without answer without a take"
@@ -37,7 +37,7 @@ unfoldable pub servedLine : Service → Text → Service
 servedLine s line =
     let b = happens (s .box) (received line) .box in
     if empty (b .core .answer) then service b (s .read + length line) (s .answers) (s .rest)
-    else tookBehind (s .read + length line) (s .answers) (happens b (takes (s .rest)))
+    else tookAfter (s .read + length line) (s .answers) (happens b (takes (s .rest)))
 
 -- while there is room for one answer more
 unfoldable pub serves : Service → List Text → Service

@@ -27,9 +27,9 @@ ghost use lib.ListN.{length};
 ghost use Rattle.registers.specs.Rounding.{rounded, sideIn};
 ghost use Rattle.registers.specs.Settings.{count, kindOf, quantityOf};
 ghost use Rattle.interpreter.specs.TableParts.{commandTable};
-ghost use Rattle.interpreter.specs.Parameter.{Word, Figure, parameter, wordsOf, takesNumbers, least, greatest, valueGiven, sideGiven, deedOf};
+ghost use Rattle.interpreter.specs.Parameter.{Word, Figure, parameter, wordsOf, takesNumbers, least, greatest, valueGiven, sideGiven, deedOf, isNumber};
 ghost use Rattle.interpreter.specs.WordsParts.{wordCount, wordsIn};
-ghost use Rattle.interpreter.specs.ParameterParts.{meantGiven, meantDeed, CountedIn, TakesOf, aWord, isNumber, roundedTo, putFit, storeTo, registerTo, partsOf};
+ghost use Rattle.interpreter.specs.ParameterParts.{meantGiven, meantDeed, CountedIn, TakesOf, aWord, roundedTo, putFit, storeTo, registerTo, partsOf};
 
 // Checks 5 and 6 on a parameter: a word of the row by its place in the row's list, or a number.
 pub(crate) enum Parameter {

@@ -32,7 +32,7 @@ use Rattle.interpreter.specs.Line.{Obeyed, attempt, refuse, next, runUni
 use Rattle.interpreter.specs.Events.{Event, started, received, take, condition, look, Happened, Result, taken, reported, happens, after}
 use Rattle.interpreter.specs.State.{boxOf, possibleState, admitted, Happens}
 use Rattle.interpreter.specs.Calls.{Call, event, chunk, Calls, done, call}
-use Rattle.interpreter.specs.Lock.{leavesKey, Held, LockHolds}
+use Rattle.interpreter.specs.Lock.{leavesKey, UnderLock, LockHolds}
 use Rattle.interpreter.specs.declared.deed.Deed.{Deed}
 use Rattle.interpreter.specs.declared.deed.Deed.the-variants.{Change, Complete, Clear, Query, Inquire}
 use Rattle.interpreter.specs.declared.deed.Change as changes
@@ -66,7 +66,7 @@ let-pass d c l h = sym (and-true (blocked d)) ∙ (rw h at (l .free))
 
 module _ (s : Settings) where
   abbrev HeldCore : Core → Type 0
-  HeldCore c = Held s (c .settings) (c .registers)
+  HeldCore c = UnderLock s (c .settings) (c .registers)
 
   abbrev HeldBox : Box → Type 0
   HeldBox b = HeldCore (b .core)
@@ -221,7 +221,7 @@ module _ (s : Settings) where
 
 -- ---- the law
 
-start : (s : Settings) (r : Registers) → locked r ≡ true → Held s s r
+start : (s : Settings) (r : Registers) → locked r ≡ true → UnderLock s s r
 start s r l = record { others = λ i apart. refl; onlyOff = λ changes. absurd (changes refl); still = l }
 
 pub lock-holds : LockHolds

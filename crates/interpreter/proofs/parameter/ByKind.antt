@@ -24,8 +24,7 @@ use Rattle.registers.proofs.Tests.{below-at}
 use Rattle.registers.proofs.settings.Laws.{behind-is, values-is}
 use Rattle.registers.proofs.settings.Values as values
 use Rattle.interpreter.specs.WordsParts.{wordCount}
-use Rattle.interpreter.specs.Parameter.{Word, Figure, least, greatest, asksLimits, wordsOf, limitAt, valueGiven, sideGiven}
-use Rattle.interpreter.specs.ParameterParts.{isNumber}
+use Rattle.interpreter.specs.Parameter.{Word, Figure, least, greatest, asksLimits, wordsOf, limitAt, valueGiven, sideGiven, isNumber}
 use Rattle.interpreter.specs.declared.deed.Role.{Role}
 use Rattle.interpreter.specs.declared.deed.Role.the-variants.{Setting, Register, Only}
 use Rattle.interpreter.proofs.Lists.{listed, agree}

@@ -9,33 +9,15 @@ use Rattle.registers.specs.Settings.{Kind, bool, words, number, kindOf, quantit
 use Rattle.registers.specs.declared.rounding.Side.{Side}
 use Rattle.registers.specs.declared.rounding.Side.the-variants.{On, Below, Above}
 use Rattle.registers.specs.declared.settings.Settings.{Settings}
-use Rattle.interpreter.specs.Parameter.{Given, parameter, wordsOf, takesNumbers, valueGiven, sideGiven, settingDeed}
-use Rattle.interpreter.specs.ParameterParts.{isNumber}
+use Rattle.interpreter.specs.Parameter.{Given, parameter, wordsOf, takesNumbers, valueGiven, sideGiven, putGiven, settingDeed, isNumber}
+use Rattle.interpreter.specs.Exam.{roundedDeed, ExamMode}
 use Rattle.interpreter.specs.declared.deed.Deed.{Deed}
 use Rattle.interpreter.specs.declared.deed.Deed.the-variants.{Change}
 use Rattle.interpreter.specs.declared.deed.Change.the-variants.{Put}
 
--- checks 5 to 7 on a setting as they were before
-unfoldable pub roundedDeed : Settings → ℕ → Text → Checked Deed
-roundedDeed s i t =
-    parameter (wordsOf (kindOf i)) (takesNumbers (kindOf i)) (quantityOf i) t >>= λ g.
-    let v = valueGiven s i (kindOf i) g in
-    check 222 (within s i v) >> passed (Change (Put i v (sideGiven (kindOf i) g)))
-
-pub record ExamMode (s : Settings) (i : ℕ) (t : Text) : Type 0 where
-  -- while it is on, only what is on the step is set
-  pub strict : examined s ≡ true → (v : ℤ) (x : Side) → settingDeed s i t ≡ passed (Change (Put i v x)) → x ≡ On
-  -- while it is off, every number is rounded
-  pub lenient : examined s ≡ false → settingDeed s i t ≡ roundedDeed s i t
-  -- and so it always is for a row without a step, SYSTem:EXAM itself among them
-  pub stepless : isNumber (kindOf i) ≡ false → settingDeed s i t ≡ roundedDeed s i t
-
 module _ (s : Settings) (i : ℕ) where
   abbrev next : Given → Checked Deed
-  next g =
-      let v = valueGiven s i (kindOf i) g in
-      let x = sideGiven (kindOf i) g in
-      check 222 (within s i v) >> check 222 (accepted s x) >> passed (Change (Put i v x))
+  next g = putGiven s i (valueGiven s i (kindOf i) g) (sideGiven (kindOf i) g)
 
   abbrev before : Given → Checked Deed
   before g =

@@ -14,8 +14,7 @@ use Rattle.registers.specs.Settings.{count, Kind, bool, words, number, table, s
 use Rattle.registers.specs.declared.number.Decimal.{Decimal}
 use Rattle.registers.specs.declared.settings.Settings.{Settings}
 use Rattle.registers.proofs.Tests.{below-at, and-true}
-use Rattle.interpreter.specs.Parameter.{Word, Figure, wordsOf, limitAt, valueGiven}
-use Rattle.interpreter.specs.ParameterParts.{isNumber}
+use Rattle.interpreter.specs.Parameter.{Word, Figure, wordsOf, limitAt, valueGiven, isNumber}
 
 same-le : (z : ℤ) → leZ z z ≡ true
 same-le (pos n) = le-leb n n (omega arith)

@@ -19,7 +19,7 @@ use Rattle.interpreter.specs.Line.{held, byte, piece}
 use Rattle.interpreter.specs.Events.{Event, received, take as takes, result, Happened, happened, happens, taken, after, results}
 use Rattle.interpreter.specs.State.{boxOf, possibleState}
 use Rattle.interpreter.specs.Histories.{resultsOf, answers, sent, copied}
-use Rattle.interpreter.specs.Server.{linesOf, Service, service, tookBehind, servedLine, serves, heardLine, heard, WholeLines, takingFirst, eventsOf, hearing, begun, Serves}
+use Rattle.interpreter.specs.Server.{linesOf, Service, service, tookAfter, servedLine, serves, heardLine, heard, WholeLines, takingFirst, eventsOf, hearing, begun, Serves}
 use Rattle.interpreter.specs.Calls.{Brings, ChunkHistory}
 use Rattle.interpreter.specs.declared.state.State.{State}
 use Rattle.interpreter.proofs.Choices.{if-elim}
@@ -93,7 +93,7 @@ module _ (v : Service) (l : Text) (f : Fit mostAnswer (v .box)) (room : mostAnsw
       h = happens now (takes (v .rest))
 
       go : (t : Bool) → empty (now .core .answer) ≡ t
-          → Follows (if t then service now (v .read + length l) (v .answers) (v .rest) else tookBehind (v .read + length l) (v .answers) h) es said
+          → Follows (if t then service now (v .read + length l) (v .answers) (v .rest) else tookAfter (v .read + length l) (v .answers) h) es said
           → Follows v (received l ∷ (if t then es else takes (v .rest) ∷ es)) said
       go true e m = m
       go false e m =

@@ -10,7 +10,7 @@ use Rattle.registers.specs.Text.{Text, if_then_else_, empty}
 use Rattle.interpreter.specs.Box.{Box, mostAnswer}
 use Rattle.interpreter.specs.Events.{Event, started, received, take as takes, condition, look, Result, result, Happened, happens, after, results}
 use Rattle.interpreter.specs.State.{boxOf, possibleState, admitted, Happens, Started}
-use Rattle.interpreter.specs.Server.{linesOf, Service, service, tookBehind, servedLine, serves, takingFirst, eventsOf, begun, Serves}
+use Rattle.interpreter.specs.Server.{linesOf, Service, service, tookAfter, servedLine, serves, takingFirst, eventsOf, begun, Serves}
 use Rattle.interpreter.specs.Calls.{Call, event, chunk, Calls, done, call, History}
 use Rattle.interpreter.specs.declared.state.State.{State}
 use Rattle.interpreter.proofs.demands.histories.Pieces.{after-append}
@@ -40,7 +40,7 @@ line-after v l es = go (empty (happens (v .box) (received l) .box .core .answer)
     now = happens (v .box) (received l) .box
 
     go : (t : Bool) → after now (if t then es else takes (v .rest) ∷ es)
-        ≡ after ((if t then service now (v .read + length l) (v .answers) (v .rest) else tookBehind (v .read + length l) (v .answers) (happens now (takes (v .rest)))) .box) es
+        ≡ after ((if t then service now (v .read + length l) (v .answers) (v .rest) else tookAfter (v .read + length l) (v .answers) (happens now (takes (v .rest)))) .box) es
     go true = refl
     go false = refl
 

@@ -13,10 +13,10 @@ use Rattle.registers.specs.Queue.{mayBeQueued, queueable}
 use Rattle.interpreter.specs.Cuts.{cutAt}
 use Rattle.interpreter.specs.Box.{Box}
 use Rattle.interpreter.specs.Unit.{raisable}
-use Rattle.interpreter.specs.Line.{Obeyed, refuse, attempt, next, runUnits, interrupted, finished, unitsOf, runLine, endLine, byte, piece}
+use Rattle.interpreter.specs.Line.{atNewline, Obeyed, refuse, attempt, next, runUnits, interrupted, finished, unitsOf, runLine, endLine, byte, piece}
 use Rattle.interpreter.specs.Events.{happens}
 use Rattle.interpreter.specs.Demand3.{obeyedNext, obeyed, refusalNext, refusal}
-use Rattle.interpreter.specs.Demand1.{discarded, LineRefusals}
+use Rattle.interpreter.specs.Demand1.{LineRefusals}
 use Rattle.interpreter.proofs.Checks.{at-refused}
 use Rattle.interpreter.proofs.Choices.{if-elim}
 use Rattle.interpreter.proofs.demands.harm.UnitRefusals.{attempt-known}
@@ -55,16 +55,17 @@ refusal-raisable [] path b h = absurd (h refl)
 refusal-raisable (u ∷ us) path b h = next-raisable u us path b (λ p c k. refusal-raisable us p c k) (attempt path b u) refl h
 
 -- the answer that waited is gone
-discarded-none : (b : Box) → empty (discarded b .core .answer) ≡ true
-discarded-none b = if-elim (λ (c : Box). empty (c .core .answer) ≡ true) (empty (b .core .answer)) (λ e. e) (λ _. refl)
+answer-gone : (b : Box) → empty (atNewline b .core .answer) ≡ true
+unfolding interrupted
+answer-gone b = if-elim (λ (c : Box). empty (c .core .answer) ≡ true) (empty (b .core .answer)) (λ e. e) (λ _. refl)
 
 pub line-refusals : LineRefusals
 unfolding happens piece byte endLine runLine interrupted unitsOf finished runUnits if_then_else_
 line-refusals b =
-    let c = discarded b in
+    let c = atNewline b in
     record {
       overlong = λ o. rw o;
-      blank = λ o w. rw (o, w, discarded-none b);
+      blank = λ o w. rw (o, w, answer-gone b);
       units = λ o w. rw (o, w) (ap finished (units-leave (cutAt (code ";") (b .core .line)) [] c));
       ofUnit = refusal-raisable (cutAt (code ";") (b .core .line)) [] c;
     }

@@ -29,7 +29,8 @@ use Rattle.interpreter.specs.Line.{attempt, refuse, runUnits, interrupte
 use Rattle.interpreter.specs.Events.{Event, received, take, taken, reported, happens, after}
 use Rattle.interpreter.specs.Histories.{moments, Recut, resultsOf}
 use Rattle.interpreter.specs.Demand3.{obeyed, refusal, joinUnits, cutLine, lineRefusal, keep, inLine, atEnd, asSent, asCut, ALine, Watch, neither, asked, cleared, watchUnits, watchLine, watchByte, watchPiece, watchEvent, watch}
-use Rattle.interpreter.proofs.Edges.{lineOf, under-way, overlong-is}
+use Rattle.interpreter.specs.Edges.{lineOf}
+use Rattle.interpreter.proofs.Edges.{under-way, overlong-is}
 
 abbrev pub text : String → Event
 text s = received (bytes s)

@@ -1,0 +1,30 @@
+-- Exam mode (02, #107): "an off-step number on a settings row of step 0.1 or 1 is -222, where it was rounded before".
+use mathlib.Core.Path.{_≡_}
+use mathlib.Core.Bool.{true, false}
+use Prim.Native.Nat.{ℕ}
+use lib.IntN.{ℤ}
+use Rattle.registers.specs.Text.{Text}
+use Rattle.registers.specs.Check.{Checked, passed, _>>=_, _>>_, check}
+use Rattle.registers.specs.Settings.{kindOf, quantityOf, within, examined}
+use Rattle.registers.specs.declared.rounding.Side.{Side}
+use Rattle.registers.specs.declared.rounding.Side.the-variants.{On}
+use Rattle.registers.specs.declared.settings.Settings.{Settings}
+use Rattle.interpreter.specs.Parameter.{parameter, wordsOf, takesNumbers, isNumber, valueGiven, sideGiven, settingDeed}
+use Rattle.interpreter.specs.declared.deed.Deed.{Deed}
+use Rattle.interpreter.specs.declared.deed.Deed.the-variants.{Change}
+use Rattle.interpreter.specs.declared.deed.Change.the-variants.{Put}
+
+-- 01's checks 5 to 7 on a setting: every number is rounded
+unfoldable pub roundedDeed : Settings → ℕ → Text → Checked Deed
+roundedDeed s i t =
+    parameter (wordsOf (kindOf i)) (takesNumbers (kindOf i)) (quantityOf i) t >>= λ g.
+    let v = valueGiven s i (kindOf i) g in
+    check 222 (within s i v) >> passed (Change (Put i v (sideGiven (kindOf i) g)))
+
+pub record ExamMode (s : Settings) (i : ℕ) (t : Text) : Type 0 where
+  -- while it is on, only what is on the step is set
+  pub strict : examined s ≡ true → (v : ℤ) (x : Side) → settingDeed s i t ≡ passed (Change (Put i v x)) → x ≡ On
+  -- while it is off, every number is rounded
+  pub lenient : examined s ≡ false → settingDeed s i t ≡ roundedDeed s i t
+  -- and so it always is for a row without a step: "SYSTem:EXAM itself still rounds"
+  pub stepless : isNumber (kindOf i) ≡ false → settingDeed s i t ≡ roundedDeed s i t
