@@ -1,29 +1,26 @@
--- The bounds of a state as facts (`Fit`), and what keeps them: a changed part of the core, a deed, a unit, a refusal.
+-- The bounds of a state as facts (`Fit`), and what keeps them: a changed part of the core, a deed, an error, and so a line's units
+-- (proofs/Kept).
 use mathlib.Core.Path.{_≡_, refl, _∙_}
 use mathlib.Core.Bool.{Bool, true, false}
-use mathlib.Core.List.{List, [], _∷_}
+use mathlib.Core.List.{List, []}
 use Prim.Native.Nat.{ℕ, _-_, _≤_, zero-le}
 use native.Mathlib.Omega.{arith}
-use lib.Dec.{eqb}
 use lib.ListN.{length, length-set}
 use borrow.Author.Tests.{ltb-true}
 use Rattle.registers.specs.Text.{Text}
-use Rattle.registers.specs.Check.{Checked, refused, passed}
 use Rattle.registers.specs.Queue.{mayBeQueued, queueable}
 use Rattle.registers.specs.Settings.{count, table, atReset}
 use Rattle.registers.specs.Status.{Trouble, Registers}
 use Rattle.registers.specs.declared.settings.Settings.{Settings}
-use Rattle.registers.proofs.Tests.{and-both}
 use Rattle.registers.proofs.settings.Possible as limits
 use Rattle.registers.proofs.settings.Possible.{value-good, reset-possible}
 use Rattle.registers.proofs.status.Possible as status
 use Rattle.registers.proofs.status.Possible.{raised-good, completed-good, events-good, oldest-good, none-good, stored-fit, read-fit}
 use Rattle.interpreter.specs.Box.{Core, Box, box, withSettings, withRegisters, withLine, withAnswer, answerIs, raise, mostLine, mostAnswer}
-use Rattle.interpreter.specs.Unit.{raisable, Read, readUnit}
 use Rattle.interpreter.specs.UnitParts.{Allowed, AllowedChange}
 use Rattle.interpreter.specs.Perform.{conflictingChange, conflicting, changed, allCleared, afterQuery, afterInquiry, perform}
 use Rattle.interpreter.specs.Reply.{joined, fitsAnswer, reply}
-use Rattle.interpreter.specs.Line.{Obeyed, attempt, refuse, next, runUnits}
+use Rattle.interpreter.specs.Line.{runUnits}
 use Rattle.interpreter.specs.declared.deed.Deed.{Deed}
 use Rattle.interpreter.specs.declared.deed.Deed.the-variants.{Change, Complete, Clear, Query, Inquire}
 use Rattle.interpreter.specs.declared.deed.Change as changes
@@ -32,10 +29,8 @@ use Rattle.interpreter.specs.declared.deed.Query as queries
 use Rattle.interpreter.specs.declared.deed.Query.the-variants.{Identity, SelfTest, Completed, Limit, Value, Stored, Condition, SetEvents}
 use Rattle.interpreter.specs.declared.deed.Inquiry as inquiries
 use Rattle.interpreter.specs.declared.deed.Inquiry.the-variants.{StandardEvents, StatusByte, NextError}
-use Rattle.interpreter.proofs.Choices.{if-elim}
-use Rattle.interpreter.proofs.Checks.{Holds, passes, hold-bind, hold-check, holds-from}
-use Rattle.interpreter.proofs.unit.Allowed.{read-allowed, read-known}
-use Rattle.interpreter.proofs.perform.Permitted.{hold-permitted}
+use Rattle.interpreter.proofs.Checks.{Holds, passes, hold-bind, hold-check}
+use Rattle.interpreter.proofs.Kept.{units-keep}
 
 -- ---- the bounds of a state as facts; its answer has at most k bytes, and there are seventeen settings
 
@@ -130,22 +125,6 @@ perform-fit (Inquire q) b a n f =
 
 -- ---- units
 
-abbrev pub FitObeyed : Obeyed → Type 0
-FitObeyed o = Fit running (o .box)
-
-pub attempt-fit : (path : List Text) (b : Box) (u : Text) → Fit running b → Holds FitObeyed (attempt path b u)
-unfolding attempt
-attempt-fit path b u f =
-    let s = b .core .settings in
-    hold-bind (λ (r : Read). Allowed s (r .deed)) FitObeyed _ _
-    (holds-from (readUnit s path u) (λ r e. read-allowed s path u e) (λ n e. read-known s path u e)) (λ r a.
-    hold-permitted (r .deed) (b .core) FitObeyed _ (λ l.
-    hold-bind (Fit running) FitObeyed _ _ (perform-fit (r .deed) b a (l .clear) f) (λ c g. passes g)))
-
--- what a unit raises may stand in the queue
-pub raisable-queueable : (n : ℕ) → raisable n ≡ true → mayBeQueued n ≡ true
-raisable-queueable n e = and-both (mayBeQueued n) _ e .0
-
 pub raise-fit : (n k : ℕ) (b : Box) → mayBeQueued n ≡ true → Fit k b → Fit k (raise n b)
 raise-fit n k b e f = fit k _ _ (f .core) (raised-good (b .trouble) (f .trouble) n e)
 
@@ -156,17 +135,6 @@ answered-fit k m b f {a} l = fit m _ _ (fit-answer k (b .core) (f .core) m a l) 
 pub dropped-fit : (k m : ℕ) (b : Box) → Fit k b → Fit m (answerIs [] b)
 dropped-fit k m b f = answered-fit k m b f zero-le
 
-pub refuse-fit : (n : ℕ) (b : Box) → mayBeQueued n ≡ true → Fit running b → Fit running (refuse n b)
-unfolding refuse
-refuse-fit n b e f = raise-fit n running _ e (if-elim (Fit running) (eqb n 430) (λ _. dropped-fit running running b f) (λ _. f))
-
-next-fit : (go : List Text → Box → Box) → ((p : List Text) (c : Box) → Fit running c → Fit running (go p c))
-    → (b : Box) → Fit running b → (r : Checked Obeyed) → Holds FitObeyed r → Fit running (next go b r)
-next-fit go ih b f (refused n) h = refuse-fit n b (raisable-queueable n (h .of)) f
-next-fit go ih b f (passed o) h = ih (o .path) (o .box) (h .of)
-
 pub units-fit : (us path : List Text) (b : Box) → Fit running b → Fit running (runUnits us path b)
-unfolding runUnits
-units-fit [] path b f = f
-units-fit (u ∷ us) path b f =
-    next-fit (λ p c. runUnits us p c) (λ p c g. units-fit us p c g) b f (attempt path b u) (attempt-fit path b u f)
+units-fit =
+    units-keep (Fit running) (λ d b a l f. perform-fit d b a (l .clear) f) (λ n b e f. raise-fit n running b e f) (λ b f. dropped-fit running running b f)

@@ -1,6 +1,7 @@
 pub mod Choices
 pub mod Lists
 pub mod Checks
+pub mod Kept
 pub mod Bounds
 pub mod Possible
 pub mod Edges

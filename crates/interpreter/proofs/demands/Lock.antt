@@ -13,7 +13,6 @@ use lib.IntN.{ℤ, pos, negsuc}
 use lib.Signed.{leZ}
 use borrow.Author.Tests.{eqb-true, leb-true, not-false}
 use Rattle.registers.specs.Text.{Text, every, empty}
-use Rattle.registers.specs.Check.{Checked, refused, passed}
 use Rattle.registers.specs.Queue.{mayBeQueued, queueable}
 use Rattle.registers.specs.Group.{widestGroup}
 use Rattle.registers.specs.Settings.{table, settingAt, output, lowest, within}
@@ -24,11 +23,10 @@ use Rattle.registers.specs.declared.status.RegisterSet.the-variants.{Operation,
 use Rattle.registers.proofs.Tests.{and-both, and-true as both-true}
 use Rattle.registers.proofs.status.Conditions.{conditionIn, stored-kept, event-kept, clear-kept, report-kept}
 use Rattle.interpreter.specs.Box.{Core, Box, withRegisters, mostLine}
-use Rattle.interpreter.specs.Unit.{Read, readUnit}
 use Rattle.interpreter.specs.UnitParts.{Allowed, AllowedChange}
 use Rattle.interpreter.specs.Perform.{blockedChange, blocked, changed, afterQuery, perform}
 use Rattle.interpreter.specs.Reply.{reply}
-use Rattle.interpreter.specs.Line.{Obeyed, attempt, refuse, next, runUnits, unitsOf, interrupted, finished, runLine, endLine, atNewline, held, byte, piece}
+use Rattle.interpreter.specs.Line.{interrupted, endLine, held, byte, piece}
 use Rattle.interpreter.specs.Events.{Event, started, received, take, condition, look, Happened, Result, taken, reported, happens, after}
 use Rattle.interpreter.specs.State.{boxOf, possibleState, admitted, Happens}
 use Rattle.interpreter.specs.Calls.{Call, event, chunk, Calls, done, call}
@@ -42,9 +40,9 @@ use Rattle.interpreter.specs.declared.deed.Query.the-variants.{Identity,
 use Rattle.interpreter.specs.declared.state.State.{State}
 use Rattle.interpreter.proofs.demands.calls.AsHistory.{chunk-after}
 use Rattle.interpreter.proofs.Choices.{if-elim}
-use Rattle.interpreter.proofs.Checks.{Holds, passes, hold-bind, hold-check, holds-from}
-use Rattle.interpreter.proofs.unit.Allowed.{read-allowed, read-known}
-use Rattle.interpreter.proofs.perform.Permitted.{Lets, hold-permitted}
+use Rattle.interpreter.proofs.Kept.{line-keeps}
+use Rattle.interpreter.proofs.Checks.{Holds, passes, hold-bind, hold-check}
+use Rattle.interpreter.proofs.perform.Permitted.{Lets}
 
 -- ---- a value that is off
 
@@ -114,42 +112,13 @@ module _ (s : Settings) where
   perform-held (Query q) b a n h = hold-bind HeldCore HeldBox _ _ (reply-held _ _ (query-held q (b .core) h)) (λ c g. passes g)
   perform-held (Inquire q) b a n h = hold-bind HeldCore HeldBox _ _ (reply-held _ _ h) (λ c g. passes g)
 
-  -- ---- units and lines
-
-  abbrev HeldObeyed : Obeyed → Type 0
-  HeldObeyed o = HeldBox (o .box)
-
-  attempt-held : (path : List Text) (b : Box) (u : Text) → HeldBox b → Holds HeldObeyed (attempt path b u)
-  unfolding attempt
-  attempt-held path b u h =
-      let t = b .core .settings in
-      hold-bind (λ (r : Read). Allowed t (r .deed)) HeldObeyed _ _
-      (holds-from (readUnit t path u) (λ r e. read-allowed t path u e) (λ n e. read-known t path u e)) (λ r a.
-      hold-permitted (r .deed) (b .core) HeldObeyed _ (λ l.
-      hold-bind HeldBox HeldObeyed _ _ (perform-held (r .deed) b a (let-pass (r .deed) (b .core) l (h .still)) h) (λ c g. passes g)))
-
-  refuse-held : (n : ℕ) (b : Box) → HeldBox b → HeldBox (refuse n b)
-  unfolding refuse
-  refuse-held n b h = if-elim HeldBox (eqb n 430) (λ _. h) (λ _. h)
-
-  next-held : (go : List Text → Box → Box) → ((p : List Text) (c : Box) → HeldBox c → HeldBox (go p c))
-      → (b : Box) → HeldBox b → (r : Checked Obeyed) → Holds HeldObeyed r → HeldBox (next go b r)
-  next-held go ih b h (refused n) k = refuse-held n b h
-  next-held go ih b h (passed o) k = ih (o .path) (o .box) (k .of)
-
-  units-held : (us path : List Text) (b : Box) → HeldBox b → HeldBox (runUnits us path b)
-  unfolding runUnits
-  units-held [] path b h = h
-  units-held (u ∷ us) path b h =
-      next-held (λ p c. runUnits us p c) (λ p c g. units-held us p c g) b h (attempt path b u) (attempt-held path b u h)
+  -- ---- lines
 
   newline-held : (b : Box) → HeldBox b → HeldBox (endLine b)
-  unfolding endLine runLine finished interrupted
+  unfolding interrupted
   newline-held b h =
-      let f : HeldBox (atNewline b) = if-elim HeldBox (empty (b .core .answer)) (λ _. h) (λ _. h) in
-      if-elim HeldBox (b .core .overlong) (λ _. f) (λ _.
-      let g = units-held (unitsOf (b .core .line)) [] (atNewline b) f in
-      if-elim HeldBox (empty (runUnits (unitsOf (b .core .line)) [] (atNewline b) .core .answer)) (λ _. g) (λ _. g))
+      line-keeps HeldBox (λ d b a l h. perform-held d b a (let-pass d (b .core) l (h .still)) h) (λ n b e h. h) (λ b h. h) (λ a b h. h) b
+      (if-elim HeldBox (empty (b .core .answer)) (λ _. h) (λ _. h))
 
   -- ---- bytes and events
 
