@@ -1,6 +1,6 @@
 -- Refusal 4 never comes by what the box does: every event leaves a state that could be the box's.
-use mathlib.Core.Path.{_≡_, refl}
-use mathlib.Core.Bool.{Bool, true, false, false≢true}
+use mathlib.Core.Path.{_≡_, refl, ap}
+use mathlib.Core.Bool.{Bool, true, false}
 use mathlib.Core.List.{List, [], _∷_}
 use Prim.Native.Nat.{ℕ, _≤_, zero-le}
 use native.Mathlib.Omega.{arith}
@@ -20,14 +20,11 @@ use Rattle.registers.proofs.status.Possible.{condition-fit}
 use Rattle.interpreter.specs.Box.{Core, Box, box, powerUp, mostLine, mostAnswer}
 use Rattle.interpreter.specs.Line.{unitsOf, interrupted, finished, runLine, endLine, held, byte, piece}
 use Rattle.interpreter.specs.Events.{Event, started, received, take, condition, look, Happened, taken, reported, happens, possibleCore, possible, Own, after}
+use Rattle.interpreter.proofs.Lists.{is-empty}
 use Rattle.interpreter.proofs.Choices.{if-elim}
 use Rattle.interpreter.proofs.Bounds.{FitCore, Fit, running, fit, fit-registers, fit-line, fit-answer, reset-long, raise-fit, answered-fit, dropped-fit, units-fit}
 
 -- ---- lines
-
-no-bytes : (t : Text) → empty t ≡ true → length t ≤ 0
-no-bytes [] e = zero-le
-no-bytes (x ∷ t) e = absurd (false≢true e)
 
 bounded : (k m : ℕ) (b : Box) → length (b .core .answer) ≤ m → Fit k b → Fit m b
 bounded k m b l f = fit m _ _ (fit-answer k (b .core) (f .core) m (b .core .answer) l) (f .trouble)
@@ -36,7 +33,7 @@ pub interrupted-fit : (b : Box) → Fit mostAnswer b → Fit running (interrupte
 unfolding interrupted mayBeQueued queueable
 interrupted-fit b f =
     if-elim (Fit running) (empty (b .core .answer))
-    (λ e. let z = no-bytes (b .core .answer) e in bounded mostAnswer running b (omega arith) f)
+    (λ e. let z = ap length (is-empty (b .core .answer) e) in bounded mostAnswer running b (omega arith) f)
     (λ _. raise-fit 410 running _ refl (dropped-fit mostAnswer running b f))
 
 pub finished-fit : (b : Box) → Fit running b → Fit mostAnswer (finished b)

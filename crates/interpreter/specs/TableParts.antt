@@ -59,6 +59,10 @@ firstStart = firstCode + byteCount
 abbrev pub tableBytes : ℕ
 tableBytes = firstStart + markCount
 
+-- how many nodes a row has at most
+abbrev pub mostNodes : ℕ
+mostNodes = 5
+
 unfoldable pub nodeAt : ℕ → String
 nodeAt i = getD nodeList i ""
 

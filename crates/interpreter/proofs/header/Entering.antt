@@ -4,7 +4,7 @@
 use mathlib.Core.Path.{_≡_, refl, sym, _∙_, ap, subst}
 use mathlib.Core.Bool.{Bool, true, false, _&&_, false≢true}
 use mathlib.Core.List.{List, [], _∷_, _++_, map, append-assoc}
-use Prim.Native.Nat.{ℕ, zero, suc, _+_, _*_, _%_, _≤_, _<_}
+use Prim.Native.Nat.{ℕ, zero, suc, _+_, _*_, _%_, _≤_, _<_, _^_}
 use native.Mathlib.Numerals.{add-one}
 use native.Mathlib.Omega.{arith}
 use lib.ListN.{length, take, drop, set, length-append, length-take}
@@ -14,7 +14,7 @@ use Rattle.registers.specs.Text.{Text, if_then_else_, visible, letter, small, d
 use Rattle.registers.proofs.Tests.{is-true, and-true}
 use Rattle.registers.proofs.text.Laws.{rest-at, drop-start, start-passes}
 use Rattle.interpreter.specs.Header.{name}
-use Rattle.interpreter.specs.NameParts.{codeOf, withCode, keyFrom, keyOf, nameIn, NameRead}
+use Rattle.interpreter.specs.NameParts.{codeOf, withCode, keyFrom, keyOf, nameIn, NameRead, codeCount}
 use Rattle.interpreter.specs.HeaderParts.{mostNames, asksIn, namesIn, unasked, Entered, TailRead, NamesRead}
 use Rattle.interpreter.specs.declared.name.Name.{Name}
 use Rattle.interpreter.specs.declared.header.Names.{Names}
@@ -27,7 +27,7 @@ module _ (keys : List ℕ) (count key : ℕ) (long : length keys ≡ mostNames) 
   pub enter-full : length keys ≤ count → count ≤ mostNames → Entered keys count key count keys
   enter-full h k =
       let l = length-take count keys in
-      let e : length (take count keys) ≡ 7 = omega arith in
+      let e : length (take count keys) ≡ mostNames = omega arith in
       let s = take-append-seam (take count keys) (key ∷ []) in
       record { is = sym (subst (λ (n : ℕ). take n (take count keys ++ key ∷ []) ≡ take count keys) e s); few = k; some = omega arith }
 
@@ -36,7 +36,7 @@ module _ (keys : List ℕ) (count key : ℕ) (long : length keys ≡ mostNames) 
       let l = length-take count keys in
       let a = length-append (take count keys) (key ∷ []) in
       record {
-        is = rw add-one (take-suc-set keys count key (omega arith)) ∙ sym (take-all 7 (take count keys ++ key ∷ []) (omega arith));
+        is = rw add-one (take-suc-set keys count key (omega arith)) ∙ sym (take-all mostNames (take count keys ++ key ∷ []) (omega arith));
         few = omega arith;
         some = omega arith;
       }
@@ -73,7 +73,7 @@ module _ (u : Text) where
       go [] true q k = absurd (false≢true q)
       go (b ∷ t) true q k =
           let s = code-some b (letter-word b q) in
-          let z : keyFrom 0 (start wordByte t) % 576460752303423488 * 32 + codeOf b ≡ 0 = rw (letter-word b q) at k in
+          let z : keyFrom 0 (start wordByte t) % 2 ^ 59 * codeCount + codeOf b ≡ 0 = rw (letter-word b q) at k in
           absurd (omega arith)
 
   pub named : (keyOf (nameIn u) ≡ 0 → ⊥) → letter (first u) ≡ true
@@ -175,7 +175,7 @@ module _ {joined : Bool} {t : Text} {at : ℕ} {path keys : List ℕ} {count i :
             good = n .good ∙ ap (every name) names ∙ rw is-good;
             asked = n .asked ∙ ap asksIn s ∙ scan-on-asks w is-good (drop (x .end + 1) t);
             end = omega arith;
-            held = n .held ∙ ap (λ (l : List Text). take 7 (take count keys ++ map keyOf l)) names ∙ entered (map keyOf (namesIn joined (drop (x .end + 1) t)));
+            held = n .held ∙ ap (λ (l : List Text). take mostNames (take count keys ++ map keyOf l)) names ∙ entered (map keyOf (namesIn joined (drop (x .end + 1) t)));
           }
         where
           colon-split : (e : ℕ) → first (drop e t) ≡ 58 → drop e t ≡ 58 ∷ drop (e + 1) t
@@ -185,12 +185,12 @@ module _ {joined : Bool} {t : Text} {at : ℕ} {path keys : List ℕ} {count i :
               go [] q k = absurd (omega arith)
               go (b ∷ l) q k = rw (q, k)
 
-          entered : (m : List ℕ) → take 7 (take count keys ++ keyOf w ∷ m) ≡ take 7 (take more left ++ m)
+          entered : (m : List ℕ) → take mostNames (take count keys ++ keyOf w ∷ m) ≡ take mostNames (take more left ++ m)
           entered m =
-              ap (λ (k : ℕ). take 7 (take count keys ++ k ∷ m)) (sym (is .key))
-              ∙ ap (take 7) (sym (append-assoc (take count keys) (x .key ∷ []) m))
-              ∙ sym (take-twice 7 (take count keys ++ x .key ∷ []) m)
-              ∙ ap (λ (l : List ℕ). take 7 (l ++ m)) (sym (h .is))
+              ap (λ (k : ℕ). take mostNames (take count keys ++ k ∷ m)) (sym (is .key))
+              ∙ ap (take mostNames) (sym (append-assoc (take count keys) (x .key ∷ []) m))
+              ∙ sym (take-twice mostNames (take count keys ++ x .key ∷ []) m)
+              ∙ ap (λ (l : List ℕ). take mostNames (l ++ m)) (sym (h .is))
 
       -- it is the last
       module _ (last : joined ≡ true → first z ≡ 58 → ⊥) (r : Names) (v : TailRead t (x .end) more r) where
@@ -210,8 +210,8 @@ module _ {joined : Bool} {t : Text} {at : ℕ} {path keys : List ℕ} {count i :
                       record {
                         asked = v .asked ∙ sym (n .asked ∙ ap asksIn split ∙ scan-last-asks w is-good z c);
                         end = omega arith;
-                        held = ap (λ (k : ℕ). take k left) (v .count) ∙ h .is ∙ ap (λ (k : ℕ). take 7 (take count keys ++ k ∷ [])) (is .key)
-                            ∙ sym (n .held ∙ ap (λ (l : List Text). take 7 (take count keys ++ map keyOf l)) names);
+                        held = ap (λ (k : ℕ). take k left) (v .count) ∙ h .is ∙ ap (λ (k : ℕ). take mostNames (take count keys ++ k ∷ [])) (is .key)
+                            ∙ sym (n .held ∙ ap (λ (l : List Text). take mostNames (take count keys ++ map keyOf l)) names);
                         few = rw (v .count) (h .few);
                         some = rw (v .count) (h .some);
                       };

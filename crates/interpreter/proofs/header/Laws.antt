@@ -14,7 +14,7 @@ use Rattle.interpreter.specs.TableParts.{firstFit}
 use Rattle.interpreter.specs.RowsParts.{rowOf}
 use Rattle.interpreter.specs.declared.deed.Role.{Role}
 use Rattle.interpreter.specs.declared.deed.Role.the-variants.{Setting as setting}
-use Rattle.interpreter.proofs.table.Lengths.{rows-many}
+use Rattle.interpreter.proofs.table.Lengths.{rows-many, first-most}
 
 module _ (star : Bool) (names : List Text) (asked : Bool) where
   abbrev fits : Row → Bool
@@ -22,15 +22,6 @@ module _ (star : Bool) (names : List Text) (asked : Bool) where
 
   abbrev roleOf : Row → Role
   roleOf r = r .role
-
-  most-in : (l : List Row) → firstFit fits l ≤ length l
-  unfolding firstFit if_then_else_
-  most-in [] = omega arith
-  most-in (r ∷ l) = go (fits r) (most-in l)
-    where
-      go : (b : Bool) → firstFit fits l ≤ length l → (if b then 0 else suc (firstFit fits l)) ≤ suc (length l)
-      go true h = omega arith
-      go false h = omega arith
 
   none-in : (l : List Row) → length l ≤ firstFit fits l → findRow star names asked l ≡ refused 113
   unfolding findRow firstFit if_then_else_
@@ -58,7 +49,7 @@ module _ (star : Bool) (names : List Text) (asked : Bool) where
 
   pub found-most : rowOf star names asked ≤ rowCount
   unfolding rowOf
-  found-most = let n = rows-many in let m = most-in rows in omega arith
+  found-most = let n = rows-many in let m = first-most fits rows in omega arith
 
   module _ (row : ℕ) (is : row ≡ rowOf star names asked) where
     -- "-113 is raised exactly when no row .. spells the header"

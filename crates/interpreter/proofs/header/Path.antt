@@ -6,7 +6,7 @@ use mathlib.Core.List.{List, [], _∷_, _++_, map, map-append}
 use Prim.Native.Nat.{ℕ, suc, _+_, _-_, _≤_, _<_}
 use native.Mathlib.Omega.{arith}
 use lib.ListN.{length, take, drop, length-append, length-take, length-map}
-use lib.Seq.{take-all, take-take, take-append-seam, drop-append-seam}
+use lib.Seq.{length-take-le, take-all, take-take, take-append-seam, drop-append-seam}
 use Rattle.registers.specs.Text.{Text, if_then_else_, every}
 use Rattle.registers.proofs.Tests.{and-both, and-true}
 use Rattle.interpreter.specs.Cuts.{front}
@@ -44,10 +44,6 @@ pub or-zero-small : (keep : Bool) (n : ℕ) → orZero keep n ≤ n
 or-zero-small true n = omega arith
 or-zero-small false n = omega arith
 
--- so many numbers are held as there are
-held-length : (keys : List ℕ) (count : ℕ) → length keys ≡ mostNames → count ≤ mostNames → length (take count keys) ≡ count
-held-length keys count l h = let t = length-take count keys in omega arith
-
 -- the names of a header after those of a path
 module _ (path names : List Text) (known : every name path ≡ true) (good : every name names ≡ true)
     (keys : List ℕ) (long : length keys ≡ mostNames) (count : ℕ) (few : count ≤ mostNames)
@@ -59,7 +55,7 @@ module _ (path names : List Text) (known : every name path ≡ true) (good : eve
   full-good = every-join name path names known good
 
   all-held : take count keys ≡ take mostNames (map keyOf full)
-  all-held = held ∙ ap (take 7) (sym (map-append keyOf path names))
+  all-held = held ∙ ap (take mostNames) (sym (map-append keyOf path names))
 
   pub path-row : (asked : Bool) → rowOfKeys false (take count keys) asked ≡ rowOf false full asked
   path-row asked = ap (λ (k : List ℕ). rowOfKeys false k asked) all-held ∙ held-same false asked (map keyOf full) ∙ row-same false full asked full-good
@@ -68,9 +64,9 @@ module _ (path names : List Text) (known : every name path ≡ true) (good : eve
   pub path-left : (asked : Bool) → rowOf false full asked < rowCount → Holds (front full) keys (count - 1)
   path-left asked h =
       let short = found-few false asked (map keyOf full) (rw (sym (row-same false full asked full-good)) at h) in
-      let all : take count keys ≡ map keyOf full = all-held ∙ take-all 7 (map keyOf full) (omega arith) in
+      let all : take count keys ≡ map keyOf full = all-held ∙ take-all mostNames (map keyOf full) (omega arith) in
       let m = length-map full keyOf in
-      let c = sym (held-length keys count long few) ∙ ap length all ∙ m in
+      let c = sym (length-take-le count keys (omega arith)) ∙ ap length all ∙ m in
       record {
         all = every-front name full full-good;
         is = sym (take-take (count - 1) count keys (omega arith)) ∙ rw all (rw c (sym (front-keys full)));
@@ -85,22 +81,19 @@ module _ (before : List ℕ) (used : ℕ) (room : used < mostNames) (was : lengt
   behind =
       let l = length-take used before in
       let a = length-append (take used before) (keyOf n ∷ []) in
-      held ∙ take-all 7 (take used before ++ keyOf n ∷ []) (omega arith)
+      held ∙ take-all mostNames (take used before ++ keyOf n ∷ []) (omega arith)
 
   pub counted : count ≡ used + 1
   counted =
       let l = length-take used before in
       let a = length-append (take used before) (keyOf n ∷ []) in
-      let c = sym (held-length keys count long few) ∙ ap length behind in
+      let c = sym (length-take-le count keys (omega arith)) ∙ ap length behind in
       omega arith
-
-  seam : length (take used before) ≡ used
-  seam = let l = length-take used before in omega arith
 
   pub star-row : name n ≡ true → (asked : Bool) → rowOfKeys true (drop used (take count keys)) asked ≡ rowOf true (n ∷ []) asked
   star-row e asked =
       let d : drop used (take count keys) ≡ keyOf n ∷ [] =
-      rw behind (subst (λ (k : ℕ). drop k (take used before ++ keyOf n ∷ []) ≡ keyOf n ∷ []) seam (drop-append-seam (take used before) (keyOf n ∷ []))) in
+      rw behind (subst (λ (k : ℕ). drop k (take used before ++ keyOf n ∷ []) ≡ keyOf n ∷ []) (length-take-le used before (omega arith)) (drop-append-seam (take used before) (keyOf n ∷ []))) in
       rw d (row-same true (n ∷ []) asked (rw e))
 
   pub star-left : (path : List Text) → Holds path before used → Holds path keys (count - 1)
@@ -109,5 +102,5 @@ module _ (before : List ℕ) (used : ℕ) (room : used < mostNames) (was : lengt
       let u : count - 1 ≡ used = omega arith in
       let k : take used keys ≡ take used before =
       sym (take-take used count keys (omega arith))
-      ∙ rw behind (subst (λ (k : ℕ). take k (take used before ++ keyOf n ∷ []) ≡ take used before) seam (take-append-seam (take used before) (keyOf n ∷ []))) in
+      ∙ rw behind (subst (λ (k : ℕ). take k (take used before ++ keyOf n ∷ []) ≡ take used before) (length-take-le used before (omega arith)) (take-append-seam (take used before) (keyOf n ∷ []))) in
       rw u (record { all = p .all; is = k ∙ p .is; few = p .few })

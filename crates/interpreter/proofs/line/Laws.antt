@@ -23,6 +23,7 @@ use Rattle.interpreter.specs.declared.present.Present.{Present}
 use Rattle.interpreter.specs.declared.parameter.Decision.{Decision}
 use Rattle.interpreter.specs.declared.parameter.Decision.the-variants.{Refused, Obey}
 use Rattle.interpreter.specs.declared.line.Done.{Done}
+use Rattle.registers.specs.Queue.{most}
 use Rattle.interpreter.proofs.unit.Allowed.{read-allowed}
 
 -- ---- all nine checks on a unit
@@ -64,7 +65,7 @@ module _ (d : Done) (path : List Text) (unit : Text) (keys : List ℕ) (res : De
     seen e p = p
 
     -- a refusal by any check, which leaves of the answers so far what it leaves of those in out
-    module _ (short : d .present .status .queued ≤ 16) (room : d .present .answered < mostAnswer) (e : Error) (r : Done) (w : StoppedWith e (d .present) r) where
+    module _ (short : d .present .status .queued ≤ most) (room : d .present .answered < mostAnswer) (e : Error) (r : Done) (w : StoppedWith e (d .present) r) where
       stopped : (left : Text) → attempt path b unit ≡ refused (numberOf e) → refuse (numberOf e) (boxAt (d .present) left) ≡ refuse (numberOf e) b
           → UnitRan d path unit out r keys left
       stopped left is same =

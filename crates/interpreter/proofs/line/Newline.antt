@@ -17,6 +17,7 @@ use Rattle.interpreter.specs.PresentParts.{boxIn, raisedWith}
 use Rattle.interpreter.specs.PresentParts.{boxAt, Discarded}
 use Rattle.interpreter.specs.LineParts.{boxHolding, UnitsRan}
 use Rattle.interpreter.specs.declared.present.Present.{Present}
+use Rattle.registers.specs.Queue.{most}
 use Rattle.interpreter.proofs.present.Laws.{raised-box}
 
 -- ---- a line
@@ -47,7 +48,7 @@ module _ (l : Text) (n : ℕ) (is : n ≡ 0 + length (start white l)) where
   not-blank ne = sym whole ∙ ne-eqb n (length l) ne
 
 module _ (p : Present) (line : Text) (o : Bool) where
-  pub line-overlong : length (p .status .errors) ≡ 16 → o ≡ true → boxIn (raisedWith InputBufferOverrun p) [] ≡ runLine line o (boxIn p [])
+  pub line-overlong : length (p .status .errors) ≡ most → o ≡ true → boxIn (raisedWith InputBufferOverrun p) [] ≡ runLine line o (boxIn p [])
   unfolding runLine if_then_else_
   line-overlong long e = rw e (raised-box InputBufferOverrun p long [])
 

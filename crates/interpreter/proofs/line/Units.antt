@@ -23,6 +23,7 @@ use Rattle.interpreter.specs.PresentParts.{boxAt}
 use Rattle.interpreter.specs.LineParts.{UnitRan}
 use Rattle.interpreter.specs.declared.present.Present.{Present}
 use Rattle.interpreter.specs.declared.line.Done.{Done}
+use Rattle.registers.specs.Queue.{most}
 use Rattle.interpreter.proofs.header.Path.{holds-none}
 
 -- ---- where a byte stands in the rest of a text
@@ -73,7 +74,7 @@ run-none path b = refl
 -- ---- the units of a line so far: what is left does what all of them do
 
 pub record Going (b : Box) (line : Text) (keys : List ℕ) (out : Text) (d : Done) (at : ℕ) : Type 0 where
-  pub queued : d .present .status .queued ≤ 16
+  pub queued : d .present .status .queued ≤ most
   pub answers : d .present .answered < mostAnswer
   pub long : length out ≡ mostAnswer
   pub within : at ≤ length line
@@ -81,7 +82,7 @@ pub record Going (b : Box) (line : Text) (keys : List ℕ) (out : Text) (d : Don
   pub holds : Holds path keys (d .used)
   pub left : runUnits (cutAt (code ";") (drop at line)) path (boxAt (d .present) out) ≡ runUnits (cutAt (code ";") line) [] b
 
-pub going-start : (p : Present) (o : Bool) (line : Text) (keys : List ℕ) (out : Text) → p .answered ≡ 0 → p .status .queued ≤ 16 → length out ≡ mostAnswer
+pub going-start : (p : Present) (o : Bool) (line : Text) (keys : List ℕ) (out : Text) → p .answered ≡ 0 → p .status .queued ≤ most → length out ≡ mostAnswer
     → Going (boxIn p []) line keys out (record { present = p; used = 0; obeyed = o }) 0
 going-start p o line keys out z q l =
     record { queued = q; answers = omega arith; long = l; within = zero-le; path = []; holds = holds-none keys; left = rw z }

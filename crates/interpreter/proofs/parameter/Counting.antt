@@ -11,6 +11,7 @@ use Rattle.registers.specs.Text.{Text, if_then_else_, white, every, empty}
 use Rattle.interpreter.specs.Cuts.{joinFirst, cutAt, trim}
 use Rattle.interpreter.specs.Parameter.{parameters}
 use Rattle.interpreter.specs.ParameterParts.{CountedIn}
+use Prim.Native.Char.{code}
 use Rattle.interpreter.proofs.parameter.Cuts.{cut-here, cut-later, cut-some, join-length, parameters-some, trim-empty}
 
 -- a part that is more than white space
@@ -26,8 +27,8 @@ filledFrom visible (p ∷ ps) = (visible || filled p) && every filled ps
 pub record Counting (t : Text) (parts : ℕ) (full visible : Bool) (i : ℕ) : Type 0 where
   pub place : i ≤ length t
   pub few : parts ≤ i + 1
-  pub long : parts + length (cutAt 44 (drop i t)) ≡ 1 + length (cutAt 44 t)
-  pub all : (full && filledFrom visible (cutAt 44 (drop i t))) ≡ every filled (cutAt 44 t)
+  pub long : parts + length (cutAt (code ",") (drop i t)) ≡ 1 + length (cutAt (code ",") t)
+  pub all : (full && filledFrom visible (cutAt (code ",") (drop i t))) ≡ every filled (cutAt (code ",") t)
 
 -- ---- the start
 
@@ -41,7 +42,7 @@ counting-start t =
       place = omega arith;
       few = omega arith;
       long = omega arith;
-      all = fresh (cutAt 44 t) (cut-some 44 t);
+      all = fresh (cutAt (code ",") t) (cut-some (code ",") t);
     }
 
 -- ---- a turn: at a comma a part ends, any other byte is one of the part
@@ -63,24 +64,24 @@ joined b full visible (p ∷ ps) h = ap (λ (w : Bool). full && (w && every fill
     or false false = refl
 
 module _ {t : Text} {parts : ℕ} {full visible : Bool} {i : ℕ} (w : Counting t parts full visible i) (h : i < length t) where
-  pub counting-comma : getD t i 0 ≡ 44 → Counting t (parts + 1) (full && visible) false (i + 1)
+  pub counting-comma : getD t i 0 ≡ code "," → Counting t (parts + 1) (full && visible) false (i + 1)
   counting-comma e =
-      let more = cutAt 44 (drop (i + 1) t) in
-      let cut : cutAt 44 (drop i t) ≡ [] ∷ more = rw (drop-cons t i 0 h, add-one i) (cut-here 44 (getD t i 0) (drop (suc i) t) e) in
+      let more = cutAt (code ",") (drop (i + 1) t) in
+      let cut : cutAt (code ",") (drop i t) ≡ [] ∷ more = rw (drop-cons t i 0 h, add-one i) (cut-here (code ",") (getD t i 0) (drop (suc i) t) e) in
       let long = rw cut at (w .long) in
       record {
         place = omega arith;
         few = omega arith;
         long = omega arith;
-        all = ended full visible more (cut-some 44 (drop (i + 1) t)) ∙ rw cut at (w .all);
+        all = ended full visible more (cut-some (code ",") (drop (i + 1) t)) ∙ rw cut at (w .all);
       }
 
-  pub counting-byte : (getD t i 0 ≡ 44 → ⊥) → Counting t parts full (visible || not (white (getD t i 0))) (i + 1)
+  pub counting-byte : (getD t i 0 ≡ code "," → ⊥) → Counting t parts full (visible || not (white (getD t i 0))) (i + 1)
   counting-byte e =
       let b = getD t i 0 in
-      let more = cutAt 44 (drop (i + 1) t) in
-      let some = cut-some 44 (drop (i + 1) t) in
-      let cut : cutAt 44 (drop i t) ≡ joinFirst b more = rw (drop-cons t i 0 h, add-one i) (cut-later 44 b (drop (suc i) t) e) in
+      let more = cutAt (code ",") (drop (i + 1) t) in
+      let some = cut-some (code ",") (drop (i + 1) t) in
+      let cut : cutAt (code ",") (drop i t) ≡ joinFirst b more = rw (drop-cons t i 0 h, add-one i) (cut-later (code ",") b (drop (suc i) t) e) in
       let long = rw cut at (w .long) in
       record {
         place = omega arith;
@@ -107,8 +108,8 @@ counting-end {t} {parts} {full} {visible} {i} w some h =
     let none : drop i t ≡ [] = drop-of-length-le t h in
     let long = rw none at (w .long) in
     record {
-      parts = rw (parameters-some t some) (omega (arith, length-map (cutAt 44 t) trim));
-      full = rw (parameters-some t some) (last full visible ∙ rw none at (w .all) ∙ sym (all-filled (cutAt 44 t)));
+      parts = rw (parameters-some t some) (omega (arith, length-map (cutAt (code ",") t) trim));
+      full = rw (parameters-some t some) (last full visible ∙ rw none at (w .all) ∙ sym (all-filled (cutAt (code ",") t)));
     }
 
 pub counting-none : (t : Text) → length t ≡ 0 → CountedIn t (record { parts = 0; full = true })

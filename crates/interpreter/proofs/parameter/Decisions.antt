@@ -1,6 +1,6 @@
 -- Check 7 and exam mode on a value, and how what checks 5 and 6 say of a parameter is carried on.
 use mathlib.Core.Path.{_≡_, refl, sym, ap, _∙_}
-use mathlib.Core.Bool.{Bool, true, false, not, _&&_, false≢true}
+use mathlib.Core.Bool.{Bool, true, false, not, _&&_, false≢true, and-true}
 use mathlib.Core.List.{[], _∷_}
 use Prim.Native.Nat.{ℕ, _≤_, _<_}
 use native.Mathlib.Omega.{arith}
@@ -132,12 +132,8 @@ pub setting-is : (s : Settings) (i : ℕ) → i < count → (asked : Bool) (t : 
     putFit s i asked (fitIn s i (valueGiven s i (kindOf i) g)) (sideGiven (kindOf i) g))
 unfolding deedOf greatest if_then_else_ settingDeed limitDeed valueGiven putFit _>>=_
 setting-is s i h false t one =
-    rw (and-right (takesNumbers (kindOf i))) (go (parameter (wordsOf (kindOf i)) (takesNumbers (kindOf i)) (quantityOf i) t))
+    rw (and-true (takesNumbers (kindOf i))) (go (parameter (wordsOf (kindOf i)) (takesNumbers (kindOf i)) (quantityOf i) t))
   where
-    and-right : (b : Bool) → (b && true) ≡ b
-    and-right true = refl
-    and-right false = refl
-
     go : (m : Checked Given)
         → (m >>= λ g.
         let v = valueGiven s i (kindOf i) g in

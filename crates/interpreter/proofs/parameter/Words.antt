@@ -1,6 +1,6 @@
 -- Check 5 on a word: the search through the words of a row, which stand together in the table, and what a search can find.
 use mathlib.Core.Path.{_≡_, refl, sym}
-use mathlib.Core.Bool.{Bool, true, false, _&&_, _||_, false≢true}
+use mathlib.Core.Bool.{Bool, true, false, _&&_, _||_, false≢true, or-true}
 use mathlib.Core.List.{List, [], _∷_, map}
 use Prim.Native.Nat.{ℕ, suc, _+_, _-_, _≤_, _<_}
 use Prim.Native.String.{String}
@@ -16,6 +16,7 @@ use Rattle.registers.specs.Words.{shortForm, longForm, matches}
 use Rattle.registers.specs.Number.{number, sign, point}
 use Rattle.registers.specs.declared.number.Decimal.{Decimal}
 use Rattle.registers.proofs.Tests.{and-both, and-true}
+use Rattle.interpreter.proofs.Checks.{apart}
 use Rattle.interpreter.specs.WordsParts.{wordCount, wordList, wordAt}
 use Rattle.registers.specs.declared.suffix.Quantity.{Quantity}
 use Rattle.interpreter.specs.Parameter.{Given, Word, Figure, findWord, parameter}
@@ -43,10 +44,6 @@ capital-in : (b : ℕ) → wordByte (capital b) ≡ true → wordByte b ≡ true
 unfolding capital wordByte letter if_then_else_
 capital-in b h = go (small b) refl h
   where
-    or-true : (x : Bool) → (x || true) ≡ true
-    or-true true = refl
-    or-true false = refl
-
     go : (s : Bool) → small b ≡ s → wordByte (if s then b - 32 else b) ≡ true → wordByte b ≡ true
     go true e h = rw (e, or-true (between 65 90 b))
     go false e h = h
@@ -134,12 +131,9 @@ module _ (ws : List String) (numbers : Bool) (q : Quantity) (t : Text) where
 
 -- ---- what a search finds has a place in the list
 
-never : {A : Type 0} {n : ℕ} {a : A} → refused n ≡ passed a → ⊥
-never e = let z : _≡_ {A = ℕ} 0 1 = cc in omega arith
-
 found-below : (i : ℕ) (ws : List String) (t : Text) (n : ℕ) → findWord i ws t ≡ passed (Word n) → n < i + length ws
 unfolding findWord if_then_else_
-found-below i [] t n e = absurd (never e)
+found-below i [] t n e = absurd (apart _ _ e)
 found-below i (w ∷ ws) t n e = go (matches w t) (found-below (suc i) ws t n) e
   where
     go : (b : Bool) → (findWord (suc i) ws t ≡ passed (Word n) → n < suc i + length ws)
@@ -153,7 +147,7 @@ unfolding aFigure _>>=_
 no-word q t n e = go (number q t) e
   where
     go : (r : Checked Decimal) → (r >>= λ d. passed (Figure d)) ≡ passed (Word n) → ⊥
-    go (refused m) e = never e
+    go (refused m) e = apart _ _ e
     go (passed d) e = let z : _≡_ {A = ℕ} 0 1 = cc in omega arith
 
 pub word-placed : (ws : List String) (numbers : Bool) (q : Quantity) (t : Text) (n : ℕ) → parameter ws numbers q t ≡ passed (Word n) → n < length ws
@@ -164,15 +158,15 @@ word-placed ws numbers q t n e = go (letter (first t)) (every wordByte t) (digit
         → (if l then (check 141 w >> findWord 0 ws t) else (if d then (check 104 b >> aFigure q t) else refused 104)) ≡ passed (Word n)
         → n < length ws
     go true true d b e = omega (arith, found-below 0 ws t n e)
-    go true false d b e = absurd (never e)
+    go true false d b e = absurd (apart _ _ e)
     go false w true true e = absurd (no-word q t n e)
-    go false w true false e = absurd (never e)
-    go false w false b e = absurd (never e)
+    go false w true false e = absurd (apart _ _ e)
+    go false w false b e = absurd (apart _ _ e)
 
 -- a word is no number, and a query takes none
 no-figure : (i : ℕ) (ws : List String) (t : Text) (d : Decimal) → findWord i ws t ≡ passed (Figure d) → ⊥
 unfolding findWord if_then_else_
-no-figure i [] t d e = never e
+no-figure i [] t d e = apart _ _ e
 no-figure i (w ∷ ws) t d e = go (matches w t) (no-figure (suc i) ws t d) e
   where
     go : (b : Bool) → (findWord (suc i) ws t ≡ passed (Figure d) → ⊥) → (if b then passed (Word i) else findWord (suc i) ws t) ≡ passed (Figure d) → ⊥
@@ -187,6 +181,6 @@ asked-word ws q t d e = go (letter (first t)) (every wordByte t) (digit (first t
         → (if l then (check 141 w >> findWord 0 ws t) else (if b then (check 104 false >> aFigure q t) else refused 104)) ≡ passed (Figure d)
         → ⊥
     go true true b e = no-figure 0 ws t d e
-    go true false b e = never e
-    go false w true e = never e
-    go false w false e = never e
+    go true false b e = apart _ _ e
+    go false w true e = apart _ _ e
+    go false w false e = apart _ _ e

@@ -11,17 +11,18 @@ use Rattle.registers.specs.Error.{numberOf}
 use Rattle.registers.specs.declared.error.Error.{Error}
 use Rattle.registers.specs.declared.error.Error.the-variants.{QueryInterrupted}
 use Rattle.registers.proofs.status.Meaning.{raised-trouble, raised-registers, raised-queued}
+use Rattle.registers.specs.Queue.{most}
 use Rattle.interpreter.specs.Box.{raise}
 use Rattle.interpreter.specs.Line.{refuse, interrupted}
 use Rattle.interpreter.specs.PresentParts.{boxIn, boxAt, raisedWith}
 use Rattle.interpreter.specs.declared.present.Present.{Present}
 
-module _ (e : Error) (p : Present) (long : length (p .status .errors) ≡ 16) where
+module _ (e : Error) (p : Present) (long : length (p .status .errors) ≡ most) where
   pub raised-box : (a : Text) → boxIn (raisedWith e p) a ≡ raise (numberOf e) (boxIn p a)
   unfolding raisedWith
   raised-box a = rw (raised-trouble (numberOf e) (p .status) long, raised-registers (numberOf e) (p .status) long)
 
-  pub raised-short : p .status .queued ≤ 16 → raisedWith e p .status .queued ≤ 16
+  pub raised-short : p .status .queued ≤ most → raisedWith e p .status .queued ≤ most
   unfolding raisedWith
   raised-short h = raised-queued (numberOf e) (p .status) long h
 
@@ -47,7 +48,7 @@ module _ (p : Present) (out : Text) where
   unfolding interrupted if_then_else_
   none-waits e = rw e
 
-  pub one-waits : length (p .status .errors) ≡ 16 → 0 < length out → (p .answered ≡ 0 → ⊥)
+  pub one-waits : length (p .status .errors) ≡ most → 0 < length out → (p .answered ≡ 0 → ⊥)
       → boxIn (raisedWith QueryInterrupted p) [] ≡ interrupted (boxAt p out)
   unfolding interrupted if_then_else_
   one-waits long room ne = rw (waits out (p .answered) room, ne-eqb (p .answered) 0 ne, raised-box QueryInterrupted p long [])

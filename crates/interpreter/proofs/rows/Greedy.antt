@@ -2,7 +2,7 @@
 -- is the walk of the code, over the names as numbers; `spells` tries every way. They agree where no optional node shares a spelling
 -- with a later one, and every word's forms are at most eleven capitals.
 use mathlib.Core.Path.{_≡_, refl, sym, _∙_, ap}
-use mathlib.Core.Bool.{Bool, true, false, not, _&&_, _||_}
+use mathlib.Core.Bool.{Bool, true, false, not, _&&_, _||_, or-false}
 use mathlib.Core.List.{List, [], _∷_, map}
 use Prim.Native.String.{String}
 use borrow.Author.Tests.{not-true}
@@ -72,10 +72,6 @@ spells-none w n h names (must v ∷ nodes) a =
 spells-none w n h names (may v ∷ nodes) a =
     let p = and-both (apart w v) (allApart w nodes) a in
     rw (spells-none w n h names nodes (p .1), not-both w v n (p .0) h)
-
-or-false : (e : Bool) → (e || false) ≡ e
-or-false true = refl
-or-false false = refl
 
 name-words : (n : Text) → name n ≡ true → every wordByte n ≡ true
 unfolding name

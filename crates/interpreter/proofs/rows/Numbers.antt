@@ -15,8 +15,9 @@ use Rattle.interpreter.specs.Header.{name}
 use Rattle.interpreter.specs.Rows.{Row, rows, hasForm, sameBool, fitsRow}
 use Rattle.interpreter.specs.NameParts.{keyOf}
 use Rattle.interpreter.specs.DeedParts.{rowCount}
-use Rattle.interpreter.specs.TableParts.{firstFit}
+use Rattle.interpreter.specs.TableParts.{firstFit, mostNodes}
 use Rattle.interpreter.specs.RowsParts.{rowOf, keyMatches, greedy, fitsKeys, rowOfKeys}
+use Rattle.interpreter.specs.HeaderParts.{mostNames}
 use Rattle.interpreter.proofs.rows.Greedy.{clear, rows-clear, greedy-spells}
 use Rattle.interpreter.proofs.rows.Rows.{few, rows-few}
 use Rattle.interpreter.proofs.table.Lengths.{rows-many}
@@ -67,16 +68,16 @@ greedy-short (may w ∷ nodes) (k ∷ keys) e = go (keyMatches w k) e (greedy-sh
     go false q ih jh = let h = jh q in omega arith
 
 module _ (star : Bool) (asked : Bool) where
-  fits-short : (keys : List ℕ) (r : Row) → few r ≡ true → fitsKeys star keys asked r ≡ true → length keys ≤ 5
+  fits-short : (keys : List ℕ) (r : Row) → few r ≡ true → fitsKeys star keys asked r ≡ true → length keys ≤ mostNodes
   unfolding fitsKeys
   fits-short keys r f e =
       let p = and-both (sameBool star (r .star)) (hasForm asked (r .role) && greedy (r .nodes) keys) e in
       let q = and-both (hasForm asked (r .role)) (greedy (r .nodes) keys) (p .1) in
       let g = greedy-short (r .nodes) keys (q .1) in
-      let l = leb-true (length (r .nodes)) 5 f in
+      let l = leb-true (length (r .nodes)) mostNodes f in
       omega arith
 
-  none-long : (keys : List ℕ) → 5 < length keys → (l : List Row) → every few l ≡ true → firstFit (fitsKeys star keys asked) l ≡ length l
+  none-long : (keys : List ℕ) → mostNodes < length keys → (l : List Row) → every few l ≡ true → firstFit (fitsKeys star keys asked) l ≡ length l
   unfolding firstFit if_then_else_
   none-long keys h [] f = refl
   none-long keys h (r ∷ l) f =
@@ -88,25 +89,25 @@ module _ (star : Bool) (asked : Bool) where
       go true q k ih = absurd (let s = fits-short keys r k q in omega arith)
       go false q k ih = ap suc ih
 
-  long-none : (keys : List ℕ) → 5 < length keys → rowOfKeys star keys asked ≡ rowCount
+  long-none : (keys : List ℕ) → mostNodes < length keys → rowOfKeys star keys asked ≡ rowCount
   unfolding rowOfKeys
   long-none keys h = none-long keys h rows rows-few ∙ rows-many
 
   -- seven names are as good as all
-  pub held-same : (keys : List ℕ) → rowOfKeys star (take 7 keys) asked ≡ rowOfKeys star keys asked
-  held-same keys = go (leb (length keys) 7) refl
+  pub held-same : (keys : List ℕ) → rowOfKeys star (take mostNames keys) asked ≡ rowOfKeys star keys asked
+  held-same keys = go (leb (length keys) mostNames) refl
     where
-      go : (b : Bool) → leb (length keys) 7 ≡ b → rowOfKeys star (take 7 keys) asked ≡ rowOfKeys star keys asked
-      go true q = ap (λ (ks : List ℕ). rowOfKeys star ks asked) (take-all 7 keys (leb-true (length keys) 7 q))
+      go : (b : Bool) → leb (length keys) mostNames ≡ b → rowOfKeys star (take mostNames keys) asked ≡ rowOfKeys star keys asked
+      go true q = ap (λ (ks : List ℕ). rowOfKeys star ks asked) (take-all mostNames keys (leb-true (length keys) mostNames q))
       go false q =
-          let h = leb-false (length keys) 7 q in
-          let t = length-take 7 keys in
-          long-none (take 7 keys) (omega arith) ∙ sym (long-none keys (omega arith))
+          let h = leb-false (length keys) mostNames q in
+          let t = length-take mostNames keys in
+          long-none (take mostNames keys) (omega arith) ∙ sym (long-none keys (omega arith))
 
   -- a header that has a row has few names
-  pub found-few : (keys : List ℕ) → rowOfKeys star keys asked < rowCount → length keys ≤ 5
-  found-few keys h = go (leb (length keys) 5) refl
+  pub found-few : (keys : List ℕ) → rowOfKeys star keys asked < rowCount → length keys ≤ mostNodes
+  found-few keys h = go (leb (length keys) mostNodes) refl
     where
-      go : (b : Bool) → leb (length keys) 5 ≡ b → length keys ≤ 5
-      go true q = leb-true (length keys) 5 q
-      go false q = absurd (let z = long-none keys (leb-false (length keys) 5 q) in omega arith)
+      go : (b : Bool) → leb (length keys) mostNodes ≡ b → length keys ≤ mostNodes
+      go true q = leb-true (length keys) mostNodes q
+      go false q = absurd (let z = long-none keys (leb-false (length keys) mostNodes q) in omega arith)

@@ -16,7 +16,7 @@ use Rattle.registers.specs.Settings.{table}
 use Rattle.registers.proofs.Tests.{and-assoc}
 use Rattle.interpreter.specs.Rows.{Row, plain, rows, settingRows, otherRows, hasForm, sameBool}
 use Rattle.interpreter.specs.DeedParts.{rowCount}
-use Rattle.interpreter.specs.TableParts.{nodeCount, nodeList, nodeAt, nodeByte, formByte, rowRow, rowTableOf, rowTable}
+use Rattle.interpreter.specs.TableParts.{nodeCount, nodeList, nodeAt, nodeByte, formByte, rowRow, rowTableOf, rowTable, mostNodes, rowSize}
 use Rattle.interpreter.specs.RowsParts.{greedy, fitsKeys, nodeOf, wordIn, rowCell, formBit, formed}
 use Rattle.interpreter.specs.WordsParts.{placeIn}
 use Rattle.interpreter.specs.declared.deed.Role.the-variants.{Setting as setting}
@@ -26,7 +26,7 @@ use Rattle.interpreter.proofs.table.Lengths.{rows-many, rows-wide}
 -- ---- computed once over all rows
 
 abbrev pub few : Row → Bool
-few r = leb (length (r .nodes)) 5
+few r = leb (length (r .nodes)) mostNodes
 
 -- a node's byte names a word
 abbrev known : Node → Bool
@@ -85,14 +85,14 @@ module _ (r : ℕ) (h : r < rowCount) where
 
   cell : (i : ℕ) → rowCell r i ≡ getD (rowRow (rowAt r) ++ rowTableOf (drop (suc r) rows)) i 0
   unfolding rowTable rowTableOf rowCell
-  cell i = cell-at rowRow 8 rowTableOf refl (λ x xs. refl) rows rows-wide r none within i
+  cell i = cell-at rowRow rowSize rowTableOf refl (λ x xs. refl) rows rows-wide r none within i
 
   pub count-cell : rowCell r 1 ≡ length nodes
   unfolding rowRow
   count-cell = cell 1
 
-  pub nodes-few : length nodes ≤ 5
-  nodes-few = leb-true (length nodes) 5 (every-at few rows r none rows-few within)
+  pub nodes-few : length nodes ≤ mostNodes
+  nodes-few = leb-true (length nodes) mostNodes (every-at few rows r none rows-few within)
 
   module _ (j : ℕ) (l : j < length nodes) where
     abbrev node : Node

@@ -17,17 +17,17 @@ use Rattle.registers.specs.Words.{Node, must, may, shortForm, longForm}
 use Rattle.registers.specs.Settings.{table}
 use Rattle.registers.proofs.Tests.{and-both}
 use Rattle.interpreter.specs.Rows.{Row, rows, settingRows, otherRows, hasForm, sameBool}
-use Rattle.interpreter.specs.NameParts.{codeOf, withCode, keyFrom, keyOf}
+use Rattle.interpreter.specs.NameParts.{codeOf, withCode, keyFrom, keyOf, codeCount}
 use Rattle.interpreter.specs.DeedParts.{rowCount}
-use Rattle.interpreter.specs.TableParts.{firstFit, withLetter, markFrom, markOf, canMark, startOf}
+use Rattle.interpreter.specs.TableParts.{firstFit, withLetter, markFrom, markOf, canMark, startOf, markCount}
 use Rattle.interpreter.specs.RowsParts.{keyMatches, greedy, fitsKeys, rowOfKeys, Marked}
 use Rattle.interpreter.proofs.rows.Greedy.{wordOf}
-use Rattle.interpreter.proofs.table.Lengths.{rows-many}
+use Rattle.interpreter.proofs.table.Lengths.{rows-many, first-most}
 
 -- ---- a word's first letter stands lowest in the numbers of both its forms
 
 abbrev led : String → Bool
-led w = eqb (keyOf (shortForm w) % 32) (codeOf (first (bytes w))) && eqb (keyOf (longForm w) % 32) (codeOf (first (bytes w)))
+led w = eqb (keyOf (shortForm w) % codeCount) (codeOf (first (bytes w))) && eqb (keyOf (longForm w) % codeCount) (codeOf (first (bytes w)))
 
 abbrev allLed : List Node → Bool
 allLed nodes = every (λ x. led (wordOf x)) nodes
@@ -40,17 +40,17 @@ rows-led : every ledRow rows ≡ true
 unfolding rows settingRows otherRows table shortForm longForm bytes small capital keyOf keyFrom withCode codeOf letter digit wordByte if_then_else_
 rows-led = refl
 
-first-letter : (w : String) (k : ℕ) → led w ≡ true → keyMatches w k ≡ true → k % 32 ≡ codeOf (first (bytes w))
+first-letter : (w : String) (k : ℕ) → led w ≡ true → keyMatches w k ≡ true → k % codeCount ≡ codeOf (first (bytes w))
 unfolding keyMatches
 first-letter w k l e =
-    let p = and-both (eqb (keyOf (shortForm w) % 32) (codeOf (first (bytes w)))) (eqb (keyOf (longForm w) % 32) (codeOf (first (bytes w)))) l in
+    let p = and-both (eqb (keyOf (shortForm w) % codeCount) (codeOf (first (bytes w)))) (eqb (keyOf (longForm w) % codeCount) (codeOf (first (bytes w)))) l in
     go (eqb k (keyOf (shortForm w))) refl e (eqb-true _ _ (p .0)) (eqb-true _ _ (p .1))
   where
     go : (b : Bool) → eqb k (keyOf (shortForm w)) ≡ b → (b || eqb k (keyOf (longForm w))) ≡ true
-        → keyOf (shortForm w) % 32 ≡ codeOf (first (bytes w)) → keyOf (longForm w) % 32 ≡ codeOf (first (bytes w))
-        → k % 32 ≡ codeOf (first (bytes w))
-    go true q r s t = ap (λ (n : ℕ). n % 32) (eqb-true k (keyOf (shortForm w)) q) ∙ s
-    go false q r s t = ap (λ (n : ℕ). n % 32) (eqb-true k (keyOf (longForm w)) r) ∙ t
+        → keyOf (shortForm w) % codeCount ≡ codeOf (first (bytes w)) → keyOf (longForm w) % codeCount ≡ codeOf (first (bytes w))
+        → k % codeCount ≡ codeOf (first (bytes w))
+    go true q r s t = ap (λ (n : ℕ). n % codeCount) (eqb-true k (keyOf (shortForm w)) q) ∙ s
+    go false q r s t = ap (λ (n : ℕ). n % codeCount) (eqb-true k (keyOf (longForm w)) r) ∙ t
 
 -- ---- names that a row's nodes spell have one of the row's marks
 
@@ -65,25 +65,25 @@ can-mark [] l (k ∷ keys) m e = absurd (false≢true e)
 can-mark (must w ∷ nodes) l [] m e = absurd (false≢true e)
 can-mark (must w ∷ nodes) l (k ∷ keys) m e =
     let p = and-both (led w) (allLed nodes) l in
-    go (keyMatches w k) refl e (p .0) (can-mark nodes (p .1) keys (withLetter m (k % 32)))
+    go (keyMatches w k) refl e (p .0) (can-mark nodes (p .1) keys (withLetter m (k % codeCount)))
   where
     go : (b : Bool) → keyMatches w k ≡ b → (if b then greedy nodes keys else false) ≡ true → led w ≡ true
-        → (greedy nodes keys ≡ true → canMark (markFrom (withLetter m (k % 32)) keys) (withLetter m (k % 32)) nodes ≡ true)
-        → canMark (markFrom (withLetter m (k % 32)) keys) (withLetter m (codeOf (first (bytes w)))) nodes ≡ true
-    go true q f h ih = ap (λ (c : ℕ). canMark (markFrom (withLetter m (k % 32)) keys) (withLetter m c) nodes) (sym (first-letter w k h q)) ∙ ih f
+        → (greedy nodes keys ≡ true → canMark (markFrom (withLetter m (k % codeCount)) keys) (withLetter m (k % codeCount)) nodes ≡ true)
+        → canMark (markFrom (withLetter m (k % codeCount)) keys) (withLetter m (codeOf (first (bytes w)))) nodes ≡ true
+    go true q f h ih = ap (λ (c : ℕ). canMark (markFrom (withLetter m (k % codeCount)) keys) (withLetter m c) nodes) (sym (first-letter w k h q)) ∙ ih f
     go false q f h ih = absurd (false≢true f)
 can-mark (may w ∷ nodes) l [] m e =
     let p = and-both (led w) (allLed nodes) l in
     rw (can-mark nodes (p .1) [] m e)
 can-mark (may w ∷ nodes) l (k ∷ keys) m e =
     let p = and-both (led w) (allLed nodes) l in
-    go (keyMatches w k) refl e (p .0) (can-mark nodes (p .1) keys (withLetter m (k % 32))) (can-mark nodes (p .1) (k ∷ keys) m)
+    go (keyMatches w k) refl e (p .0) (can-mark nodes (p .1) keys (withLetter m (k % codeCount))) (can-mark nodes (p .1) (k ∷ keys) m)
   where
     x : ℕ
-    x = markFrom (withLetter m (k % 32)) keys
+    x = markFrom (withLetter m (k % codeCount)) keys
 
     go : (b : Bool) → keyMatches w k ≡ b → (if b then greedy nodes keys else greedy nodes (k ∷ keys)) ≡ true → led w ≡ true
-        → (greedy nodes keys ≡ true → canMark x (withLetter m (k % 32)) nodes ≡ true)
+        → (greedy nodes keys ≡ true → canMark x (withLetter m (k % codeCount)) nodes ≡ true)
         → (greedy nodes (k ∷ keys) ≡ true → canMark x m nodes ≡ true)
         → (canMark x m nodes || canMark x (withLetter m (codeOf (first (bytes w)))) nodes) ≡ true
     go true q f h ih jh = or-right (canMark x m nodes) (ap (λ (c : ℕ). canMark x (withLetter m c) nodes) (sym (first-letter w k h q)) ∙ ih f)
@@ -104,15 +104,6 @@ module _ (p q ok : Row → Bool) (weaker : (r : Row) → ok r ≡ true → p r �
       go true i b j o ih = rw j (omega arith)
       go false i true j o ih = absurd (false≢true (sym i ∙ weaker r o j))
       go false i false j o ih = omega arith
-
-  first-most : (l : List Row) → firstFit q l ≤ length l
-  unfolding firstFit if_then_else_
-  first-most [] = omega arith
-  first-most (r ∷ l) = go (q r) (first-most l)
-    where
-      go : (a : Bool) → firstFit q l ≤ length l → (if a then 0 else suc (firstFit q l)) ≤ suc (length l)
-      go true h = omega arith
-      go false h = omega arith
 
 module _ (star : Bool) (keys : List ℕ) (asked : Bool) where
   abbrev markedRow : Row → Bool
@@ -141,24 +132,24 @@ module _ (star : Bool) (keys : List ℕ) (asked : Bool) where
   unfolding startOf
   start-most =
       let n = rows-many in
-      let m = first-most (fitsKeys star keys asked) markedRow ledRow fits-marked rows in
+      let m = first-most markedRow rows in
       omega arith
 
 -- ---- the loop over the names' first letters
 
 pub record Marking (star : Bool) (keys : List ℕ) (letters i : ℕ) : Type 0 where
   pub on : markFrom letters (drop i keys) ≡ markOf star keys
-  pub few : letters < 256
+  pub few : letters < markCount
 
 pub marking-start : (star : Bool) (keys : List ℕ) → Marking star keys (boolByte star) 0
 marking-start star keys = record { on = refl; few = go star }
   where
-    go : (s : Bool) → boolByte s < 256
+    go : (s : Bool) → boolByte s < markCount
     go true = omega arith
     go false = omega arith
 
 module _ {star : Bool} {keys : List ℕ} {letters i : ℕ} (m : Marking star keys letters i) where
-  pub marking-on : i < length keys → Marking star keys (withLetter letters (getD keys i 0 % 32)) (i + 1)
+  pub marking-on : i < length keys → Marking star keys (withLetter letters (getD keys i 0 % codeCount)) (i + 1)
   unfolding markFrom
   marking-on h = record { on = rw (drop-cons keys i 0 h, ← add-one i) at (m .on); few = omega arith }
 

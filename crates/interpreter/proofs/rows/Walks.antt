@@ -10,7 +10,7 @@ use lib.ListN.{length, getD, drop, drop-of-length-le}
 use lib.Seq.{drop-cons}
 use Rattle.registers.specs.Text.{if_then_else_}
 use Rattle.registers.specs.Words.{Node, must, may}
-use Rattle.interpreter.specs.TableParts.{nodeAt}
+use Rattle.interpreter.specs.TableParts.{nodeAt, optional}
 use Rattle.interpreter.specs.RowsParts.{keyMatches, greedy, wordIn, nodeOf, leftOut, Walked}
 use Rattle.interpreter.specs.declared.rows.Walk.the-variants.{To, Missed}
 
@@ -21,7 +21,7 @@ module _ (node : ℕ) (keys : List ℕ) (at : ℕ) where
       → ((nodes : List Node) → greedy (may (nodeAt (wordIn node)) ∷ nodes) (drop at keys) ≡ greedy nodes (drop at keys))
       → Walked (nodeOf node) keys at (leftOut node at)
   unfolding nodeOf leftOut if_then_else_
-  left-out l m o = go (ltb node 128)
+  left-out l m o = go (ltb node optional)
     where
       go : (b : Bool) → Walked (if b then must (nodeAt (wordIn node)) else may (nodeAt (wordIn node))) keys at (if b then Missed else To at)
       go true = m
@@ -39,7 +39,7 @@ module _ (node : ℕ) (keys : List ℕ) (at : ℕ) where
 
     pub walk-on : keyMatches (nodeAt (wordIn node)) (getD keys at 0) ≡ true → Walked (nodeOf node) keys at (To (at + 1))
     unfolding nodeOf greedy if_then_else_
-    walk-on e = (λ nodes. go (ltb node 128) nodes, omega arith)
+    walk-on e = (λ nodes. go (ltb node optional) nodes, omega arith)
       where
         go : (b : Bool) (nodes : List Node)
             → greedy ((if b then must (nodeAt (wordIn node)) else may (nodeAt (wordIn node))) ∷ nodes) (drop at keys)

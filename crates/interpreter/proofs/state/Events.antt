@@ -24,6 +24,7 @@ use Rattle.interpreter.specs.StateParts.{Tested, flowOf, stateOf}
 use Rattle.interpreter.specs.FlowParts.{FlowFed}
 use Rattle.interpreter.specs.declared.state.State.{State}
 use Rattle.interpreter.specs.declared.flow.Flow.{Flow}
+use Rattle.registers.specs.Queue.{most}
 use Rattle.interpreter.proofs.present.Laws.{waits}
 use Rattle.interpreter.proofs.state.Records.{Short, short-from, could, could-not, happens-so}
 
@@ -54,7 +55,7 @@ withoutAnswer s =
 module _ (s : State) (room : 0 < length (s .answer)) where
   -- ---- take
 
-  pub take-none : (buffer : Text) (t : Status) → length (s .status .errors) ≡ 16 → t ≡ raisedIn 420 (s .status) → s .waiting ≡ 0
+  pub take-none : (buffer : Text) (t : Status) → length (s .status .errors) ≡ most → t ≡ raisedIn 420 (s .status) → s .waiting ≡ 0
       → happened (result 2 0 buffer) (boxOf (withStatus t s)) ≡ happens (boxOf s) (takes buffer)
   unfolding happens taken if_then_else_
   take-none buffer t long is e =

@@ -9,9 +9,9 @@ use lib.Seq.{drop-append-le, drop-append-add, drop-drop, getD-append-add, getD-d
 use Rattle.registers.specs.Text.{Text, if_then_else_}
 use Rattle.registers.specs.Words.{shortForm, longForm}
 use Rattle.interpreter.specs.NameParts.{codeOf, keyOf}
-use Rattle.interpreter.specs.WordsParts.{wordBytes, wordCount, wordTable, wordCell}
+use Rattle.interpreter.specs.WordsParts.{wordBytes, wordCount, wordTable, wordCell, wordSize}
 use Rattle.interpreter.specs.DeedParts.{rowCount}
-use Rattle.interpreter.specs.TableParts.{keyBytes, firstKey, firstCode, firstStart, nodeCount, nodeList, nodeAt, rowTable, eight, keyRow, keyTableOf, keyTable, listFrom, codeTable, startOf, startTable, searchTable, commandTable}
+use Rattle.interpreter.specs.TableParts.{keyBytes, firstKey, firstCode, firstStart, nodeCount, nodeList, nodeAt, rowTable, eight, keyRow, keyTableOf, keyTable, listFrom, codeTable, startOf, startTable, searchTable, commandTable, rowSize, keysSize, byteCount, markCount}
 use Rattle.interpreter.specs.RowsParts.{rowCell, quadAt, keyCell}
 use Rattle.interpreter.proofs.Lists.{table-at}
 use Rattle.interpreter.proofs.table.Lengths.{words-long, rows-long, nodes-many, keys-wide, keys-long, lists, codes-long}
@@ -24,9 +24,9 @@ list-at f i zero k h = absurd (omega arith)
 list-at f i (suc n) zero h = let e : i ≡ i + 0 = omega arith in ap f e
 list-at f i (suc n) (suc k) h = let e : suc i + k ≡ i + suc k = omega arith in list-at f (suc i) n k (omega arith) ∙ ap f e
 
-pub word-byte : (w i : ℕ) → w < wordCount → i < 16 → getD commandTable (w * 16 + i) 0 ≡ wordCell w i
+pub word-byte : (w i : ℕ) → w < wordCount → i < wordSize → getD commandTable (w * wordSize + i) 0 ≡ wordCell w i
 unfolding commandTable wordCell
-word-byte w i h k = let l = words-long in List·getD-append wordTable searchTable 0 (w * 16 + i) (omega arith)
+word-byte w i h k = let l = words-long in List·getD-append wordTable searchTable 0 (w * wordSize + i) (omega arith)
 
 behind-words : (i : ℕ) → getD commandTable (wordBytes + i) 0 ≡ getD searchTable i 0
 unfolding commandTable
@@ -35,12 +35,12 @@ behind-words i =
     let e : wordBytes + i ≡ length wordTable + i = omega arith in
     rw e (getD-append-add wordTable searchTable i 0)
 
-pub row-byte : (r i : ℕ) → r < rowCount → i < 8 → getD commandTable (wordBytes + r * 8 + i) 0 ≡ rowCell r i
+pub row-byte : (r i : ℕ) → r < rowCount → i < rowSize → getD commandTable (wordBytes + r * rowSize + i) 0 ≡ rowCell r i
 unfolding searchTable rowCell
 row-byte r i h k =
     let l = rows-long in
-    let e : wordBytes + r * 8 + i ≡ wordBytes + (r * 8 + i) = omega arith in
-    rw e (behind-words (r * 8 + i) ∙ List·getD-append rowTable (keyTable ++ lists) 0 (r * 8 + i) (omega arith))
+    let e : wordBytes + r * rowSize + i ≡ wordBytes + (r * rowSize + i) = omega arith in
+    rw e (behind-words (r * rowSize + i) ∙ List·getD-append rowTable (keyTable ++ lists) 0 (r * rowSize + i) (omega arith))
 
 -- a byte of what comes after the numbers
 behind-keys : (i : ℕ) → getD commandTable (firstCode + i) 0 ≡ getD lists i 0
@@ -54,20 +54,20 @@ behind-keys i =
     ∙ getD-append-add rowTable (keyTable ++ lists) (length keyTable + i) 0
     ∙ getD-append-add keyTable lists i 0)
 
-pub code-byte : (b : ℕ) → b < 256 → getD commandTable (firstCode + b) 0 ≡ codeOf b
+pub code-byte : (b : ℕ) → b < byteCount → getD commandTable (firstCode + b) 0 ≡ codeOf b
 unfolding codeTable
 code-byte b h =
     let c = codes-long in
     let z : 0 + b ≡ b = omega arith in
-    behind-keys b ∙ List·getD-append codeTable startTable 0 b (omega arith) ∙ list-at codeOf 0 256 b h ∙ ap codeOf z
+    behind-keys b ∙ List·getD-append codeTable startTable 0 b (omega arith) ∙ list-at codeOf 0 byteCount b h ∙ ap codeOf z
 
-pub start-byte : (x : ℕ) → x < 256 → getD commandTable (firstStart + x) 0 ≡ startOf x
+pub start-byte : (x : ℕ) → x < markCount → getD commandTable (firstStart + x) 0 ≡ startOf x
 unfolding startTable
 start-byte x h =
     let c = codes-long in
     let e : firstStart + x ≡ firstCode + (length codeTable + x) = omega arith in
     let z : 0 + x ≡ x = omega arith in
-    rw e (behind-keys (length codeTable + x) ∙ getD-append-add codeTable startTable x 0) ∙ list-at startOf 0 256 x h ∙ ap startOf z
+    rw e (behind-keys (length codeTable + x) ∙ getD-append-add codeTable startTable x 0) ∙ list-at startOf 0 markCount x h ∙ ap startOf z
 
 -- ---- the numbers of a node's word
 
@@ -111,19 +111,19 @@ module _ (w : ℕ) (h : w < nodeCount) where
   abbrev more : Text
   more = keyTableOf (drop (suc w) nodeList) ++ lists
 
-  word-keys : drop (firstKey + w * 16) commandTable ≡ eight (keyOf (shortForm (nodeAt w))) ++ (eight (keyOf (longForm (nodeAt w))) ++ more)
+  word-keys : drop (firstKey + w * keysSize) commandTable ≡ eight (keyOf (shortForm (nodeAt w))) ++ (eight (keyOf (longForm (nodeAt w))) ++ more)
   unfolding keyTable keyTableOf keyRow nodeAt
   word-keys =
       let n = nodes-many in
-      keys-from (w * 16) (omega arith) ∙ rw (table-at keyRow 16 keyTableOf refl (λ x xs. refl) nodeList keys-wide w "" (omega arith))
+      keys-from (w * keysSize) (omega arith) ∙ rw (table-at keyRow keysSize keyTableOf refl (λ x xs. refl) nodeList keys-wide w "" (omega arith))
 
-  pub key-read : (i : ℕ) → i < 2 → eightAt commandTable (firstKey + w * 16 + i * 8) ≡ keyCell w i
+  pub key-read : (i : ℕ) → i < 2 → eightAt commandTable (firstKey + w * keysSize + i * 8) ≡ keyCell w i
   unfolding keyCell if_then_else_
   key-read zero k =
-      let e : firstKey + w * 16 + 0 * 8 ≡ firstKey + w * 16 = omega arith in
-      rw e (from-drop commandTable (firstKey + w * 16) ∙ rw word-keys (eight-is (keyOf (shortForm (nodeAt w))) (eight (keyOf (longForm (nodeAt w))) ++ more)))
+      let e : firstKey + w * keysSize + 0 * 8 ≡ firstKey + w * keysSize = omega arith in
+      rw e (from-drop commandTable (firstKey + w * keysSize) ∙ rw word-keys (eight-is (keyOf (shortForm (nodeAt w))) (eight (keyOf (longForm (nodeAt w))) ++ more)))
   key-read (suc zero) k =
-      let d : drop (firstKey + w * 16 + 8) commandTable ≡ eight (keyOf (longForm (nodeAt w))) ++ more =
-      sym (drop-drop 8 (firstKey + w * 16) commandTable) ∙ ap (drop 8) word-keys in
-      from-drop commandTable (firstKey + w * 16 + 8) ∙ rw d (eight-is (keyOf (longForm (nodeAt w))) more)
+      let d : drop (firstKey + w * keysSize + 8) commandTable ≡ eight (keyOf (longForm (nodeAt w))) ++ more =
+      sym (drop-drop 8 (firstKey + w * keysSize) commandTable) ∙ ap (drop 8) word-keys in
+      from-drop commandTable (firstKey + w * keysSize + 8) ∙ rw d (eight-is (keyOf (longForm (nodeAt w))) more)
   key-read (suc (suc i)) k = absurd (omega arith)

@@ -8,7 +8,7 @@ use lib.Dec.{leb}
 use borrow.Author.Tests.{leb-true, le-leb}
 use Rattle.registers.specs.Text.{if_then_else_, between, letter, small, wordByte, capital}
 use Rattle.registers.proofs.Tests.{and-both}
-use Rattle.interpreter.specs.NameParts.{codeOf}
+use Rattle.interpreter.specs.NameParts.{codeOf, codeCount}
 
 -- a capital letter
 abbrev pub upper : ℕ → Bool
@@ -25,11 +25,11 @@ small-bounds b e = bounds 97 122 b e
 
 -- ---- by the kind of byte
 
-code-letter : (b : ℕ) → letter b ≡ true → codeOf b ≡ b % 32
+code-letter : (b : ℕ) → letter b ≡ true → codeOf b ≡ b % codeCount
 unfolding codeOf if_then_else_
 code-letter b e = rw e
 
-code-other : (b : ℕ) → letter b ≡ false → wordByte b ≡ true → codeOf b ≡ 31
+code-other : (b : ℕ) → letter b ≡ false → wordByte b ≡ true → codeOf b ≡ codeCount - 1
 unfolding codeOf if_then_else_
 code-other b e f = rw (e, f)
 
@@ -41,7 +41,7 @@ pub code-none : (b : ℕ) → wordByte b ≡ false → codeOf b ≡ 0
 unfolding codeOf if_then_else_
 code-none b e = go (letter b) refl
   where
-    go : (l : Bool) → letter b ≡ l → (if l then b % 32 else (if wordByte b then 31 else 0)) ≡ 0
+    go : (l : Bool) → letter b ≡ l → (if l then b % codeCount else (if wordByte b then codeCount - 1 else 0)) ≡ 0
     go true q = absurd (false≢true (sym e ∙ letter-word b q))
     go false q = rw e
 
@@ -50,11 +50,11 @@ capital-code : (b : ℕ) → letter b ≡ true → capital b ≡ codeOf b + 64
 unfolding letter capital if_then_else_
 capital-code b e = rw (code-letter b e) (go (small b) refl e)
   where
-    go : (s : Bool) → small b ≡ s → (between 65 90 b || s) ≡ true → (if s then b - 32 else b) ≡ b % 32 + 64
+    go : (s : Bool) → small b ≡ s → (between 65 90 b || s) ≡ true → (if s then b - 32 else b) ≡ b % codeCount + 64
     go true q k = let h = small-bounds b q in omega arith
     go false q k = up (upper b) refl k
       where
-        up : (u : Bool) → upper b ≡ u → (u || false) ≡ true → b ≡ b % 32 + 64
+        up : (u : Bool) → upper b ≡ u → (u || false) ≡ true → b ≡ b % codeCount + 64
         up true r l = let h = bounds 65 90 b r in omega arith
         up false r l = absurd (false≢true l)
 
@@ -67,11 +67,11 @@ upper-code x e = let h = bounds 65 90 x e in rw (code-letter x (upper-letter x e
 
 -- ---- every code
 
-pub code-small : (b : ℕ) → codeOf b < 32
+pub code-small : (b : ℕ) → codeOf b < codeCount
 unfolding codeOf if_then_else_
 code-small b = go (letter b) (wordByte b)
   where
-    go : (l w : Bool) → (if l then b % 32 else (if w then 31 else 0)) < 32
+    go : (l w : Bool) → (if l then b % codeCount else (if w then codeCount - 1 else 0)) < codeCount
     go true w = omega arith
     go false true = omega arith
     go false false = omega arith
@@ -83,7 +83,7 @@ code-some b e = go (letter b) refl
     go : (l : Bool) → letter b ≡ l → 0 < codeOf b
     go true q = rw (code-letter b q) (up (upper b) refl (small b) refl q)
       where
-        up : (u : Bool) → upper b ≡ u → (s : Bool) → small b ≡ s → letter b ≡ true → 0 < b % 32
+        up : (u : Bool) → upper b ≡ u → (s : Bool) → small b ≡ s → letter b ≡ true → 0 < b % codeCount
         up true r s p k = let h = bounds 65 90 b r in omega arith
         up false r true p k = let h = small-bounds b p in omega arith
         up false r false p k = absurd (false≢true (rw (r, p) at k))

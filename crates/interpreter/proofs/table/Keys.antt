@@ -4,7 +4,7 @@
 use mathlib.Core.Path.{_≡_, refl, sym, _∙_, ap, ap₂}
 use mathlib.Core.Bool.{Bool, true, false, _&&_, false≢true}
 use mathlib.Core.List.{List, [], _∷_, map, reverse, reverseAux, reverse-reverse}
-use Prim.Native.Nat.{ℕ, zero, suc, _+_, _*_, _%_, _/_, _≤_, _<_}
+use Prim.Native.Nat.{ℕ, zero, suc, _+_, _*_, _%_, _/_, _≤_, _<_, _-_}
 use Prim.Native.String.{String}
 use native.Mathlib.Nat.{div-add-mod', mod-lt, mod-eq-of-lt, zero-mod, mul-add-mod-self-right, mul-assoc}
 use native.Mathlib.Omega.{arith}
@@ -14,7 +14,7 @@ use borrow.Author.Tests.{eqb-true, eqb-false, leb-true, le-leb}
 use Rattle.registers.specs.Text.{Text, every, same, wordByte, capital}
 use Rattle.registers.specs.Words.{shortForm, longForm, matches}
 use Rattle.registers.proofs.Tests.{and-both, and-true}
-use Rattle.interpreter.specs.NameParts.{codeOf, withCode, keyFrom, keyOf}
+use Rattle.interpreter.specs.NameParts.{codeOf, withCode, keyFrom, keyOf, codeCount}
 use Rattle.interpreter.specs.RowsParts.{keyMatches}
 use Rattle.interpreter.proofs.Lists.{same-eq, same-refl}
 use Rattle.interpreter.proofs.table.Codes.{upper, upper-letter, letter-word, code-small, code-some, same-letter, capital-same}
@@ -23,19 +23,19 @@ use Rattle.interpreter.proofs.table.Codes.{upper, upper-letter, letter-
 
 places : List ℕ → ℕ
 places [] = 0
-places (c ∷ cs) = places cs * 32 + c
+places (c ∷ cs) = places cs * codeCount + c
 
 wrapped : List ℕ → ℕ
 wrapped [] = 0
 wrapped (c ∷ cs) = withCode (wrapped cs) c
 
 abbrev code : ℕ → Bool
-code c = leb 1 c && leb c 31
+code c = leb 1 c && leb c (codeCount - 1)
 
-code-bounds : (c : ℕ) → code c ≡ true → (1 ≤ c) × (c < 32)
+code-bounds : (c : ℕ) → code c ≡ true → (1 ≤ c) × (c < codeCount)
 code-bounds c e =
-    let p = and-both (leb 1 c) (leb c 31) e in
-    let l = leb-true c 31 (p .1) in
+    let p = and-both (leb 1 c) (leb c (codeCount - 1)) e in
+    let l = leb-true c (codeCount - 1) (p .1) in
     (leb-true 1 c (p .0), omega arith)
 
 wraps : (cs : List ℕ) → every code cs ≡ true → wrapped cs ≡ places cs % 18446744073709551616
@@ -50,18 +50,18 @@ wraps (c ∷ cs) e =
 -- ---- places that are all taken tell the codes, in as many bits as there are, as long as the other number leaves one place free
 
 module _ (m : ℕ) (pos : 0 < m) where
-  place-mod : (x c : ℕ) → c < 32 → (x * 32 + c) % (m * 32) ≡ x % m * 32 + c
+  place-mod : (x c : ℕ) → c < codeCount → (x * codeCount + c) % (m * codeCount) ≡ x % m * codeCount + c
   place-mod x c h =
       let d = div-add-mod' x m in
       let r = mod-lt x pos in
-      let a = mul-assoc (x / m) m 32 in
-      let e : x * 32 + c ≡ x / m * (m * 32) + (x % m * 32 + c) = omega arith in
-      rw e (mul-add-mod-self-right (x / m) (m * 32) (x % m * 32 + c) ∙ mod-eq-of-lt (omega arith))
+      let a = mul-assoc (x / m) m codeCount in
+      let e : x * codeCount + c ≡ x / m * (m * codeCount) + (x % m * codeCount + c) = omega arith in
+      rw e (mul-add-mod-self-right (x / m) (m * codeCount) (x % m * codeCount + c) ∙ mod-eq-of-lt (omega arith))
 
 -- sixteen times so many powers of 32
 modulus : ℕ → ℕ
 modulus zero = 16
-modulus (suc n) = modulus n * 32
+modulus (suc n) = modulus n * codeCount
 
 modulus-some : (n : ℕ) → 0 < modulus n
 unfolding modulus
@@ -76,12 +76,12 @@ same-places (suc n) [] [] e f h q = refl
 same-places (suc n) (c ∷ l) [] e f h q =
     let b = code-bounds c (and-both (code c) (every code l) e .0) in
     let p = place-mod (modulus n) (modulus-some n) (places l) c (b .1) in
-    let z = zero-mod (modulus n * 32) in
+    let z = zero-mod (modulus n * codeCount) in
     absurd (omega arith)
 same-places (suc n) [] (d ∷ m) e f h q =
     let b = code-bounds d (and-both (code d) (every code m) f .0) in
     let p = place-mod (modulus n) (modulus-some n) (places m) d (b .1) in
-    let z = zero-mod (modulus n * 32) in
+    let z = zero-mod (modulus n * codeCount) in
     absurd (omega arith)
 same-places (suc n) (c ∷ l) (d ∷ m) e f h q =
     let u = and-both (code c) (every code l) e in
@@ -125,7 +125,7 @@ turned-back (b ∷ bs) (x ∷ xs) q =
     ap₂ (λ (c : ℕ) (cs : List ℕ). c ∷ cs) low (sym (reverse-reverse (map codeOf bs)) ∙ ap reverse high ∙ reverse-reverse (map codeOf xs))
 
 word-code : (b : ℕ) → wordByte b ≡ true → code (codeOf b) ≡ true
-word-code b e = let s = code-some b e in let l = code-small b in and-true (le-leb 1 (codeOf b) (omega arith)) (le-leb (codeOf b) 31 (omega arith))
+word-code b e = let s = code-some b e in let l = code-small b in and-true (le-leb 1 (codeOf b) (omega arith)) (le-leb (codeOf b) (codeCount - 1) (omega arith))
 
 every-turned : (l r : List ℕ) → every code l ≡ true → every code r ≡ true → every code (reverseAux l r) ≡ true
 every-turned [] r e f = f

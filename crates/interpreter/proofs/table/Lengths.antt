@@ -1,9 +1,9 @@
--- How long the table's parts are, and so the table: each word has sixteen bytes, each row eight, each node's two numbers sixteen,
--- which is computed once over all of them; the lists of codes and starts have 256.
+-- How long the table's parts are, and so the table: that each word, each row and each node's two numbers have their size is computed once
+-- over all of them.
 use mathlib.Core.Path.{_≡_, refl, _∙_, ap}
-use mathlib.Core.Bool.{Bool, true}
-use mathlib.Core.List.{_++_}
-use Prim.Native.Nat.{ℕ, zero, suc, _+_}
+use mathlib.Core.Bool.{Bool, true, false}
+use mathlib.Core.List.{List, [], _∷_, _++_}
+use Prim.Native.Nat.{ℕ, zero, suc, _+_, _≤_}
 use Prim.Native.String.{String}
 use native.Mathlib.Omega.{arith}
 use lib.Dec.{eqb}
@@ -14,14 +14,14 @@ use Rattle.registers.specs.Settings.{table}
 use Rattle.interpreter.specs.Rows.{Row, rows, settingRows, otherRows}
 use Rattle.interpreter.specs.NameParts.{codeOf}
 use Rattle.interpreter.specs.DeedParts.{rowCount}
-use Rattle.interpreter.specs.TableParts.{tableBytes, rowBytes, keyBytes, nodeCount, nodeList, rowRow, rowTableOf, rowTable, keyRow, keyTableOf, keyTable, listFrom, codeTable, startOf, startTable, searchTable, commandTable}
-use Rattle.interpreter.specs.WordsParts.{wordBytes, wordCount, wordList, wordRow, wordTableOf, wordTable}
+use Rattle.interpreter.specs.TableParts.{tableBytes, rowBytes, keyBytes, nodeCount, nodeList, rowRow, rowTableOf, rowTable, keyRow, keyTableOf, keyTable, listFrom, codeTable, firstFit, startOf, startTable, searchTable, commandTable, rowSize, keysSize, byteCount, markCount}
+use Rattle.interpreter.specs.WordsParts.{wordBytes, wordCount, wordList, wordRow, wordTableOf, wordTable, wordSize}
 use Rattle.interpreter.proofs.Lists.{table-length}
 
 -- ---- the words
 
 abbrev pub wordWide : String → Bool
-wordWide w = eqb (length (wordRow w)) 16
+wordWide w = eqb (length (wordRow w)) wordSize
 
 pub words-wide : every wordWide wordList ≡ true
 unfolding wordList wordRow shortForm longForm bytes small capital if_then_else_
@@ -35,13 +35,13 @@ pub words-long : length wordTable ≡ wordBytes
 unfolding wordTable wordTableOf
 words-long =
     let n = words-many in
-    let e = table-length wordRow 16 wordTableOf refl (λ x xs. refl) wordList words-wide in
+    let e = table-length wordRow wordSize wordTableOf refl (λ x xs. refl) wordList words-wide in
     omega arith
 
 -- ---- the rows
 
 abbrev pub rowWide : Row → Bool
-rowWide r = eqb (length (rowRow r)) 8
+rowWide r = eqb (length (rowRow r)) rowSize
 
 pub rows-wide : every rowWide rows ≡ true
 unfolding rows settingRows otherRows table rowRow
@@ -55,13 +55,13 @@ pub rows-long : length rowTable ≡ rowBytes
 unfolding rowTable rowTableOf
 rows-long =
     let n = rows-many in
-    let e = table-length rowRow 8 rowTableOf refl (λ x xs. refl) rows rows-wide in
+    let e = table-length rowRow rowSize rowTableOf refl (λ x xs. refl) rows rows-wide in
     omega arith
 
 -- ---- the numbers of the nodes' words
 
 abbrev pub keyWide : String → Bool
-keyWide w = eqb (length (keyRow w)) 16
+keyWide w = eqb (length (keyRow w)) keysSize
 
 pub keys-wide : every keyWide nodeList ≡ true
 unfolding nodeList keyRow
@@ -75,7 +75,7 @@ pub keys-long : length keyTable ≡ keyBytes
 unfolding keyTable keyTableOf
 keys-long =
     let n = nodes-many in
-    let e = table-length keyRow 16 keyTableOf refl (λ x xs. refl) nodeList keys-wide in
+    let e = table-length keyRow keysSize keyTableOf refl (λ x xs. refl) nodeList keys-wide in
     omega arith
 
 -- ---- the codes and the starts
@@ -89,17 +89,17 @@ list-length f i (suc n) = ap suc (list-length f (suc i) n)
 abbrev pub lists : Text
 lists = codeTable ++ startTable
 
-pub codes-long : length codeTable ≡ 256
+pub codes-long : length codeTable ≡ byteCount
 unfolding codeTable
-codes-long = list-length codeOf 0 256
+codes-long = list-length codeOf 0 byteCount
 
-lists-long : length lists ≡ 512
+lists-long : length lists ≡ byteCount + markCount
 unfolding startTable
-lists-long = let c = codes-long in let s = list-length startOf 0 256 in length-append codeTable startTable ∙ omega arith
+lists-long = let c = codes-long in let s = list-length startOf 0 markCount in length-append codeTable startTable ∙ omega arith
 
 -- ---- the whole
 
-search-long : length searchTable ≡ rowBytes + (keyBytes + 512)
+search-long : length searchTable ≡ rowBytes + (keyBytes + (byteCount + markCount))
 unfolding searchTable
 search-long =
     let r = rows-long in
@@ -110,3 +110,13 @@ search-long =
 pub commands-long : length commandTable ≡ tableBytes
 unfolding commandTable
 commands-long = let w = words-long in let s = search-long in omega (arith, length-append wordTable searchTable)
+
+-- a search among rows ends at the last at most
+pub first-most : (p : Row → Bool) (l : List Row) → firstFit p l ≤ length l
+unfolding firstFit if_then_else_
+first-most p [] = omega arith
+first-most p (r ∷ l) = go (p r) (first-most p l)
+  where
+    go : (b : Bool) → firstFit p l ≤ length l → (if b then 0 else suc (firstFit p l)) ≤ suc (length l)
+    go true h = omega arith
+    go false h = omega arith

@@ -1,6 +1,6 @@
 -- Check 1, byte by byte: a byte is allowed if it is below 127 and no newline.
 use mathlib.Core.Path.{_≡_, refl, sym, ap, _∙_}
-use mathlib.Core.Bool.{Bool, true, false, not, _&&_, _||_}
+use mathlib.Core.Bool.{Bool, true, false, not, _&&_, _||_, and-true}
 use Prim.Native.Nat.{ℕ, _+_, _≤_, _<_}
 use native.Mathlib.Numerals.{add-one}
 use native.Mathlib.Omega.{arith}
@@ -23,13 +23,9 @@ allowed-is b = go (eqb b 10) refl
     other true e = sym (lt-ltb b 127 (let k = leb-true b 32 e in omega arith))
     other false e = let h = leb-false b 32 e in rw (le-leb 33 b (omega arith)) (visible h (leb b 126) refl)
 
-    right : (x : Bool) → (x && true) ≡ x
-    right true = refl
-    right false = refl
-
     go : (t : Bool) → eqb b 10 ≡ t → (leb b 32 && not t || (leb 33 b && leb b 126)) ≡ (ltb b 127 && not t)
     go true e = rw (eqb-true b 10 e)
-    go false e = rw (right (leb b 32), right (ltb b 127)) (other (leb b 32) refl)
+    go false e = rw (and-true (leb b 32), and-true (ltb b 127)) (other (leb b 32) refl)
 
 -- one more byte is looked at
 pub more-allowed : (l : Text) (i : ℕ) (all : Bool) → i < length l → (all && every allowed (drop i l)) ≡ every allowed l

@@ -10,7 +10,7 @@ use lib.ListN.{length, getD, take, drop, length-append, length-take, length-repl
 use borrow.Author.Tests.{eqb-true, ltb-true}
 use Rattle.registers.specs.Text.{Text, if_then_else_, bytes, small, capital, same, every}
 use Rattle.registers.specs.Words.{shortForm, longForm}
-use Rattle.interpreter.specs.WordsParts.{wordCount, wordList, wordAt, wordRow, wordTableOf, wordTable, wordCell}
+use Rattle.interpreter.specs.WordsParts.{wordCount, wordList, wordAt, wordRow, wordTableOf, wordTable, wordCell, wordSize}
 use Rattle.interpreter.proofs.Lists.{same-eq, every-at, cell-at}
 use Rattle.interpreter.proofs.table.Lengths.{wordWide, words-wide, words-many}
 
@@ -41,7 +41,7 @@ module _ (w : ℕ) (h : w < wordCount) where
 
   cell : (i : ℕ) → wordCell w i ≡ getD (wordRow (wordAt w) ++ wordTableOf (drop (suc w) wordList)) i 0
   unfolding wordTable wordTableOf wordAt wordCell
-  cell i = cell-at wordRow 16 wordTableOf refl (λ x xs. refl) wordList words-wide w "" within i
+  cell i = cell-at wordRow wordSize wordTableOf refl (λ x xs. refl) wordList words-wide w "" within i
 
   pub short-cell : wordCell w 0 ≡ length short
   unfolding wordRow
@@ -55,17 +55,17 @@ module _ (w : ℕ) (h : w < wordCount) where
   pub long-at : (i : ℕ) → i < length long → getD long i 0 ≡ wordCell w (i + 2)
   unfolding wordRow
   long-at i l =
-      let zeros : Text = replicate (14 - length long) 0 in
+      let zeros : Text = replicate (wordSize - 2 - length long) 0 in
       let k : i < length (long ++ zeros) = omega (arith, length-append long zeros) in
       let e : i + 2 ≡ suc (suc i) = omega arith in
       sym (cell (i + 2) ∙ rw (e, List·getD-append (long ++ zeros) (wordTableOf (drop (suc w) wordList)) 0 i k, List·getD-append long zeros 0 i l))
 
-  long-small : length long ≤ 14
+  long-small : length long ≤ wordSize - 2
   unfolding wordRow wordAt
   long-small =
-      let e : length (wordRow (wordAt w)) ≡ 16 = eqb-true (length (wordRow (wordAt w))) 16 (every-at wordWide wordList w "" words-wide within) in
-      let a = length-append long (replicate (14 - length long) 0) in
-      let z = length-replicate {A = ℕ} (14 - length long) 0 in
+      let e : length (wordRow (wordAt w)) ≡ wordSize = eqb-true (length (wordRow (wordAt w))) wordSize (every-at wordWide wordList w "" words-wide within) in
+      let a = length-append long (replicate (wordSize - 2 - length long) 0) in
+      let z = length-replicate {A = ℕ} (wordSize - 2 - length long) 0 in
       omega arith
 
   pub short-is : short ≡ take (length short) long
@@ -79,7 +79,7 @@ module _ (w : ℕ) (h : w < wordCount) where
   pub short-small : length short ≤ length long
   short-small = let e = ap length short-is ∙ length-take (length short) long in omega arith
 
-  pub forms : (0 < wordCell w 0) × (wordCell w 0 ≤ wordCell w 1) × (wordCell w 1 ≤ 14)
+  pub forms : (0 < wordCell w 0) × (wordCell w 0 ≤ wordCell w 1) × (wordCell w 1 ≤ wordSize - 2)
   forms =
       let a = short-cell in
       let b = long-cell in

@@ -2,7 +2,7 @@
 use mathlib.Core.Path.{_≡_, refl, sym, _∙_, ap}
 use mathlib.Core.Bool.{Bool, true, false, _&&_, _||_}
 use mathlib.Core.List.{[], _∷_, map}
-use Prim.Native.Nat.{ℕ, zero, suc, _+_, _≤_, _<_}
+use Prim.Native.Nat.{ℕ, zero, suc, _+_, _≤_, _<_, _-_}
 use native.Mathlib.Numerals.{add-one}
 use native.Mathlib.Omega.{arith}
 use lib.Dec.{eqb, eqb·zero-suc, eqb·suc-zero, eqb·suc-suc}
@@ -11,7 +11,7 @@ use lib.Seq.{drop-cons, take-length}
 use borrow.Author.Tests.{eq-eqb, ne-eqb}
 use Rattle.registers.specs.Text.{Text, if_then_else_, capital, empty, same}
 use Rattle.registers.specs.Words.{shortForm, longForm, matches}
-use Rattle.interpreter.specs.WordsParts.{wordCount, wordAt, agreed, wordCell, formLength}
+use Rattle.interpreter.specs.WordsParts.{wordCount, wordAt, agreed, wordCell, formLength, wordSize}
 use Rattle.interpreter.proofs.words.Forms.{forms, short-cell, long-cell, short-is, short-small, long-at}
 
 pub agreed-most : (t l : Text) → (agreed t l ≤ length t) × (agreed t l ≤ length l)
@@ -70,7 +70,7 @@ word-is t w h =
 -- so many first bytes of the text are the word's letters, and the rest is to be compared
 pub record Agreeing (t : Text) (w n : ℕ) : Type 0 where
   pub word : w < wordCount
-  pub most : wordCell w 1 ≤ 14
+  pub most : wordCell w 1 ≤ wordSize - 2
   pub all : n + agreed (drop n t) (drop n (longForm (wordAt w))) ≡ agreed t (longForm (wordAt w))
 
 pub agreeing-none : (t : Text) (w : ℕ) → w < wordCount → Agreeing t w 0

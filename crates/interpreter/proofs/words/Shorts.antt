@@ -15,12 +15,12 @@ use Rattle.registers.specs.Text.{Text, if_then_else_, bytes, small, every}
 use Rattle.registers.specs.Answer.{Laid}
 use Rattle.registers.specs.Words.{shortForm}
 use Rattle.registers.proofs.answer.Laws.{laid-whole, laid-none}
-use Rattle.interpreter.specs.WordsParts.{wordCount, wordList, wordAt, shortRow, shortTableOf, shortTable}
+use Rattle.interpreter.specs.WordsParts.{wordCount, wordList, wordAt, shortRow, shortTableOf, shortTable, shortSize}
 use Rattle.interpreter.proofs.Lists.{every-at, table-at, table-length}
 use Rattle.interpreter.proofs.words.Taken.{no-word}
 
 abbrev wide : String → Bool
-wide w = eqb (length (shortRow w)) 5
+wide w = eqb (length (shortRow w)) shortSize
 
 all-wide : every wide wordList ≡ true
 unfolding wordList shortRow shortForm bytes small if_then_else_
@@ -33,9 +33,9 @@ all-brief : every brief wordList ≡ true
 unfolding wordList shortForm bytes small if_then_else_
 all-brief = refl
 
-shorts-long : length shortTable ≡ wordCount * 5
+shorts-long : length shortTable ≡ wordCount * shortSize
 unfolding shortTable shortTableOf wordList
-shorts-long = table-length shortRow 5 shortTableOf refl (λ x xs. refl) wordList all-wide
+shorts-long = table-length shortRow shortSize shortTableOf refl (λ x xs. refl) wordList all-wide
 
 module _ (i : ℕ) (h : i < wordCount) where
   abbrev short : Text
@@ -52,33 +52,33 @@ module _ (i : ℕ) (h : i < wordCount) where
   unfolding wordAt
   few = leb-true (length short) 4 (every-at brief wordList i "" all-brief within)
 
-  from : drop (i * 5) shortTable ≡ length short ∷ short ++ (zeros ++ shortTableOf (drop (suc i) wordList))
+  from : drop (i * shortSize) shortTable ≡ length short ∷ short ++ (zeros ++ shortTableOf (drop (suc i) wordList))
   unfolding shortTable shortTableOf wordAt shortRow
   from =
-      rw (table-at shortRow 5 shortTableOf refl (λ x xs. refl) wordList all-wide i "" within)
+      rw (table-at shortRow shortSize shortTableOf refl (λ x xs. refl) wordList all-wide i "" within)
       (ap (λ (t : Text). length short ∷ t) (append-assoc short zeros (shortTableOf (drop (suc i) wordList))))
 
-  short-length : getD shortTable (i * 5) 0 ≡ length short
-  short-length = let e = getD-drop (i * 5) shortTable 0 0 in rw (add-zero, from) at (sym e)
+  short-length : getD shortTable (i * shortSize) 0 ≡ length short
+  short-length = let e = getD-drop (i * shortSize) shortTable 0 0 in rw (add-zero, from) at (sym e)
 
-  letters : drop (i * 5 + 1) shortTable ≡ short ++ (zeros ++ shortTableOf (drop (suc i) wordList))
-  letters = sym (drop-drop 1 (i * 5) shortTable) ∙ ap (drop 1) from
+  letters : drop (i * shortSize + 1) shortTable ≡ short ++ (zeros ++ shortTableOf (drop (suc i) wordList))
+  letters = sym (drop-drop 1 (i * shortSize) shortTable) ∙ ap (drop 1) from
 
   -- what the code reads, of a text that is the table
   module _ (t : Text) (is : t ≡ shortTable) where
-    pub row-within : i * 5 < length t
+    pub row-within : i * shortSize < length t
     row-within = let l = shorts-long in rw is (omega arith)
 
-    pub end-within : i * 5 + 1 + getD t (i * 5) 0 ≤ length t
+    pub end-within : i * shortSize + 1 + getD t (i * shortSize) 0 ≤ length t
     end-within =
         let l = shorts-long in
         let k = few in
         let n = short-length in
         rw is (omega arith)
 
-    pub short-read : take (i * 5 + 1 + getD t (i * 5) 0 - (i * 5 + 1)) (drop (i * 5 + 1) t) ≡ short
+    pub short-read : take (i * shortSize + 1 + getD t (i * shortSize) 0 - (i * shortSize + 1)) (drop (i * shortSize + 1) t) ≡ short
     short-read =
-        let k : i * 5 + 1 + length short - (i * 5 + 1) ≡ length short = omega arith in
+        let k : i * shortSize + 1 + length short - (i * shortSize + 1) ≡ length short = omega arith in
         rw (is, short-length, k, letters) (take-at short (zeros ++ shortTableOf (drop (suc i) wordList)) (length short) refl)
 
 pub past-words : (n : ℕ) (tail : Text) → wordCount ≤ n → Laid (shortForm (wordAt n)) tail 0 tail

@@ -7,6 +7,7 @@ use lib.ListN.{length}
 use Rattle.registers.specs.Text.{white, every}
 use Rattle.registers.specs.declared.error.Error.the-variants.{InputBufferOverrun}
 use Rattle.interpreter.specs.PresentParts.{raisedWith}
+use Rattle.registers.specs.Queue.{most}
 use Rattle.interpreter.proofs.present.Laws.{raised-short}
 use Rattle.interpreter.proofs.line.Newline.{blank, not-blank, line-overlong, line-blank, line-none, line-some}
 use borrow.Author.Needs.{needs}
@@ -36,7 +37,7 @@ returns c =
     let o = c .before .before .before .before .before in
     let a = o .args in
     let s = o .good .1 .0 .1 .1 .1 .0 .1 .1 in
-    let long : length (a .present .status .errors) ≡ 16 = search needs in
+    let long : length (a .present .status .errors) ≡ most = search needs in
     let raised = c .raise .ensures in
     let none = o .pre .0 .1 in
     record {

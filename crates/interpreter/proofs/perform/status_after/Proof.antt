@@ -5,6 +5,7 @@ use native.Mathlib.Omega.{arith}
 use lib.ListN.{length}
 use Rattle.registers.specs.Status.{completed, eventsIn, eventsRead, clearedIn}
 use Rattle.registers.proofs.status.Meaning.{oldest-trouble, oldest-registers, oldest-queued}
+use Rattle.registers.specs.Queue.{most}
 use Rattle.interpreter.proofs.perform.Laws.{same-status, only-asked, stored-left}
 use borrow.Author.Needs.{needs}
 use Rattle.interpreter.proofs.perform.status_after.Statement.{statement}
@@ -64,7 +65,7 @@ returns-9 c =
     let d = c .before .before .before .before in
     let s = d .before .before in
     let t = s .args .status in
-    let long : length (t .errors) ≡ 16 = search needs in
+    let long : length (t .errors) ≡ most = search needs in
     rw (d .deed3 .given .1, c .before .enum-told5 .given .1, c .read-oldest .ensures)
     (record { registers = λ _ _. oldest-registers t long (s .pre); trouble = oldest-trouble t long (s .pre); queued = oldest-queued t long (s .pre) })
 

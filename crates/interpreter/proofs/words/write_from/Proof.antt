@@ -2,6 +2,7 @@
 use Prim.Native.Nat.{_*_}
 use native.Mathlib.Omega.{arith}
 use borrow.Author.Needs.{needs}
+use Rattle.interpreter.specs.WordsParts.{shortSize}
 use Rattle.interpreter.proofs.words.Shorts.{row-within, end-within, short-read}
 use Rattle.interpreter.proofs.words.write_from.Statement.{statement}
 use Rattle.interpreter.proofs.words.write_from.Tie as tie
@@ -20,10 +21,10 @@ shared-slice-read-end : tie.Need-shared-slice-read-end
 shared-slice-read-end c = let s = entry c in row-within (s .args .word) (s .pre .1) (s .args .forms .now) (s .pre .0)
 
 cast-end : tie.Need-cast-end
-cast-end c = omega (arith, c .shared-slice-known2 .given (entry c .args .word * 5))
+cast-end c = omega (arith, c .shared-slice-known2 .given (entry c .args .word * shortSize))
 
 add-end : tie.Need-add-end
-add-end c = omega (arith, c .shared-slice-known2 .given (entry c .args .word * 5))
+add-end c = omega (arith, c .shared-slice-known2 .given (entry c .args .word * shortSize))
 
 sub-write-text : tie.Need-sub-write-text
 sub-write-text c = search needs

@@ -2,6 +2,7 @@
 use mathlib.Core.Path.{_≡_, refl}
 use lib.ListN.{length}
 use borrow.Author.Needs.{needs}
+use Rattle.registers.specs.Queue.{most}
 use Rattle.interpreter.proofs.present.Laws.{raised-short, none-waits, one-waits}
 use Rattle.interpreter.proofs.present.Present.discard.Statement.{statement}
 use Rattle.interpreter.proofs.present.Present.discard.Tie as tie
@@ -15,7 +16,7 @@ raise-requires c κs = tt
 returns-2 : tie.Need-returns-2
 returns-2 c =
     let p = c .before .before .before .args .self in
-    let long : length (p .status .errors) ≡ 16 = search needs in
+    let long : length (p .status .errors) ≡ most = search needs in
     let raised = c .raise .ensures in
     record {
       queued = λ h. rw raised (raised-short _ p long h);

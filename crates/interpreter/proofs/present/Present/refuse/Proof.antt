@@ -4,6 +4,7 @@ use Prim.Native.Nat.{zero-le}
 use native.Mathlib.Omega.{arith}
 use lib.ListN.{length, take}
 use Rattle.interpreter.specs.PresentParts.{raisedWith}
+use Rattle.registers.specs.Queue.{most}
 use Rattle.interpreter.proofs.present.Laws.{raised-short, refused-dropped, refused-kept}
 use borrow.Author.Needs.{needs}
 use Rattle.interpreter.proofs.present.Present.refuse.Statement.{statement}
@@ -19,7 +20,7 @@ returns : tie.Need-returns
 returns c =
     let a = c .before .before .before .args in
     let p = a .self in
-    let long : length (p .status .errors) ≡ 16 = search needs in
+    let long : length (p .status .errors) ≡ most = search needs in
     let raised = c .before .before .raise .ensures in
     record {
       box = λ out. rw raised (refused-dropped (a .error) p long (sym (c .before .number .ensures) ∙ c .if1 .taken) (take (p .answered) out) out);
@@ -32,7 +33,7 @@ unfolding raisedWith
 returns-2 c =
     let a = c .before .before .before .args in
     let p = a .self in
-    let long : length (p .status .errors) ≡ 16 = search needs in
+    let long : length (p .status .errors) ≡ most = search needs in
     let raised = c .before .before .raise .ensures in
     record {
       box = λ out. rw raised (refused-kept (a .error) p long (λ e. c .if1 .left (c .before .number .ensures ∙ e)) (take (p .answered) out));

@@ -2,6 +2,7 @@
 use borrow.Author.Needs.{length-unmapped}
 use Rattle.interpreter.specs.Box.{mostAnswer}
 use Rattle.interpreter.specs.State.{possibleParts}
+use Rattle.registers.specs.Queue.{most}
 use Rattle.interpreter.proofs.state.State.possible.Statement.{statement}
 use Rattle.registers.specs.Settings.{count}
 use Rattle.interpreter.proofs.state.State.possible.Tie as tie
@@ -20,7 +21,7 @@ returns c =
     record {
       is = rw (c .before .before .before .possible .ensures, c .before .before .possible2 .ensures);
       values = length-unmapped _ (s .settings .values) count (g .0 .1 .1 .0 .1 .0 .1);
-      errors = length-unmapped _ (s .status .errors) 16 (g .1 .0 .1 .1 .1 .1 .1 .1 .1 .0 .1 .0 .1);
+      errors = length-unmapped _ (s .status .errors) most (g .1 .0 .1 .1 .1 .1 .1 .1 .1 .0 .1 .0 .1);
       answer = length-unmapped _ (s .answer) mostAnswer (g .1 .1 .1 .1 .1 .0 .1 .0 .1);
     }
 
