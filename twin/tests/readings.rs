@@ -1,5 +1,5 @@
-//! The examples of READINGS.md up to "The requests of 02", each as an assertion, as those
-//! requests have amended them.
+//! The examples of the settled readings of 01, each as an assertion, as the requests of 02 have
+//! amended them.
 
 mod bench;
 

@@ -1,4 +1,4 @@
-//! The requests of 02 that are built in: their own examples and those of READINGS.md.
+//! The requests of 02 that are built in: their own examples and those of the settled readings.
 
 mod bench;
 

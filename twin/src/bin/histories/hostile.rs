@@ -69,7 +69,7 @@ fn odd_bytes(dice: &mut Dice) -> Vec<u8> {
     bytes.collect()
 }
 
-/// A line whose length is near 4,096, or near what was the limit before #106.
+/// A line whose length is near 4,096 (02, #106), or near 01's 512.
 fn full_line(dice: &mut Dice, lines: &Lines) -> Vec<u8> {
     let length = match dice.below(4) {
         0 => dice.pick(&[4094, 4095, 4096, 4097, 4098, 4099]),
