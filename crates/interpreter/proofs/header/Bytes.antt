@@ -45,8 +45,8 @@ below-128 b e false q =
       le-leb 48 b (omega arith),
       lt-leb b 57 (omega arith),
       ne-eqb b 95 (λ z. omega arith),
-      ne-eqb b 58 (λ z. omega arith),
-      ne-eqb b 42 (λ z. omega arith),
+      ne-eqb b (code ":") (λ z. omega arith),
+      ne-eqb b (code "*") (λ z. omega arith),
     ) at e))
 
 all-solid : below 128 (λ b. not (headerByte b) || solid b) ≡ true
@@ -96,19 +96,19 @@ placed-names p names q x e = go (every name names) refl
     go true r = (r, ap queryOf (rw r at e))
     go false r = absurd (apart 102 x (rw r at e))
 
-colon-header : headerByte 58 ≡ true
+colon-header : headerByte (code ":") ≡ true
 unfolding headerByte wordByte letter small digit
 colon-header = refl
 
-star-header : headerByte 42 ≡ true
+star-header : headerByte (code "*") ≡ true
 unfolding headerByte wordByte letter small digit
 star-header = refl
 
 one-name : (t : Text) → every name (t ∷ []) ≡ true → every headerByte t ≡ true
 one-name t h = every-map wordByte headerByte word-header t (and-both (every wordByte t) true (all-words (t ∷ []) h) .0)
 
-joined-names : (t : Text) → every name (cutAt 58 t) ≡ true → every headerByte t ≡ true
-joined-names t h = cut-bytes wordByte headerByte 58 colon-header word-header t (all-words (cutAt 58 t) h)
+joined-names : (t : Text) → every name (cutAt (code ":") t) ≡ true → every headerByte t ≡ true
+joined-names t h = cut-bytes wordByte headerByte (code ":") colon-header word-header t (all-words (cutAt (code ":") t) h)
 
 led-by : (x : ℕ) → headerByte x ≡ true → (t : Text) → eqb (first t) x ≡ true → every headerByte (rest t) ≡ true → every headerByte t ≡ true
 led-by x a [] e k = refl
@@ -118,10 +118,10 @@ first-bytes : (t : Text) (q : Bool) (x : Header) → byFirst t q ≡ passed x �
 unfolding byFirst
 first-bytes t q x =
     let P : Checked Header → Type 0 = λ m. m ≡ passed x → (every headerByte t ≡ true) × (q ≡ x .query) in
-    if-elim P (eqb (first t) 42)
-    (λ r e. let n = placed-names _ _ q x e in (led-by 42 star-header t r (one-name (rest t) (n .0)), n .1))
-    (λ _. if-elim P (eqb (first t) 58)
-    (λ r e. let n = placed-names _ _ q x e in (led-by 58 colon-header t r (joined-names (rest t) (n .0)), n .1))
+    if-elim P (eqb (first t) (code "*"))
+    (λ r e. let n = placed-names _ _ q x e in (led-by (code "*") star-header t r (one-name (rest t) (n .0)), n .1))
+    (λ _. if-elim P (eqb (first t) (code ":"))
+    (λ r e. let n = placed-names _ _ q x e in (led-by (code ":") colon-header t r (joined-names (rest t) (n .0)), n .1))
     (λ _ e. let n = placed-names _ _ q x e in (joined-names t (n .0), n .1)))
 
 -- without the `?` every byte is solid

@@ -18,6 +18,7 @@ use Rattle.interpreter.specs.NameParts.{codeOf, withCode, keyFrom, keyOf
 use Rattle.interpreter.specs.HeaderParts.{mostNames, asksIn, namesIn, unasked, Entered, TailRead, NamesRead}
 use Rattle.interpreter.specs.declared.name.Name.{Name}
 use Rattle.interpreter.specs.declared.header.Names.{Names}
+use Prim.Native.Char.{code}
 use Rattle.interpreter.proofs.table.Codes.{letter-word, code-some}
 use Rattle.interpreter.proofs.header.Scan.{scan-none, scan-on, scan-on-asks, scan-on-length, scan-last, scan-last-asks, scan-last-length, scan-bad}
 
@@ -160,11 +161,11 @@ module _ {joined : Bool} {t : Text} {at : ℕ} {path keys : List ℕ} {count i :
 
     module _ {more : ℕ} {left : List ℕ} (h : Entered keys count (x .key) more left) (same : length left ≡ length keys) where
       -- it is joined to another
-      pub naming-on : joined ≡ true → first z ≡ 58 → Naming joined t at path left more (x .end + 1)
+      pub naming-on : joined ≡ true → first z ≡ code ":" → Naming joined t at path left more (x .end + 1)
       naming-on j c =
-          let u : z ≡ 58 ∷ drop (x .end + 1) t = colon-split (x .end) c in
-          let s : drop i t ≡ w ++ 58 ∷ drop (x .end + 1) t = split ∙ ap (λ (l : Text). w ++ l) u in
-          let on : namesIn joined (w ++ 58 ∷ drop (x .end + 1) t) ≡ w ∷ namesIn joined (drop (x .end + 1) t) = rw j (scan-on w is-good (drop (x .end + 1) t)) in
+          let u : z ≡ code ":" ∷ drop (x .end + 1) t = colon-split (x .end) c in
+          let s : drop i t ≡ w ++ (code ":") ∷ drop (x .end + 1) t = split ∙ ap (λ (l : Text). w ++ l) u in
+          let on : namesIn joined (w ++ (code ":") ∷ drop (x .end + 1) t) ≡ w ∷ namesIn joined (drop (x .end + 1) t) = rw j (scan-on w is-good (drop (x .end + 1) t)) in
           let names = ap (namesIn joined) s ∙ on in
           let l = ap (λ (u : Text). length (start visible u)) s ∙ scan-on-length w is-good (drop (x .end + 1) t) in
           let e = is .end in
@@ -178,10 +179,10 @@ module _ {joined : Bool} {t : Text} {at : ℕ} {path keys : List ℕ} {count i :
             held = n .held ∙ ap (λ (l : List Text). take mostNames (take count keys ++ map keyOf l)) names ∙ entered (map keyOf (namesIn joined (drop (x .end + 1) t)));
           }
         where
-          colon-split : (e : ℕ) → first (drop e t) ≡ 58 → drop e t ≡ 58 ∷ drop (e + 1) t
-          colon-split e c = go (drop e t) refl c ∙ ap (λ (l : Text). 58 ∷ l) (rest-at t e)
+          colon-split : (e : ℕ) → first (drop e t) ≡ code ":" → drop e t ≡ code ":" ∷ drop (e + 1) t
+          colon-split e c = go (drop e t) refl c ∙ ap (λ (l : Text). (code ":") ∷ l) (rest-at t e)
             where
-              go : (l : Text) → drop e t ≡ l → first l ≡ 58 → l ≡ 58 ∷ rest (drop e t)
+              go : (l : Text) → drop e t ≡ l → first l ≡ code ":" → l ≡ code ":" ∷ rest (drop e t)
               go [] q k = absurd (omega arith)
               go (b ∷ l) q k = rw (q, k)
 
@@ -193,7 +194,7 @@ module _ {joined : Bool} {t : Text} {at : ℕ} {path keys : List ℕ} {count i :
               ∙ ap (λ (l : List ℕ). take mostNames (l ++ m)) (sym (h .is))
 
       -- it is the last
-      module _ (last : joined ≡ true → first z ≡ 58 → ⊥) (r : Names) (v : TailRead t (x .end) more r) where
+      module _ (last : joined ≡ true → first z ≡ code ":" → ⊥) (r : Names) (v : TailRead t (x .end) more r) where
         pub naming-end : NamesRead joined t at path r left
         naming-end = go (empty (start visible (unasked z))) refl
           where
@@ -219,7 +220,7 @@ module _ {joined : Bool} {t : Text} {at : ℕ} {path keys : List ℕ} {count i :
             go false c =
                 let bad =
                 ap (λ (u : Text). every name (namesIn joined u)) split
-                ∙ scan-bad w is-good z c ends joined (λ j. ne-eqb (first z) 58 (last j)) in
+                ∙ scan-bad w is-good z c ends joined (λ j. ne-eqb (first z) (code ":") (last j)) in
                 record {
                   good = v .good ∙ c ∙ sym (n .good ∙ bad);
                   found = λ g. absurd (false≢true (sym (v .good ∙ c) ∙ g));

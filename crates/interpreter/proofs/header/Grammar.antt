@@ -19,6 +19,7 @@ use Rattle.interpreter.specs.TableParts.{orZero}
 use Rattle.interpreter.specs.HeaderParts.{mostNames, bodyOf, asksIn, namesIn, Holds, NamesGood, HeaderRead, starred, rooted, LookedUp}
 use Rattle.interpreter.specs.declared.header.Names.{Names}
 use Rattle.interpreter.specs.declared.header.Looked.the-variants.{At}
+use Prim.Native.Char.{code}
 use Rattle.interpreter.proofs.header.Scan.{asks-cons, body-cons, body-first}
 use Rattle.interpreter.proofs.header.Path.{path-row, path-left, counted, star-row, star-left}
 
@@ -37,8 +38,8 @@ placeOf false false = here
 -- a header by the first byte of its body
 unfoldable pub byFirst : Text → Bool → Checked Header
 byFirst body q =
-    if eqb (first body) 42 then placed common (rest body ∷ []) q
-    else (if eqb (first body) 58 then placed root (cutAt 58 (rest body)) q else placed here (cutAt 58 body) q)
+    if eqb (first body) (code "*") then placed common (rest body ∷ []) q
+    else (if eqb (first body) (code ":") then placed root (cutAt (code ":") (rest body)) q else placed here (cutAt (code ":") body) q)
 
 pub header-body : (t : Text) → header t ≡ byFirst (bodyOf t) (asks t)
 unfolding header byFirst bodyOf
@@ -50,31 +51,31 @@ pub record Led (t : Text) (s r : Bool) : Type 0 where
   pub is : header (start visible t) ≡ placed (placeOf s r) (namesIn (not s) (drop (boolByte (s || r)) t)) (asksIn (drop (boolByte (s || r)) t))
   pub long : length (start visible t) ≡ boolByte (s || r) + length (start visible (drop (boolByte (s || r)) t))
 
-led-star : (u : Text) → Led (42 ∷ u) true false
+led-star : (u : Text) → Led ((code "*") ∷ u) true false
 unfolding byFirst namesIn white if_then_else_
 led-star u =
     let h = start visible u in
-    record { one = λ e. refl; is = header-body (42 ∷ h) ∙ rw (body-cons 42 h refl, asks-cons 42 h refl); long = omega arith }
+    record { one = λ e. refl; is = header-body ((code "*") ∷ h) ∙ rw (body-cons (code "*") h refl, asks-cons (code "*") h refl); long = omega arith }
 
-led-root : (u : Text) → Led (58 ∷ u) false true
+led-root : (u : Text) → Led ((code ":") ∷ u) false true
 unfolding byFirst namesIn white if_then_else_
 led-root u =
     let h = start visible u in
-    record { one = λ e. absurd (false≢true e); is = header-body (58 ∷ h) ∙ rw (body-cons 58 h refl, asks-cons 58 h refl); long = omega arith }
+    record { one = λ e. absurd (false≢true e); is = header-body ((code ":") ∷ h) ∙ rw (body-cons (code ":") h refl, asks-cons (code ":") h refl); long = omega arith }
 
-led-here : (t : Text) → eqb (first t) 42 ≡ false → eqb (first t) 58 ≡ false → Led t false false
+led-here : (t : Text) → eqb (first t) (code "*") ≡ false → eqb (first t) (code ":") ≡ false → Led t false false
 unfolding byFirst namesIn if_then_else_
 led-here t e f =
-    let a = body-first (λ b. eqb b 42) refl t e in
-    let b = body-first (λ b. eqb b 58) refl t f in
+    let a = body-first (λ b. eqb b (code "*")) refl t e in
+    let b = body-first (λ b. eqb b (code ":")) refl t f in
     record { one = λ e. refl; is = header-body (start visible t) ∙ rw (a, b); long = omega arith }
 
 led-by : (t : Text) (s r : Bool) → starred t ≡ s → rooted t ≡ r → Led t s r
-led-by t true true e f = absurd (let x = eqb-true (first t) 42 e in let y = eqb-true (first t) 58 f in omega arith)
-led-by [] true false e f = absurd (let x = eqb-true 0 42 e in omega arith)
-led-by (x ∷ u) true false e f = rw (eqb-true x 42 e) (led-star u)
-led-by [] false true e f = absurd (let x = eqb-true 0 58 f in omega arith)
-led-by (x ∷ u) false true e f = rw (eqb-true x 58 f) (led-root u)
+led-by t true true e f = absurd (let x = eqb-true (first t) (code "*") e in let y = eqb-true (first t) (code ":") f in omega arith)
+led-by [] true false e f = absurd (let x = eqb-true 0 (code "*") e in omega arith)
+led-by (x ∷ u) true false e f = rw (eqb-true x (code "*") e) (led-star u)
+led-by [] false true e f = absurd (let x = eqb-true 0 (code ":") f in omega arith)
+led-by (x ∷ u) false true e f = rw (eqb-true x (code ":") f) (led-root u)
 led-by t false false e f = led-here t e f
 
 pub led : (t : Text) → Led t (starred t) (rooted t)
@@ -146,12 +147,12 @@ module _ (t : Text) (path : List Text) (before : List ℕ) (used : ℕ) (p : Hol
       (f ∙ star-row before used (p .few) was name-of keys long (x .count) (g .few) (g .held) e (x .asked))
       (λ h. star-left before used (p .few) was name-of keys long (x .count) (g .few) (g .held) path p)
   look-at false true l good g f =
-      let names = cutAt 58 (bodyOf (start visible (drop 1 t))) in
+      let names = cutAt (code ":") (bodyOf (start visible (drop 1 t))) in
       let at = f ∙ path-row [] names refl good keys long (x .count) (g .few) (g .held) (x .asked) in
       looked t l path before used p was keys long x row good g at
       (λ h. path-left [] names refl good keys long (x .count) (g .few) (g .held) (x .asked) (rw at at h))
   look-at false false l good g f =
-      let names = cutAt 58 (bodyOf (start visible (drop 0 t))) in
+      let names = cutAt (code ":") (bodyOf (start visible (drop 0 t))) in
       let held = rw (p .is) at (g .held) in
       let at = f ∙ path-row path names (p .all) good keys long (x .count) (g .few) held (x .asked) in
       looked t l path before used p was keys long x row good g at

@@ -14,6 +14,7 @@ use Rattle.registers.proofs.Tests.{and-both, and-assoc, and-fails}
 use Rattle.interpreter.specs.Cuts.{front, joinFirst, cutAt}
 use Rattle.interpreter.specs.Header.{name, asks}
 use Rattle.interpreter.specs.HeaderParts.{bodyOf, asksIn, namesIn, unasked}
+use Prim.Native.Char.{code}
 use Rattle.interpreter.proofs.Lists.{is-empty}
 
 -- ---- bytes of names
@@ -22,11 +23,11 @@ use Rattle.interpreter.proofs.Lists.{is-empty}
 word-not : (x b : ℕ) → wordByte x ≡ false → wordByte b ≡ true → eqb b x ≡ false
 word-not x b f e = ne-eqb b x (λ q. false≢true (sym f ∙ ap wordByte (sym q) ∙ e))
 
-mark-word : wordByte 63 ≡ false
+mark-word : wordByte (code "?") ≡ false
 unfolding wordByte letter small digit
 mark-word = refl
 
-pub colon-word : wordByte 58 ≡ false
+pub colon-word : wordByte (code ":") ≡ false
 unfolding wordByte letter small digit
 colon-word = refl
 
@@ -42,7 +43,7 @@ word-visible b e = go (leb b 32) refl
 
 -- ---- the `?` at the end
 
-pub asks-cons : (x : ℕ) (r : Text) → eqb x 63 ≡ false → asks (x ∷ r) ≡ asks r
+pub asks-cons : (x : ℕ) (r : Text) → eqb x (code "?") ≡ false → asks (x ∷ r) ≡ asks r
 unfolding if_then_else_
 asks-cons x [] e = e
 asks-cons x (y ∷ r) e = refl
@@ -55,7 +56,7 @@ body-more x y r = go (asks (y ∷ r))
     go true = refl
     go false = refl
 
-pub body-cons : (x : ℕ) (r : Text) → eqb x 63 ≡ false → bodyOf (x ∷ r) ≡ x ∷ bodyOf r
+pub body-cons : (x : ℕ) (r : Text) → eqb x (code "?") ≡ false → bodyOf (x ∷ r) ≡ x ∷ bodyOf r
 unfolding bodyOf if_then_else_
 body-cons x [] e = rw e
 body-cons x (y ∷ r) e = body-more x y r
@@ -64,7 +65,7 @@ body-none : bodyOf [] ≡ []
 unfolding bodyOf if_then_else_
 body-none = refl
 
-body-mark : bodyOf (63 ∷ []) ≡ []
+body-mark : bodyOf ((code "?") ∷ []) ≡ []
 unfolding bodyOf if_then_else_
 body-mark = refl
 
@@ -77,10 +78,10 @@ body-first p z (b ∷ t) e = go (visible b) (start visible t)
     go : (d : Bool) (r : Text) → p (first (bodyOf (if d then b ∷ r else []))) ≡ false
     go false r = rw body-none z
     go true (y ∷ r) = rw (body-more b y r) e
-    go true [] = one (eqb b 63) refl
+    go true [] = one (eqb b (code "?")) refl
       where
-        one : (q : Bool) → eqb b 63 ≡ q → p (first (bodyOf (b ∷ []))) ≡ false
-        one true q = rw (eqb-true b 63 q, body-mark) z
+        one : (q : Bool) → eqb b (code "?") ≡ q → p (first (bodyOf (b ∷ []))) ≡ false
+        one true q = rw (eqb-true b (code "?") q, body-mark) z
         one false q = rw (body-cons b [] q) e
 
 -- ---- cut at colons: parts of which the first goes on a name
@@ -116,30 +117,30 @@ nameless : name [] ≡ false
 unfolding name letter small
 nameless = refl
 
-cut-other : (u : Text) → letter (first u) ≡ false → every name (cutAt 58 u) ≡ false
+cut-other : (u : Text) → letter (first u) ≡ false → every name (cutAt (code ":") u) ≡ false
 unfolding cutAt if_then_else_
 cut-other [] e = rw nameless
-cut-other (b ∷ t) e = go (eqb b 58)
+cut-other (b ∷ t) e = go (eqb b (code ":"))
   where
-    go : (q : Bool) → every name (if q then [] ∷ cutAt 58 t else joinFirst b (cutAt 58 t)) ≡ false
+    go : (q : Bool) → every name (if q then [] ∷ cutAt (code ":") t else joinFirst b (cutAt (code ":") t)) ≡ false
     go true = rw nameless
-    go false = join-other b (cutAt 58 t) e
+    go false = join-other b (cutAt (code ":") t) e
 
 module _ (x : ℕ) (r : Text) (f : wordByte x ≡ false) where
-  cut-word-bad : eqb x 58 ≡ false → (w : Text) → every wordByte w ≡ true → firstWord (cutAt 58 (w ++ x ∷ r)) ≡ false
+  cut-word-bad : eqb x (code ":") ≡ false → (w : Text) → every wordByte w ≡ true → firstWord (cutAt (code ":") (w ++ x ∷ r)) ≡ false
   unfolding cutAt if_then_else_
-  cut-word-bad n [] e = rw n (join-word x (cutAt 58 r) ∙ rw f)
+  cut-word-bad n [] e = rw n (join-word x (cutAt (code ":") r) ∙ rw f)
   cut-word-bad n (b ∷ w) e =
       let p = and-both (wordByte b) (every wordByte w) e in
-      rw (word-not 58 b colon-word (p .0))
-      (join-word b (cutAt 58 (w ++ x ∷ r)) ∙ and-fails (wordByte b) (firstWord (cutAt 58 (w ++ x ∷ r))) (cut-word-bad n w (p .1)))
+      rw (word-not (code ":") b colon-word (p .0))
+      (join-word b (cutAt (code ":") (w ++ x ∷ r)) ∙ and-fails (wordByte b) (firstWord (cutAt (code ":") (w ++ x ∷ r))) (cut-word-bad n w (p .1)))
 
-  cut-bad : eqb x 58 ≡ false → (w : Text) → name w ≡ true → every name (cutAt 58 (w ++ x ∷ r)) ≡ false
+  cut-bad : eqb x (code ":") ≡ false → (w : Text) → name w ≡ true → every name (cutAt (code ":") (w ++ x ∷ r)) ≡ false
   unfolding cutAt name if_then_else_
   cut-bad n [] e = absurd (false≢true (sym nameless ∙ e))
   cut-bad n (b ∷ w) e =
       let p = and-both (wordByte b) (every wordByte w) (and-both (letter b) (wordByte b && every wordByte w) e .1) in
-      rw (word-not 58 b colon-word (p .0)) (join-bad b (cutAt 58 (w ++ x ∷ r)) (cut-word-bad n w (p .1)))
+      rw (word-not (code ":") b colon-word (p .0)) (join-bad b (cutAt (code ":") (w ++ x ∷ r)) (cut-word-bad n w (p .1)))
 
   words-bad : (w : Text) → every wordByte (w ++ x ∷ r) ≡ false
   words-bad [] = rw f
@@ -163,27 +164,27 @@ module _ (z : Text) where
   asks-word [] e = refl
   asks-word (b ∷ w) e =
       let p = and-both (wordByte b) (every wordByte w) e in
-      asks-cons b (w ++ z) (word-not 63 b mark-word (p .0)) ∙ asks-word w (p .1)
+      asks-cons b (w ++ z) (word-not (code "?") b mark-word (p .0)) ∙ asks-word w (p .1)
 
   body-word : (w : Text) → every wordByte w ≡ true → bodyOf (w ++ z) ≡ w ++ bodyOf z
   body-word [] e = refl
   body-word (b ∷ w) e =
       let p = and-both (wordByte b) (every wordByte w) e in
-      body-cons b (w ++ z) (word-not 63 b mark-word (p .0)) ∙ ap (λ (u : Text). b ∷ u) (body-word w (p .1))
+      body-cons b (w ++ z) (word-not (code "?") b mark-word (p .0)) ∙ ap (λ (u : Text). b ∷ u) (body-word w (p .1))
 
-  cut-word : (w : Text) → every wordByte w ≡ true → cutAt 58 (w ++ 58 ∷ z) ≡ w ∷ cutAt 58 z
+  cut-word : (w : Text) → every wordByte w ≡ true → cutAt (code ":") (w ++ (code ":") ∷ z) ≡ w ∷ cutAt (code ":") z
   unfolding cutAt if_then_else_
   cut-word [] e = refl
   cut-word (b ∷ w) e =
       let p = and-both (wordByte b) (every wordByte w) e in
-      rw (word-not 58 b colon-word (p .0), cut-word w (p .1))
+      rw (word-not (code ":") b colon-word (p .0), cut-word w (p .1))
 
-cut-only : (w : Text) → every wordByte w ≡ true → cutAt 58 w ≡ w ∷ []
+cut-only : (w : Text) → every wordByte w ≡ true → cutAt (code ":") w ≡ w ∷ []
 unfolding cutAt if_then_else_
 cut-only [] e = refl
 cut-only (b ∷ w) e =
     let p = and-both (wordByte b) (every wordByte w) e in
-    rw (word-not 58 b colon-word (p .0), cut-only w (p .1))
+    rw (word-not (code ":") b colon-word (p .0), cut-only w (p .1))
 
 append-none : (w : Text) → w ++ [] ≡ w
 append-none [] = refl
@@ -202,26 +203,26 @@ module _ (w : Text) (good : name w ≡ true) where
 
   -- a colon joins another name
   module _ (r : Text) where
-    joined-visible : start visible (w ++ 58 ∷ r) ≡ w ++ 58 ∷ start visible r
+    joined-visible : start visible (w ++ (code ":") ∷ r) ≡ w ++ (code ":") ∷ start visible r
     unfolding white if_then_else_
-    joined-visible = visible-word (58 ∷ r) w words
+    joined-visible = visible-word ((code ":") ∷ r) w words
 
-    pub scan-on : namesIn true (w ++ 58 ∷ r) ≡ w ∷ namesIn true r
+    pub scan-on : namesIn true (w ++ (code ":") ∷ r) ≡ w ∷ namesIn true r
     unfolding namesIn if_then_else_
     scan-on =
-        rw (joined-visible, body-word (58 ∷ start visible r) w words, body-cons 58 (start visible r) refl)
+        rw (joined-visible, body-word ((code ":") ∷ start visible r) w words, body-cons (code ":") (start visible r) refl)
         (cut-word (bodyOf (start visible r)) w words)
 
-    pub scan-on-asks : asksIn (w ++ 58 ∷ r) ≡ asksIn r
-    scan-on-asks = ap asks joined-visible ∙ asks-word (58 ∷ start visible r) w words ∙ asks-cons 58 (start visible r) refl
+    pub scan-on-asks : asksIn (w ++ (code ":") ∷ r) ≡ asksIn r
+    scan-on-asks = ap asks joined-visible ∙ asks-word ((code ":") ∷ start visible r) w words ∙ asks-cons (code ":") (start visible r) refl
 
-    pub scan-on-length : length (start visible (w ++ 58 ∷ r)) ≡ length w + suc (length (start visible r))
-    scan-on-length = ap length joined-visible ∙ length-append w (58 ∷ start visible r)
+    pub scan-on-length : length (start visible (w ++ (code ":") ∷ r)) ≡ length w + suc (length (start visible r))
+    scan-on-length = ap length joined-visible ∙ length-append w ((code ":") ∷ start visible r)
 
   -- it is the last name
   module _ (z : Text) where
     abbrev asked : Bool
-    asked = eqb (first z) 63
+    asked = eqb (first z) (code "?")
 
     -- what is left of the header: nothing, or a `?`
     module _ (closed : empty (start visible (unasked z)) ≡ true) where
@@ -234,10 +235,10 @@ module _ (w : Text) (good : name w ≡ true) where
         where
           go : (t : Text) → z ≡ t → Left (start visible z) asked
           go [] e = rw e (body-none, refl, refl)
-          go (x ∷ t) e = rw e (one (eqb x 63) refl (rw e at closed))
+          go (x ∷ t) e = rw e (one (eqb x (code "?")) refl (rw e at closed))
             where
-              one : (q : Bool) → eqb x 63 ≡ q → empty (start visible (if q then t else x ∷ t)) ≡ true → Left (start visible (x ∷ t)) q
-              one true q k = rw (eqb-true x 63 q, is-empty (start visible t) k) (body-mark, refl, refl)
+              one : (q : Bool) → eqb x (code "?") ≡ q → empty (start visible (if q then t else x ∷ t)) ≡ true → Left (start visible (x ∷ t)) q
+              one true q k = rw (eqb-true x (code "?") q, is-empty (start visible t) k) (body-mark, refl, refl)
               one false q k = rw (is-empty (start visible (x ∷ t)) k) (body-none, refl, refl)
 
       pub scan-last : (joined : Bool) → namesIn joined (w ++ z) ≡ w ∷ []
@@ -262,9 +263,9 @@ module _ (w : Text) (good : name w ≡ true) where
         where
           go : (t : Text) → z ≡ t → Goes (start visible z)
           go [] e = absurd (false≢true (sym (rw e at goes-on)))
-          go (x ∷ t) e = rw e (one (eqb x 63) refl (visible x) refl (rw e at goes-on))
+          go (x ∷ t) e = rw e (one (eqb x (code "?")) refl (visible x) refl (rw e at goes-on))
             where
-              one : (q : Bool) → eqb x 63 ≡ q → (d : Bool) → visible x ≡ d → empty (start visible (if q then t else x ∷ t)) ≡ false
+              one : (q : Bool) → eqb x (code "?") ≡ q → (d : Bool) → visible x ≡ d → empty (start visible (if q then t else x ∷ t)) ≡ false
                   → (r : Text) × (bodyOf (if d then x ∷ start visible t else []) ≡ x ∷ r)
               one false q true k o = (bodyOf (start visible t), body-cons x (start visible t) q)
               one false q false k o = absurd (false≢true (sym (rw k at o)))
@@ -273,9 +274,9 @@ module _ (w : Text) (good : name w ≡ true) where
                   two : (s : Text) → empty s ≡ false → (r : Text) × (bodyOf (x ∷ s) ≡ x ∷ r)
                   two [] i = absurd (false≢true (sym i))
                   two (y ∷ s) i = (bodyOf (y ∷ s), body-more x y s)
-              one true q false k o = absurd (false≢true (sym (rw (eqb-true x 63 q) at k)))
+              one true q false k o = absurd (false≢true (sym (rw (eqb-true x (code "?") q) at k)))
 
-      pub scan-bad : (joined : Bool) → (joined ≡ true → eqb (first z) 58 ≡ false) → every name (namesIn joined (w ++ z)) ≡ false
+      pub scan-bad : (joined : Bool) → (joined ≡ true → eqb (first z) (code ":") ≡ false) → every name (namesIn joined (w ++ z)) ≡ false
       unfolding namesIn if_then_else_
       scan-bad true n =
           rw (visible-word z w words, body-word (start visible z) w words, goes .1) (cut-bad (first z) (goes .0) other (n refl) w good)

@@ -12,6 +12,7 @@ use Rattle.interpreter.specs.Cuts.{front, trimEnd, trim}
 use Rattle.interpreter.specs.Header.{Header, header, asks}
 use Rattle.interpreter.specs.HeaderParts.{bodyOf}
 use Rattle.interpreter.specs.Unit.{allowed, headerText, parameterText}
+use Prim.Native.Char.{code}
 use Rattle.interpreter.proofs.Lists.{every-map}
 use Rattle.interpreter.proofs.header.Bytes.{solid, body-solid}
 
@@ -66,9 +67,9 @@ body-allowed t e = go (asks t) refl e
   where
     with-mark : (u : Text) → asks u ≡ true → every allowed (front u) ≡ true → every allowed u ≡ true
     with-mark [] q k = refl
-    with-mark (x ∷ []) q k = and-true (ap allowed (eqb-true x 63 q) ∙ mark) refl
+    with-mark (x ∷ []) q k = and-true (ap allowed (eqb-true x (code "?") q) ∙ mark) refl
       where
-        mark : allowed 63 ≡ true
+        mark : allowed (code "?") ≡ true
         mark = refl
     with-mark (x ∷ y ∷ u) q k =
         let p = and-both (allowed x) (every allowed (front (y ∷ u))) k in

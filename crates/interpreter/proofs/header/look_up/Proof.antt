@@ -10,6 +10,7 @@ use borrow.Author.Tests.{not-true, not-false}
 use Rattle.interpreter.specs.TableParts.{orZero}
 use Rattle.interpreter.specs.HeaderParts.{mostNames, starred}
 use Rattle.interpreter.specs.RowsParts.{rowOfKeys}
+use Prim.Native.Char.{code}
 use Rattle.interpreter.proofs.Lists.{part-is}
 use Rattle.interpreter.proofs.header.Grammar.{led, look-bad, first-fits, look-found}
 use native.Mathlib.Omega.{arith}
@@ -38,8 +39,8 @@ is-good : (e : tie.Else1) → read-of e .read-names .result .good ≡ true
 is-good e = not-false _ (e .if1 .left)
 
 -- the code's test of the first byte
-star-is : (p : tie.After-read-names) → eqb (first-of p .byte-at .result) 42 ≡ starred (entry p .args .text .now)
-star-is p = ap (λ (b : ℕ). eqb b 42) (first-of p .byte-at .ensures)
+star-is : (p : tie.After-read-names) → eqb (first-of p .byte-at .result) (code "*") ≡ starred (entry p .args .text .now)
+star-is p = ap (λ (b : ℕ). eqb b (code "*")) (first-of p .byte-at .ensures)
 
 first-is : (z : tie.After-or-zero) → let s = entry (read-of (z .before)) .args in z .or-zero .result ≡ orZero (starred (s .text .now)) (s .used)
 first-is z = let p = read-of (z .before) in z .or-zero .ensures ∙ ap (λ (s : Bool). orZero s (entry p .args .used)) (star-is p)
@@ -105,7 +106,7 @@ returns-2 c =
     let n = p .read-names .result in
     let part = part-is (keys p) (z .or-zero .result) (n .count) ∙ ap (λ (i : ℕ). drop i (take (n .count) (keys p))) (first-is z) in
     let found = c .before .find .ensures
-    ∙ ap (λ (l : List ℕ). rowOfKeys (eqb (first-of p .byte-at .result) 42) l (n .asked)) part
+    ∙ ap (λ (l : List ℕ). rowOfKeys (eqb (first-of p .byte-at .result) (code "*")) l (n .asked)) part
     ∙ ap (λ (s : Bool). rowOfKeys s (drop (orZero (starred (a .text .now)) (a .used)) (take (n .count) (keys p))) (n .asked)) (star-is p) in
     λ names h. look-found (s .args .text .now) names (s .args .path .now) (s .args .used) h (s .pre .2) (keys p) (kept p) (p .read-names .result) (c .before .find .result)
     (p .read-names .ensures) (is-good e) found

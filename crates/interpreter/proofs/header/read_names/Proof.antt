@@ -11,6 +11,7 @@ use borrow.Author.Needs.{needs}
 use Rattle.interpreter.specs.TableParts.{orZero}
 use Rattle.interpreter.specs.HeaderParts.{NamesRead, HeaderRead}
 use Rattle.interpreter.specs.declared.header.Names.{Names}
+use Prim.Native.Char.{code}
 use Rattle.interpreter.proofs.header.Path.{or-zero-small}
 use Rattle.interpreter.proofs.header.Tail.{is-last, is-joined, colon-within}
 use Rattle.interpreter.proofs.header.Entering.{Naming, naming-start, naming-none, naming-on, naming-end}
@@ -33,21 +34,21 @@ entry l = start-of (l .before)
 
 -- whether a `*` leads them
 abbrev star-at : tie.At-loop Inv-loop μ-loop → Bool
-star-at l = eqb (l .before .before .byte-at .result) 42
+star-at l = eqb (l .before .before .byte-at .result) (code "*")
 
 -- what was read, by the text's first byte
 led : (l : tie.At-loop Inv-loop μ-loop) {r : Names} {left : List ℕ}
     → let a = entry l .args in
     let b = l .before .before .byte-at .result in
-    NamesRead (not (eqb b 42)) (a .text .now) (boolByte (eqb b 42 || eqb b 58)) (take (l .before .or-zero .result) (a .path .now)) r left
+    NamesRead (not (eqb b (code "*"))) (a .text .now) (boolByte (eqb b (code "*") || eqb b (code ":"))) (take (l .before .or-zero .result) (a .path .now)) r left
     → HeaderRead (a .used) (a .text .now) (a .path .now) r left
 led l {r} {left} m =
     let a = entry l .args in
     let t = a .text .now in
     let b = l .before .before .byte-at in
-    let n = subst (λ (n : ℕ). NamesRead (not (eqb (b .result) 42)) t (boolByte (eqb (b .result) 42 || eqb (b .result) 58)) (take n (a .path .now)) r left)
+    let n = subst (λ (n : ℕ). NamesRead (not (eqb (b .result) (code "*"))) t (boolByte (eqb (b .result) (code "*") || eqb (b .result) (code ":"))) (take n (a .path .now)) r left)
     (l .before .or-zero .ensures) m in
-    subst (λ (x : ℕ). NamesRead (not (eqb x 42)) t (boolByte (eqb x 42 || eqb x 58)) (take (orZero (not (eqb x 58)) (a .used)) (a .path .now)) r left) (b .ensures) n
+    subst (λ (x : ℕ). NamesRead (not (eqb x (code "*"))) t (boolByte (eqb x (code "*") || eqb x (code ":"))) (take (orZero (not (eqb x (code ":"))) (a .used)) (a .path .now)) r left) (b .ensures) n
 
 -- once a name is entered
 abbrev name-of : tie.After-enter Inv-loop μ-loop → tie.After-read Inv-loop μ-loop
@@ -77,7 +78,7 @@ cast-i c = search needs
 loop-holds : tie.Need-loop-holds Inv-loop μ-loop
 loop-holds c =
     let s = start-of c in
-    let small = or-zero-small (not (eqb (c .before .byte-at .result) 58)) (s .args .used) in
+    let small = or-zero-small (not (eqb (c .before .byte-at .result) (code ":"))) (s .args .used) in
     let e = c .or-zero .ensures in
     let p = s .pre in
     naming-start _ _ _ _ _ (omega arith) (p .2)
