@@ -1,4 +1,5 @@
--- Refusal 4 never comes by what the box does: every event leaves a state that could be the box's.
+-- Refusal 4 never comes by what the box does: every event keeps `Fit` (proofs/Bounds), and `Fit` is what the test of number 4 says
+-- (`fit-from`, `fit-to`).
 use mathlib.Core.Path.{_≡_, refl, ap}
 use mathlib.Core.Bool.{Bool, true, false}
 use mathlib.Core.List.{List, [], _∷_}

@@ -1,4 +1,4 @@
--- Demand 2, beside the definition of every event: settings keep their limits, pieces behave as their bytes, and an answer to a
+-- Demand 2, besides the definition of every event: settings keep their limits, pieces behave as their bytes, and an answer to a
 -- settings query, sent back, leaves every setting as it was. From any state that could be the box's, not only from power-up.
 use mathlib.Core.Path.{_≡_}
 use mathlib.Core.Bool.{true, false}
@@ -35,7 +35,7 @@ abbrev pub WithinRange : Type 0
 WithinRange = (b : Box) → Own b → (es : List Event) →
     let s = after b es .core .settings in wideRange s ≡ false → leZ (valueAt s voltage) twelveVolts ≡ true
 
--- ---- "*RST the settings only"; "*CLS clears the event status register, the operation event register and the queue, nothing else", by 02
+-- ---- "*RST the settings only"; "*CLS clears the event status register, the operation event register and the queue, nothing else", by 02 (#104)
 -- "all three event registers"
 
 abbrev pub ResetsOnly : Type 0

@@ -1,5 +1,5 @@
--- 01: "These dummies have to be rejected". Each is said by what it does, over any program whatever it remembers, beside a program
--- that does it; and each is rejected by what it tells, held against demand 2's definition of an event.
+-- 01: "These dummies have to be rejected". Each is defined by what it does, for any program whatever it remembers, and a
+-- program that does it stands beside it; each is rejected by what it tells, held against demand 2's definition of an event.
 use mathlib.Core.Path.{_≡_}
 use mathlib.Core.Bool.{Bool, true, false}
 use mathlib.Core.List.{List, [], _∷_, _++_}

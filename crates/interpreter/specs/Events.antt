@@ -45,7 +45,7 @@ taken buffer b =
     then happened (result 0 (length a) (a ++ drop (length a) buffer)) (answerIs [] b)
     else happened (result 1 (length a) buffer) b)
 
--- "the box reports the 16-bit operation condition register"; by 02 LOCK and WARNing have each "its own condition event"; number 3
+-- "the box reports the 16-bit operation condition register"; by 02 (#104) LOCK and WARNing have each "its own condition event"; number 3
 unfoldable pub reported : RegisterSet → ℕ → Box → Happened
 reported x n b =
     if leb n widestGroup

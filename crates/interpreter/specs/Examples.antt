@@ -19,7 +19,7 @@ pub record Example : Type 0 where
   pub answer : String  -- the waiting answer with its newline
   pub errors : List ℕ  -- the error queue; 222 stands for -222
   pub sets : List (ℕ × ℤ)  -- settings by their row, in steps; all others are as at *RST
-  pub bits : ℕ  -- of the status byte, those beside bit 4, an answer, and bit 2, an error
+  pub bits : ℕ  -- of the status byte, those besides bit 4, an answer, and bit 2, an error
 
 abbrev example : String → String → List ℕ → List (ℕ × ℤ) → Example
 example l a e s = record { before = []; line = l; answer = a; errors = e; sets = s; bits = 0 }
@@ -63,7 +63,7 @@ examples =
     -- it counts from the next unit on, and *RST ends it
     ∷ example "VOLT 5.05;:SYST:EXAM 1;:VOLT 6.05" "" (222 ∷ []) ((4, pos 51) ∷ (16, pos 1) ∷ [])
     ∷ example "SYST:EXAM 1;*RST;:VOLT 5.05;:SYST:EXAM?" "0\n" [] ((4, pos 51) ∷ [])
-    -- suffixes (02, #101): 01's `VOLT 5V` now sets 5.0
+    -- suffixes (02, #101): 01's `VOLT 5V` sets 5.0
     ∷ example "VOLT 5V;FREQ 0.06 KHZ;FREQ?" "60.0\n" [] ((4, pos 50) ∷ (6, pos 600) ∷ [])
     ∷ example "VOLT 5000 MV;FREQ 6E-5 MHZ" "" [] ((4, pos 50) ∷ (6, pos 600) ∷ [])
     ∷ example "volt 5e3mv;:curr:lim:rms:time 2 s" "" [] ((4, pos 50) ∷ (10, pos 2) ∷ [])

@@ -1,4 +1,4 @@
--- What the functions say that take bytes in. Nothing of 01 is defined here: see Line.antt.
+-- What the functions that take bytes in say. Nothing of 01 is defined here: see Line.antt.
 use mathlib.Core.Path.{_≡_}
 use Prim.Native.Nat.{_+_, _≤_}
 use lib.ListN.{length, take}

@@ -60,7 +60,7 @@ pub record Demand2OfCalls : Type 0 where
   pub answered : AnsweredOfCalls
   pub roundTrip : RoundTripOfCalls
 
--- ---- demand 3: calls from two power-ups, of which nothing is asked but that they are
+-- ---- demand 3: calls from two power-ups; nothing else is asked of the two first states
 
 abbrev pub Demand3OfCalls : Type 0
 Demand3OfCalls =

@@ -69,7 +69,7 @@ permitted d c = check 221 (not (blocked d && locked (c .registers))) >> check 22
 abbrev pub setCleared : RegisterSet → Core → Core
 setCleared x c = withRegisters (setRead x (c .registers)) c
 
--- "*CLS clears all three event registers"
+-- "*CLS clears all three event registers" (02, #104)
 abbrev pub allCleared : Core → Core
 allCleared c = withRegisters (allRead (c .registers)) c
 
@@ -90,7 +90,7 @@ afterInquiry StatusByte t = t
 afterInquiry NextError t = oldestRead t
 
 -- ---- the deed: "*OPC sets event bit 0"; "*CLS clears the event status register, the operation event register and the queue, nothing
--- else", by 02 "all three event registers"
+-- else", by 02 (#104) "all three event registers"
 
 unfoldable pub perform : Deed → Box → Checked Box
 perform (Change x) b = passed (box (changed x (b .core)) (b .trouble))

@@ -1,4 +1,4 @@
--- What the functions say that perform a deed. Nothing of 01 is defined here: see Perform.antt.
+-- What the functions that perform a deed say. Nothing of 01 is defined here: see Perform.antt.
 use mathlib.Core.Path.{_≡_}
 use Prim.Native.Nat.{_≤_}
 use Rattle.registers.specs.Settings.{withValue, atReset}
@@ -66,7 +66,7 @@ pub record StatusLeft (d : Deed) (s r : Status) : Type 0 where
   pub trouble : troubleOf r ≡ troubleLeft d (troubleOf s)
   pub queued : r .queued ≤ most
 
--- what a deed leaves, the answer apart
+-- what a deed leaves, but for the answer
 pub record After (d : Deed) (p r : Present) : Type 0 where
   pub settings : r .settings ≡ settingsLeft d (p .settings)
   pub status : StatusLeft d (p .status) (r .status)

@@ -1,4 +1,4 @@
--- What the functions say that raise an error, refuse a unit and discard an answer. Nothing of 01 is defined here: see Line.antt.
+-- What the functions that raise an error, refuse a unit or discard an answer say. Nothing of 01 is defined here: see Line.antt.
 use mathlib.Core.Path.{_≡_}
 use mathlib.Core.Bool.{false}
 use mathlib.Core.List.{[]}

@@ -1,4 +1,4 @@
--- What the functions say that answer a deed. Nothing of 01 is defined here: see Reply.antt.
+-- What the functions that answer a deed say. Nothing of 01 is defined here: see Reply.antt.
 use mathlib.Core.Path.{_≡_}
 use mathlib.Core.Bool.{Bool, true, false}
 use mathlib.Core.List.{[]}

@@ -44,8 +44,8 @@ unfoldable pub serves : Service → List Text → Service
 serves s [] = s
 serves s (line ∷ more) = if leb mostAnswer (length (s .rest)) then serves (servedLine s line) more else s
 
--- lines heard one after the other, whatever the room: each is received, and an answer that then waits is taken, so that it is gone.
--- It is what calls lead to that serve a chunk and then what was left of it
+-- lines heard one after the other, whatever the room: each is received, and an answer that then waits is taken and gone. Calls
+-- that serve a chunk, and then what was left of it, lead to this
 abbrev pub heardLine : Box → Text → Box
 heardLine b line = answerIs [] (happens b (received line) .box)
 

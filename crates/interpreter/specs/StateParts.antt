@@ -1,4 +1,4 @@
--- What the functions inside say that take a state apart and put it together. Nothing of 01 is defined here: see State.antt.
+-- What the functions that take a state apart and put it together say. Nothing of 01 is defined here: see State.antt.
 use mathlib.Core.Path.{_≡_}
 use mathlib.Core.Bool.{Bool}
 use lib.ListN.{length}

@@ -1,7 +1,8 @@
 // The upper crate of the bench box: lines, headers, units and answers, and the state with its five
 // events. It sees the lower crate's statements only.
 //
-// A caller needs `state` alone: State::power_up, piece, take, condition and look. None of them has a
+// A caller needs `state`: State::power_up, piece, take, condition and look; and to name a register set for condition,
+// registers::status::RegisterSet. A program that reads whole chunks calls `server::serve` instead. None of them has a
 // `requires`; each says of any record and any bytes what it answers.
 mod deed;
 mod flow;

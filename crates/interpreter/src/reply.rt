@@ -64,7 +64,7 @@ fn of_value(row: usize, value: i32) -> Reply
     }
 }
 
-// Says what a query answers that sees settings and registers alone.
+// Says the answer to a query that sees settings and registers alone.
 fn of_query(present: Present, query: Query) -> Reply
     ensures { λ r. ⌜ RepliesWith (replyTo query (coreIn (present .settings) (present .status))) r ⌝ }
 {
@@ -80,7 +80,7 @@ fn of_query(present: Present, query: Query) -> Reply
     }
 }
 
-// Says what an inquiry answers, which sees the event status register or the error queue.
+// Says the answer to an inquiry, which sees the event status register or the error queue too.
 fn of_inquiry(status: Status, answers: bool, inquiry: Inquiry) -> Reply
     ensures { λ r. ⌜ RepliesWith (inquiryText inquiry status answers) r ⌝ }
 {
@@ -91,7 +91,7 @@ fn of_inquiry(status: Status, answers: bool, inquiry: Inquiry) -> Reply
     }
 }
 
-// Says what a deed answers; one that asks nothing answers nothing.
+// Says the answer to a deed; one that asks nothing has none.
 fn of_deed(present: Present, deed: Deed) -> Reply
     ensures { λ r. ⌜ ReplyTo deed present (not (eqb (present .answered) 0)) r ⌝ }
 {

@@ -21,6 +21,7 @@ pub struct Served {
     pub state: State,
 }
 
+// The lines served so far: the small part of the state, and how many bytes of the output are written.
 struct Progress {
     flow: Flow,
     written: usize,
@@ -49,8 +50,8 @@ fn lines(
     Progress { flow, written }
 }
 
-// Feeds the input's lines and takes each answer into the output. It stops before a line for whose answer
-// the output may have no room; a caller writes the output away and calls again with the rest.
+// Feeds the input's lines and takes each answer into the output. It stops before a line whose answer might find no room there;
+// a caller writes the output away and calls again with the rest.
 pub fn serve(state: State, input: &[u8], output: &mut [u8]) -> Served
     ensures { λ r. ⌜ Serves state (now (input .entry)) (now (output .entry)) (numberOf (r .outcome)) (r .read) (r .written) (r .state) (now (output .exit)) ⌝ }
 {

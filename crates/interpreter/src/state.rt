@@ -53,11 +53,13 @@ pub struct Taken {
     pub state: State,
 }
 
+// What a report of a condition leaves.
 pub struct Reported {
     pub outcome: Outcome,
     pub state: State,
 }
 
+// What a look tells: the status byte.
 pub struct Seen {
     pub outcome: Outcome,
     pub byte: u8,
@@ -196,7 +198,7 @@ impl State {
         }
     }
 
-    // Takes the condition register of a set that the box reports.
+    // Takes in the condition that the box reports for a register set.
     pub fn condition(mut self, set: RegisterSet, value: u16) -> Reported
         ensures { λ r. ⌜ Happens self (condition set value) (result (numberOf (r .outcome)) 0 []) (r .state) ⌝ }
     {

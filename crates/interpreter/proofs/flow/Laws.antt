@@ -1,4 +1,6 @@
--- Laws of the bytes that come in: a text's first newline, bytes without one held at once, and a piece line by line.
+-- Bytes taken in line by line do what they do one at a time. A part without a newline is held at once, as far as the line has room
+-- (`piece-held`, by induction over its bytes). `Feeding` is the loop's invariant: the bytes read so far were fed; one part fed after another is
+-- both fed (`fed-then`).
 use mathlib.Core.Path.{_≡_, refl, sym, _∙_, ap}
 use mathlib.Core.Bool.{Bool, true, false, _||_, or-true, or-false}
 use mathlib.Core.List.{[], _∷_, _++_, append-nil, append-assoc}

@@ -1,4 +1,5 @@
--- Laws of one unit: it is refused by a check, or performed.
+-- One unit, by the promises of its three steps: reading refuses it, the lock or check 8 bars it, check 9 leaves it unanswered, or it is obeyed.
+-- Each is a case of the definition's chain of checks (`attempt-read` to `attempt-full`).
 use mathlib.Core.Path.{_≡_, refl, sym, _∙_, subst}
 use mathlib.Core.Bool.{true, false≢true}
 use mathlib.Core.List.{List}

@@ -1,4 +1,5 @@
--- Laws of the newline: an answer that waits is discarded, and the line that was held is run.
+-- The newline, by the ways through it: an overlong line, a blank one, and one whose units answered something or nothing. In each the
+-- definition computes once the tests are known; a line is blank exactly where the white space at its start is all of it (`whole-start`).
 use mathlib.Core.Path.{_≡_, refl, sym, _∙_}
 use mathlib.Core.Bool.{Bool, true, false}
 use mathlib.Core.List.{[], _∷_}

@@ -1,4 +1,5 @@
--- Laws of the units of a line: how they stand in it, and what is left to run after each.
+-- The loop over a line's units. Its invariant, `Going`: the units left at place `at`, run at the box as it stands, do what all units do from the
+-- start. A turn runs the unit up to the next `;`, which is the first of those left (`first-unit`); a refused one ends the line.
 use mathlib.Core.Path.{_≡_, refl, sym, _∙_}
 use mathlib.Core.Bool.{Bool, true, false, _&&_, false≢true}
 use mathlib.Core.List.{List, [], _∷_}

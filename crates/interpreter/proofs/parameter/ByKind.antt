@@ -1,4 +1,5 @@
--- What a setting's kind says of its parameters, in the four sorts of values that the code tells apart.
+-- What a setting's kind says of its parameters. The code is told one of four names (`Values`) in place of the kind; that both say the same is
+-- computed over all rows at once (`kinds-agree`), and past the table a row counts as a bool.
 use mathlib.Core.Path.{_≡_, refl, ap, sym, _∙_}
 use mathlib.Core.Bool.{Bool, true, false, not, _&&_, _||_, false≢true}
 use mathlib.Core.List.{[], _∷_}

@@ -1,4 +1,5 @@
--- The loop that counts the parameters: how far it has come, by what is left of the text.
+-- The loop that counts the parameters. Its invariant, `Counting`: the parts begun and those left of the cut text are all parts, and what is known
+-- of the ended ones with those left says whether all are filled.
 use mathlib.Core.Path.{_≡_, refl, ap, sym, _∙_}
 use mathlib.Core.Bool.{Bool, true, false, not, _&&_, _||_}
 use mathlib.Core.List.{List, [], _∷_, map}

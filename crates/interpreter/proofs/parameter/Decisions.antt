@@ -1,4 +1,5 @@
--- Check 7 and exam mode on a value, and how what checks 5 and 6 say of a parameter is carried on.
+-- Checks 5 to 7 by the answers that the code gets: what a word or a number gives goes through check 7 and exam mode as in the definition's
+-- chain (`setting-is`, `register-is`). By cases, in which the definition computes.
 use mathlib.Core.Path.{_≡_, refl, sym, ap, _∙_}
 use mathlib.Core.Bool.{Bool, true, false, not, _&&_, false≢true, and-true}
 use mathlib.Core.List.{[], _∷_}

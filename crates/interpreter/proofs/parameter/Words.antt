@@ -1,4 +1,5 @@
--- Check 5 on a word: the search through the words of a row, which stand together in the table, and what a search can find.
+-- Check 5 on a word. The loop's invariant, `Searching`: what is found among the words not yet tried is what is found among all. No text with
+-- another byte than letters, digits and underscore spells a word (`word-bytes`), so that the search alone refuses it.
 use mathlib.Core.Path.{_≡_, refl, sym}
 use mathlib.Core.Bool.{Bool, true, false, _&&_, _||_, false≢true, or-true}
 use mathlib.Core.List.{List, [], _∷_, map}

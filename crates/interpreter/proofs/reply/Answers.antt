@@ -1,4 +1,5 @@
--- Where a reply stands in the buffer, after the answers so far.
+-- Where a reply stands in the buffer: in the tail that was lent, after the answers so far and a separator, over which the first answer is
+-- written (`stands`). Check 9 is then a comparison of its length with the tail's (`given-over`, `given-whole`).
 use mathlib.Core.Path.{_≡_, refl, sym, ap, _∙_}
 use mathlib.Core.Bool.{true, not}
 use mathlib.Core.List.{[], _∷_, _++_}

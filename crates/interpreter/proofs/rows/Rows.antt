@@ -1,4 +1,5 @@
--- The row table ties to the rows: what a row's cells say, node by node.
+-- The row table ties to the rows. A cell is what the definition put there (`cell`), and that a row's bytes give back its nodes and its forms is
+-- computed once over all rows (`nodes-back`, `forms-back`).
 use mathlib.Core.Path.{_≡_, refl, sym, _∙_}
 use mathlib.Core.Bool.{Bool, true, false, not, _&&_}
 use mathlib.Core.List.{List, [], _∷_, _++_, map}

@@ -1,4 +1,5 @@
--- Laws of the search for a row: over the rows, and within one over its nodes.
+-- The search for a row. `Seeking`, its invariant over the rows: the first fit among those left is the first of all. `Trying`, its invariant
+-- within a row: the nodes left against the names left decide as all nodes do.
 use mathlib.Core.Path.{_≡_, refl, _∙_, ap, subst}
 use mathlib.Core.Bool.{Bool, true, false}
 use mathlib.Core.List.{List, [], _∷_}

@@ -1,4 +1,5 @@
--- What each event leaves of the record, as the box that it means.
+-- What each event leaves of the record, as the box that it means: by the ways that the code takes, in each of which the definition of the
+-- event computes once the test is known.
 use mathlib.Core.Path.{_≡_, refl, sym, _∙_}
 use mathlib.Core.Bool.{Bool, true, false, not, false≢true}
 use mathlib.Core.List.{[], _++_}

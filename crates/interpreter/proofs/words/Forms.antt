@@ -1,4 +1,5 @@
--- Laws of the word table.
+-- What a word's cells in the table say: the lengths of its two forms and its letters. A cell is read off the word's row (`cell`); that short forms
+-- start the long ones is one computed test over all words (`short-starts`).
 use mathlib.Core.Path.{_≡_, refl, sym, _∙_, ap}
 use mathlib.Core.Bool.{Bool, true}
 use mathlib.Core.List.{_++_}

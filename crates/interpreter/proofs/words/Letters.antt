@@ -1,4 +1,5 @@
--- Laws of a text and a word's letters: how far the two agree tells whether the text spells the word.
+-- How far a text and a word's letters agree tells whether the text spells the word (`word-is`, by induction over both). `Agreeing` is the walk's
+-- invariant: the first n bytes agree, and the rest is to be compared.
 use mathlib.Core.Path.{_≡_, refl, sym, _∙_, ap}
 use mathlib.Core.Bool.{Bool, true, false, _&&_, _||_}
 use mathlib.Core.List.{[], _∷_, map}
