@@ -8,7 +8,7 @@ use Prim.Native.String.{String}
 use lib.ListN.{set}
 use lib.IntN.{ℤ, pos}
 use Rattle.registers.specs.Text.{Text, if_then_else_, bytes, empty}
-use Rattle.registers.specs.Settings.{atReset, minus}
+use Rattle.registers.specs.Settings.{output, voltage, range, exam, atReset, minus}
 use Rattle.registers.specs.declared.status.RegisterSet.the-variants.{Operation, Lock, Warning}
 use Rattle.interpreter.specs.Box.{Box, powerUp}
 use Rattle.interpreter.specs.Events.{Event, received, condition, look, happens, after}
@@ -32,42 +32,61 @@ abbrev sent : String → Event
 sent l = received (bytes l ++ 10 ∷ [])
 
 -- the key turned
-abbrev locked : Event
-locked = condition Lock 4
+abbrev keyTurned : Event
+keyTurned = condition Lock 4
+
+-- rows of the table of settings, where no rule names them
+abbrev powerOn : ℕ
+powerOn = 1
+
+abbrev frequency : ℕ
+frequency = 6
+
+abbrev rms : ℕ
+rms = 7
+
+abbrev rmsTime : ℕ
+rmsTime = 10
+
+abbrev peakLow : ℕ
+peakLow = 13
+
+abbrev keyLock : ℕ
+keyLock = 15
 
 unfoldable pub examples : List Example
 examples =
-    example "VOLT 5;FREQ 60;VOLT?;FREQ?" "5.0;60.0\n" [] ((4, pos 50) ∷ (6, pos 600) ∷ [])
+    example "VOLT 5;FREQ 60;VOLT?;FREQ?" "5.0;60.0\n" [] ((voltage, pos 50) ∷ (frequency, pos 600) ∷ [])
     ∷ example "VOLTA 5" "" (113 ∷ []) []
-    ∷ example "volt:level:imm 7.25" "" [] ((4, pos 73) ∷ [])
-    ∷ example "VOLT 12.04" "" [] ((4, pos 120) ∷ [])
+    ∷ example "volt:level:imm 7.25" "" [] ((voltage, pos 73) ∷ [])
+    ∷ example "VOLT 12.04" "" [] ((voltage, pos 120) ∷ [])
     ∷ example "VOLT 12.05" "" (222 ∷ []) []
-    ∷ example "CURR:LIM:PEAK:LOW -0.45" "" [] ((13, minus 5) ∷ [])
+    ∷ example "CURR:LIM:PEAK:LOW -0.45" "" [] ((peakLow, minus 5) ∷ [])
     ∷ example "CURR:LIM:PEAK:LOW -0.44" "" (222 ∷ []) []
-    ∷ example "CURR:LIM:RMS 1.5;MODE OFF" "" (113 ∷ []) ((7, pos 15) ∷ [])
-    ∷ example "VOLT:RANG R24V;LEV 20;RANG R12V" "" (221 ∷ []) ((4, pos 200) ∷ (5, pos 1) ∷ [])
-    ∷ example "VOLT 5;;FREQ 60" "" (102 ∷ []) ((4, pos 50) ∷ [])
+    ∷ example "CURR:LIM:RMS 1.5;MODE OFF" "" (113 ∷ []) ((rms, pos 15) ∷ [])
+    ∷ example "VOLT:RANG R24V;LEV 20;RANG R12V" "" (221 ∷ []) ((voltage, pos 200) ∷ (range, pos 1) ∷ [])
+    ∷ example "VOLT 5;;FREQ 60" "" (102 ∷ []) ((voltage, pos 50) ∷ [])
     ∷ example "VOLT?;*STB?" "0.0;16\n" [] []
     -- exam mode: off the step is -222, within the limits or not, below the step or above it
-    ∷ example "SYST:EXAM 1\nVOLT 5.05" "" (222 ∷ []) ((16, pos 1) ∷ [])
-    ∷ example "SYST:EXAM 1\nVOLT 5.04" "" (222 ∷ []) ((16, pos 1) ∷ [])
-    ∷ example "SYST:EXAM 1\nVOLT 5.10" "" [] ((4, pos 51) ∷ (16, pos 1) ∷ [])
-    ∷ example "SYST:EXAM 1\nVOLT 99.99" "" (222 ∷ []) ((16, pos 1) ∷ [])
-    ∷ example "SYST:EXAM ON;:CURR:LIM:PEAK:LOW -0.45" "" (222 ∷ []) ((16, pos 1) ∷ [])
-    ∷ example "SYST:EXAM ON;:CURR:LIM:RMS:TIME 2.4" "" (222 ∷ []) ((16, pos 1) ∷ [])
-    ∷ example "SYST:EXAM ON;:VOLT MAX;:CURR:LIM:PEAK:LOW -0.5" "" [] ((4, pos 120) ∷ (13, minus 5) ∷ (16, pos 1) ∷ [])
+    ∷ example "SYST:EXAM 1\nVOLT 5.05" "" (222 ∷ []) ((exam, pos 1) ∷ [])
+    ∷ example "SYST:EXAM 1\nVOLT 5.04" "" (222 ∷ []) ((exam, pos 1) ∷ [])
+    ∷ example "SYST:EXAM 1\nVOLT 5.10" "" [] ((voltage, pos 51) ∷ (exam, pos 1) ∷ [])
+    ∷ example "SYST:EXAM 1\nVOLT 99.99" "" (222 ∷ []) ((exam, pos 1) ∷ [])
+    ∷ example "SYST:EXAM ON;:CURR:LIM:PEAK:LOW -0.45" "" (222 ∷ []) ((exam, pos 1) ∷ [])
+    ∷ example "SYST:EXAM ON;:CURR:LIM:RMS:TIME 2.4" "" (222 ∷ []) ((exam, pos 1) ∷ [])
+    ∷ example "SYST:EXAM ON;:VOLT MAX;:CURR:LIM:PEAK:LOW -0.5" "" [] ((voltage, pos 120) ∷ (peakLow, minus 5) ∷ (exam, pos 1) ∷ [])
     -- bools and registers round as before, SYSTem:EXAM itself too
-    ∷ example "OUTP 1;:SYST:EXAM 1;:OUTP 0.4" "" [] ((16, pos 1) ∷ [])
-    ∷ example "SYST:EXAM 1;*ESE 4.4;*ESE?" "4\n" [] ((16, pos 1) ∷ [])
+    ∷ example "OUTP 1;:SYST:EXAM 1;:OUTP 0.4" "" [] ((exam, pos 1) ∷ [])
+    ∷ example "SYST:EXAM 1;*ESE 4.4;*ESE?" "4\n" [] ((exam, pos 1) ∷ [])
     ∷ example "SYST:EXAM 1;EXAM 0.4;EXAM?" "0\n" [] []
     -- it counts from the next unit on, and *RST ends it
-    ∷ example "VOLT 5.05;:SYST:EXAM 1;:VOLT 6.05" "" (222 ∷ []) ((4, pos 51) ∷ (16, pos 1) ∷ [])
-    ∷ example "SYST:EXAM 1;*RST;:VOLT 5.05;:SYST:EXAM?" "0\n" [] ((4, pos 51) ∷ [])
+    ∷ example "VOLT 5.05;:SYST:EXAM 1;:VOLT 6.05" "" (222 ∷ []) ((voltage, pos 51) ∷ (exam, pos 1) ∷ [])
+    ∷ example "SYST:EXAM 1;*RST;:VOLT 5.05;:SYST:EXAM?" "0\n" [] ((voltage, pos 51) ∷ [])
     -- suffixes (02, #101): 01's `VOLT 5V` sets 5.0
-    ∷ example "VOLT 5V;FREQ 0.06 KHZ;FREQ?" "60.0\n" [] ((4, pos 50) ∷ (6, pos 600) ∷ [])
-    ∷ example "VOLT 5000 MV;FREQ 6E-5 MHZ" "" [] ((4, pos 50) ∷ (6, pos 600) ∷ [])
-    ∷ example "volt 5e3mv;:curr:lim:rms:time 2 s" "" [] ((4, pos 50) ∷ (10, pos 2) ∷ [])
-    ∷ example "CURR:LIM:PEAK:LOW -450 MA" "" [] ((13, minus 5) ∷ [])
+    ∷ example "VOLT 5V;FREQ 0.06 KHZ;FREQ?" "60.0\n" [] ((voltage, pos 50) ∷ (frequency, pos 600) ∷ [])
+    ∷ example "VOLT 5000 MV;FREQ 6E-5 MHZ" "" [] ((voltage, pos 50) ∷ (frequency, pos 600) ∷ [])
+    ∷ example "volt 5e3mv;:curr:lim:rms:time 2 s" "" [] ((voltage, pos 50) ∷ (rmsTime, pos 2) ∷ [])
+    ∷ example "CURR:LIM:PEAK:LOW -450 MA" "" [] ((peakLow, minus 5) ∷ [])
     ∷ example "VOLT 5A" "" (131 ∷ []) []
     ∷ example "CURR:LIM:RMS:TIME 1500 MS" "" (131 ∷ []) []
     ∷ example "DISP:BRIG 5S" "" (138 ∷ []) []
@@ -78,8 +97,8 @@ examples =
     ∷ example "VOLT MAX V" "" (141 ∷ []) []
     ∷ example "VOLT? 5V" "" (104 ∷ []) []
     -- the scaled value is what exam mode holds to the step
-    ∷ example "SYST:EXAM 1\nVOLT 5050 MV" "" (222 ∷ []) ((16, pos 1) ∷ [])
-    ∷ example "SYST:EXAM 1\nVOLT 5100 MV;:FREQ 0.0601 KHZ" "" [] ((4, pos 51) ∷ (6, pos 601) ∷ (16, pos 1) ∷ [])
+    ∷ example "SYST:EXAM 1\nVOLT 5050 MV" "" (222 ∷ []) ((exam, pos 1) ∷ [])
+    ∷ example "SYST:EXAM 1\nVOLT 5100 MV;:FREQ 0.0601 KHZ" "" [] ((voltage, pos 51) ∷ (frequency, pos 601) ∷ (exam, pos 1) ∷ [])
     -- the lock and warning registers: each set has the five commands of STATus:OPERation and its own condition event
     ∷ example "STAT:LOCK:COND?;ENAB?;NTR?;PTR?;:STAT:WARN:ENAB?;NTR?;PTR?" "0;0;0;32767;0;0;32767\n" [] []
     ∷ example "STAT:LOC?" "" (113 ∷ []) []
@@ -95,25 +114,25 @@ examples =
     ∷ following (condition Lock 4 ∷ condition Warning 4 ∷ []) "*STB?" "0\n" [] [] 0
     ∷ following (sent "STAT:LOCK:ENAB 1;*SRE 1" ∷ condition Lock 1 ∷ []) "" "" [] [] 65
     -- the lock: after the value's checks and before check 8, whatever the value is; *RST after -108
-    ∷ following (locked ∷ []) "VOLT 99" "" (222 ∷ []) [] 0
-    ∷ following (sent "SYST:EXAM 1" ∷ locked ∷ []) "VOLT 5.05" "" (222 ∷ []) ((16, pos 1) ∷ []) 0
-    ∷ following (locked ∷ []) "VOLT 5" "" (221 ∷ []) [] 0
-    ∷ following (locked ∷ []) "VOLT 0" "" (221 ∷ []) [] 0
-    ∷ following (sent "VOLT:RANG R24V;LEV 20" ∷ locked ∷ []) "VOLT:RANG R12V" "" (221 ∷ []) ((4, pos 200) ∷ (5, pos 1) ∷ []) 0
-    ∷ following (sent "VOLT 5" ∷ locked ∷ []) "*RST" "" (221 ∷ []) ((4, pos 50) ∷ []) 0
-    ∷ following (locked ∷ []) "*RST 1" "" (108 ∷ []) [] 0
+    ∷ following (keyTurned ∷ []) "VOLT 99" "" (222 ∷ []) [] 0
+    ∷ following (sent "SYST:EXAM 1" ∷ keyTurned ∷ []) "VOLT 5.05" "" (222 ∷ []) ((exam, pos 1) ∷ []) 0
+    ∷ following (keyTurned ∷ []) "VOLT 5" "" (221 ∷ []) [] 0
+    ∷ following (keyTurned ∷ []) "VOLT 0" "" (221 ∷ []) [] 0
+    ∷ following (sent "VOLT:RANG R24V;LEV 20" ∷ keyTurned ∷ []) "VOLT:RANG R12V" "" (221 ∷ []) ((voltage, pos 200) ∷ (range, pos 1) ∷ []) 0
+    ∷ following (sent "VOLT 5" ∷ keyTurned ∷ []) "*RST" "" (221 ∷ []) ((voltage, pos 50) ∷ []) 0
+    ∷ following (keyTurned ∷ []) "*RST 1" "" (108 ∷ []) [] 0
     -- "switching off is never blocked", in any spelling; no other bool can be switched off, and the rest of a refused line is dropped
-    ∷ following (sent "OUTP 1" ∷ locked ∷ []) "OUTP:STAT OFF" "" [] [] 0
-    ∷ following (sent "OUTP 1" ∷ locked ∷ []) "OUTP 0.4" "" [] [] 0
-    ∷ following (sent "OUTP 1" ∷ locked ∷ []) "OUTP 1;OUTP 0" "" (221 ∷ []) ((0, pos 1) ∷ []) 0
-    ∷ following (sent "OUTP:PON 1" ∷ locked ∷ []) "OUTP:PON 0" "" (221 ∷ []) ((1, pos 1) ∷ []) 0
-    ∷ following (sent "SYST:KLOC 1" ∷ locked ∷ []) "SYST:KLOC 0" "" (221 ∷ []) ((15, pos 1) ∷ []) 0
+    ∷ following (sent "OUTP 1" ∷ keyTurned ∷ []) "OUTP:STAT OFF" "" [] [] 0
+    ∷ following (sent "OUTP 1" ∷ keyTurned ∷ []) "OUTP 0.4" "" [] [] 0
+    ∷ following (sent "OUTP 1" ∷ keyTurned ∷ []) "OUTP 1;OUTP 0" "" (221 ∷ []) ((output, pos 1) ∷ []) 0
+    ∷ following (sent "OUTP:PON 1" ∷ keyTurned ∷ []) "OUTP:PON 0" "" (221 ∷ []) ((powerOn, pos 1) ∷ []) 0
+    ∷ following (sent "SYST:KLOC 1" ∷ keyTurned ∷ []) "SYST:KLOC 0" "" (221 ∷ []) ((keyLock, pos 1) ∷ []) 0
     -- queries, register commands, *CLS, *OPC and *WAI work
-    ∷ following (sent "OUTP 2,3" ∷ locked ∷ []) "VOLT?;*ESE 4;*OPC;*WAI;*CLS;*ESE?;:STAT:LOCK:PTR 5;PTR?" "0.0;4;5\n" [] [] 0
+    ∷ following (sent "OUTP 2,3" ∷ keyTurned ∷ []) "VOLT?;*ESE 4;*OPC;*WAI;*CLS;*ESE?;:STAT:LOCK:PTR 5;PTR?" "0.0;4;5\n" [] [] 0
     -- an event that is left over doesn't lock, and a masked PTR doesn't unlock
-    ∷ following (locked ∷ condition Lock 0 ∷ []) "VOLT 5;:STAT:LOCK?" "4\n" [] ((4, pos 50) ∷ []) 0
+    ∷ following (keyTurned ∷ condition Lock 0 ∷ []) "VOLT 5;:STAT:LOCK?" "4\n" [] ((voltage, pos 50) ∷ []) 0
     ∷ following (sent "STAT:LOCK:PTR 0" ∷ condition Lock 16384 ∷ []) "STAT:LOCK?;:VOLT 5" "0\n" (221 ∷ []) [] 0
-    ∷ following (condition Operation 4 ∷ condition Warning 4 ∷ []) "VOLT 5" "" [] ((4, pos 50) ∷ []) 0
+    ∷ following (condition Operation 4 ∷ condition Warning 4 ∷ []) "VOLT 5" "" [] ((voltage, pos 50) ∷ []) 0
     ∷ []
 
 -- what is compared: the answer, the queue, every setting, and the status byte that look then sees

@@ -13,7 +13,7 @@ use Rattle.registers.specs.Rounding.{switchedOn, nearest, sizeIn, rounded, size
 use Rattle.registers.specs.Answer.{inPlaces, decimal, tenths}
 use Rattle.registers.specs.Error.{eventBit}
 use Rattle.registers.specs.Queue.{mayBeQueued, queueable}
-use Rattle.registers.specs.Settings.{count, table, settingAt, atReset, wideRange, lowest, highest, within, conflict, examined, accepted, answerOf}
+use Rattle.registers.specs.Settings.{count, voltage, table, settingAt, atReset, wideRange, lowest, highest, within, conflict, examined, accepted, answerOf}
 use Rattle.registers.specs.Group.{rises, falls, eventsAfter, conditionIs, possibleGroup}
 use Rattle.registers.specs.Status.{raised, locked, atStart, registersOf, possibleRegisters, possibleTrouble}
 use Rattle.registers.specs.declared.status.RegisterSet.the-variants.{Lock}
@@ -73,16 +73,16 @@ abbrev sentLocked : List Event
 sentLocked = condition Lock 1 ∷ text "VOLT 0.0" ∷ []
 
 pub record LockMatters : Type 0 where
-  pub trip : Trip powerUp 4 (bytes "0.0") buffer (takenFrom powerUp unlocked [] buffer) unlocked [] sentLocked
+  pub trip : Trip powerUp voltage (bytes "0.0") buffer (takenFrom powerUp unlocked [] buffer) unlocked [] sentLocked
   pub locks : locked (after powerUp (sentBack unlocked [] buffer sentLocked) .core .registers) ≡ true
   pub refusedBy : lineRefusal (after powerUp (sentBack unlocked [] buffer sentLocked)) ≡ 221
 
 pub record Met2 : Type 0 where
   pub everyRow : (i : ℕ) → i < count → PremisesAt i (tripAt trips i)
-  pub oneMore : Premises powerUp 4 (bytes "0.0") buffer (takenFrom powerUp before early buffer) before early late
+  pub oneMore : Premises powerUp voltage (bytes "0.0") buffer (takenFrom powerUp before early buffer) before early late
   pub examOn : examined (after powerUp inExam .core .settings) ≡ true
-  pub examTrip : Premises powerUp 4 (bytes "5.1") buffer (takenFrom powerUp inExam [] buffer) inExam [] sentInExam
-  pub otherTrip : Premises other 4 (bytes "0.0") buffer (takenFrom other restOfLine [] buffer) restOfLine [] sentOther
+  pub examTrip : Premises powerUp voltage (bytes "5.1") buffer (takenFrom powerUp inExam [] buffer) inExam [] sentInExam
+  pub otherTrip : Premises other voltage (bytes "0.0") buffer (takenFrom other restOfLine [] buffer) restOfLine [] sentOther
   pub lockMatters : LockMatters
 
 pub met2 : Met2
@@ -96,8 +96,8 @@ unfolding if_then_else_ bytes same white printable digit letter wordByte small c
     attempt refuse runUnits interrupted finished unitsOf runLine endLine held byte piece taken reported happens after
     inLine refusal lineRefusal
 met2 =
-    let spelled : Spelling 4 (bytes "VOLT") = record { read = _; reads = refl; sets = refl; row = refl } in
-    let sent : (b : Box) (a : Text) → b .core .overlong ≡ false → b .core .line ≡ bytes "VOLT" ++ (bytes " " ++ (a ++ [])) → Sends 4 a b =
+    let spelled : Spelling voltage (bytes "VOLT") = record { read = _; reads = refl; sets = refl; row = refl } in
+    let sent : (b : Box) (a : Text) → b .core .overlong ≡ false → b .core .line ≡ bytes "VOLT" ++ (bytes " " ++ (a ++ [])) → Sends voltage a b =
     λ b a w l. record {
       whole = w;
       left = [];
