@@ -1,3 +1,4 @@
+-- The loop over the reads. Invariant: the three buffers keep their lengths. Measure: the turns left.
 use mathlib.Core.Path.{_≡_}
 use lib.ListN.{length}
 use borrow.Author.Needs.{needs}

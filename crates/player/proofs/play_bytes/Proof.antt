@@ -1,3 +1,4 @@
+-- The loop over the bytes of one read. Invariant: the line's buffer and the report's keep their lengths. Measure: the bytes left.
 use Prim.Native.Nat.{_-_}
 use mathlib.Core.Path.{_≡_}
 use lib.ListN.{length}

@@ -1,3 +1,4 @@
+-- The loop over the list. Invariant: the report's buffer keeps its length. Measure: the numbers left.
 use native.Mathlib.Omega.{arith}
 use Prim.Native.Nat.{_-_}
 use mathlib.Core.Path.{_≡_}
@@ -30,8 +31,8 @@ same-length-2 c = search needs
 returns-2 : tie.Need-returns-2 Inv-loop μ-loop
 returns-2 c = search needs
 
-parted-requires : tie.Need-parted-requires Inv-loop μ-loop
-parted-requires c κs = search needs
+put-separator-requires : tie.Need-put-separator-requires Inv-loop μ-loop
+put-separator-requires c κs = search needs
 
 mul-put-number : tie.Need-mul-put-number Inv-loop μ-loop
 mul-put-number c = search needs
@@ -72,7 +73,7 @@ numbers-spec =
     loop-holds
     same-length-2
     returns-2
-    parted-requires
+    put-separator-requires
     mul-put-number
     shared-slice-read-put-number
     cast-put-number

@@ -14,8 +14,8 @@ abbrev μ-loop : tie.MeasureT-loop
 loop-holds : tie.Need-loop-holds Inv-loop μ-loop
 loop-holds c = search needs
 
-parted-requires : tie.Need-parted-requires Inv-loop μ-loop
-parted-requires c κs = search needs
+put-separator-requires : tie.Need-put-separator-requires Inv-loop μ-loop
+put-separator-requires c κs = search needs
 
 mul-put-signed : tie.Need-mul-put-signed Inv-loop μ-loop
 mul-put-signed c = search needs
@@ -48,7 +48,7 @@ signed-numbers-spec =
     Inv-loop
     μ-loop
     loop-holds
-    parted-requires
+    put-separator-requires
     mul-put-signed
     shared-slice-copy-out-put-signed
     put-signed-requires

@@ -1,3 +1,5 @@
+-- The loop over a number's digits. Invariant: script/Laws' `Reading`, the digits left, read after the number so far, spell what the whole text
+-- does. Measure: the bytes left.
 use mathlib.Core.Path.{sym, _∙_}
 use Prim.Native.Nat.{_-_}
 use lib.ListN.{length, getD}

@@ -1,3 +1,5 @@
+-- The loop over pairs of hex digits. Invariant: the buffer keeps its length, and no more bytes were put than it has. Measure: the bytes of the
+-- text left.
 use lib.ListN.{length-set, length}
 use Prim.Native.Nat.{_≤_, _-_}
 use mathlib.Core.Path.{_≡_}
