@@ -22,7 +22,7 @@ const BUFFER: usize = 8192;
 // What each byte of that buffer is before.
 const UNTOUCHED: u8 = 0xAA;
 
-// The most bytes that a script line spells.
+// The room for a piece: half of that for a line, since two hex digits spell a byte.
 const PIECE: usize = 65536;
 
 // Leaves the state as it is where a line can't be read, and reports nothing.
@@ -198,7 +198,7 @@ fn overwrite(state: State, text: &[u8], out: &mut [u8]) -> Played {
     unreadable(after)
 }
 
-// Plays a line of one letter; a piece without digits is empty.
+// Plays a line of one letter; `p` alone is an empty piece.
 fn play_letter(state: State, letter: u8, out: &mut [u8]) -> Played {
     match letter {
         b'u' => power_up(out),

@@ -1,3 +1,4 @@
+-- The loop over the list. Invariant: the report's buffer keeps its length. Measure: the numbers left.
 use Prim.Native.Nat.{_-_}
 use mathlib.Core.Path.{_≡_}
 use lib.ListN.{length}
