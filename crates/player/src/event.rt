@@ -37,7 +37,7 @@ fn power_up(out: &mut [u8]) -> Played {
     Played { state, length }
 }
 
-// Plays a piece, and reports how many of its bytes were taken in.
+// Plays a piece, and reports how many newlines it had.
 fn receive(state: State, piece: &[u8], out: &mut [u8]) -> Played {
     let fed = state.piece(piece);
     let outcome = fed.outcome;

@@ -76,7 +76,7 @@ fn place_in(name: &[u8], array: &[u8]) -> usize
     place(&name[end..])
 }
 
-// Finds a register of a set by its name.
+// Finds a register of a set by its name; gives Unknown for any other name.
 fn of_set(set: RegisterSet, name: &[u8]) -> Field {
     if check::same(name, b"condition") {
         return Field::Condition(set);

@@ -13,10 +13,11 @@
 //                                                                OVERLONG LINE ANSWER LOCK WARNING
 //     x FIELD VALUE   a number of the raw record overwritten   x
 //
-// NUMBER is 0 or the refusal's in 01's table. Every byte of take's buffer is AA before. SETTINGS
-// are the sixteen in 01's order and SYSTem:EXAM, with commas between (bools 0 and 1, words by their
-// place, numbers in steps); QUEUE the error numbers, without their minus; OVERLONG 0 or 1; BUFFER,
-// LINE and ANSWER hex in capitals; LOCK and WARNING the five registers of each, in the order
+// NUMBER is 0 or the refusal's in 01's table; COUNT that of the piece's newlines; LENGTH the
+// answer's, also where the buffer is too short for it. Every byte of take's buffer is AA before.
+// SETTINGS are the sixteen in 01's order and SYSTem:EXAM, with commas between (bools 0 and 1, words
+// by their place, numbers in steps); QUEUE the error numbers, without their minus; OVERLONG 0 or 1;
+// BUFFER, LINE and ANSWER hex in capitals; LOCK and WARNING the five registers of each, in the order
 // CONDITION EVENT ENABLE PTR NTR. What is empty is `-`. A hand-made length past its array shows the
 // whole array.
 //
