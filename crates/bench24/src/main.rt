@@ -22,7 +22,7 @@ ghost use Rattle.interpreter.specs.Box.{mostAnswer};
 ghost use Rattle.interpreter.specs.State.{possibleState};
 ghost use Rattle.bench24.specs.Heard.{HeardPart, HeardSince};
 
-// The box behind what was heard, and whether it still serves.
+// The box after what was heard, and whether it still serves.
 struct Bench {
     state: State,
     serving: bool,

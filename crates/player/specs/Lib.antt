@@ -1,2 +1,2 @@
-pub mod Digits
-pub mod Numbers
+pub mod ReportParts
+pub mod ScriptParts

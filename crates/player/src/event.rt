@@ -1,4 +1,5 @@
-// The events of a script, each played on a state and answered by a report without its newline.
+// Plays the events of a script, each on a state, and writes the report that answers it, without its
+// newline.
 use crate::field;
 use crate::report;
 use crate::script;
@@ -9,30 +10,34 @@ use registers::settings::Settings;
 use registers::status::RegisterSet;
 use registers::status::Status;
 
-// The state behind an event and the report's length: 0 where the line can't be read.
+// The state after an event, and the report's length: 0 where the line can't be read.
 pub(crate) struct Played {
     pub(crate) state: State,
     pub(crate) length: usize,
 }
 
-// The longest buffer that take is lent, and what each of its bytes is before.
+// The longest buffer that take is lent.
 const BUFFER: usize = 8192;
 
+// What each byte of that buffer is before.
 const UNTOUCHED: u8 = 0xAA;
 
-// The most bytes that a script line spells.
+// The room for a piece: half of that for a line, since two hex digits spell a byte.
 const PIECE: usize = 65536;
 
+// Leaves the state as it is where a line can't be read, and reports nothing.
 pub(crate) fn unreadable(state: State) -> Played {
     Played { state, length: 0 }
 }
 
+// Plays a power-up, whatever the state was.
 fn power_up(out: &mut [u8]) -> Played {
     let length = report::put(out, 0, b'u');
     let state = State::power_up();
     Played { state, length }
 }
 
+// Plays a piece, and reports how many newlines it had.
 fn receive(state: State, piece: &[u8], out: &mut [u8]) -> Played {
     let fed = state.piece(piece);
     let outcome = fed.outcome;
@@ -45,7 +50,7 @@ fn receive(state: State, piece: &[u8], out: &mut [u8]) -> Played {
     }
 }
 
-// A piece that a text of hex digits spells.
+// Plays the piece that a text of hex digits spells.
 fn receive_hex(state: State, text: &[u8], out: &mut [u8]) -> Played {
     let mut bytes = [0u8; PIECE];
     let n = script::unhex(text, &mut bytes);
@@ -55,6 +60,7 @@ fn receive_hex(state: State, text: &[u8], out: &mut [u8]) -> Played {
     receive(state, &bytes[0..n], out)
 }
 
+// Plays a take, and reports all of the buffer, so that a byte that was touched shows.
 fn take_into(state: State, buffer: &mut [u8], out: &mut [u8]) -> Played {
     let taken = state.take(buffer);
     let outcome = taken.outcome;
@@ -68,6 +74,7 @@ fn take_into(state: State, buffer: &mut [u8], out: &mut [u8]) -> Played {
     }
 }
 
+// Plays a take into a buffer of the length that a text spells.
 fn take(state: State, text: &[u8], out: &mut [u8]) -> Played {
     let n = script::decimal(text);
     if (BUFFER as u64) < n {
@@ -78,15 +85,24 @@ fn take(state: State, text: &[u8], out: &mut [u8]) -> Played {
     take_into(state, &mut buffer[0..end], out)
 }
 
-// The condition register of a set, reported under a letter.
-fn condition(state: State, set: RegisterSet, letter: u8, text: &[u8], out: &mut [u8]) -> Played {
+// Gives the letter of the event that reports a set's condition.
+fn letter_of(set: RegisterSet) -> u8 {
+    match set {
+        RegisterSet::Operation => b'c',
+        RegisterSet::Lock => b'k',
+        RegisterSet::Warning => b'w',
+    }
+}
+
+// Plays the report of a set's condition, which a text spells.
+fn condition(state: State, set: RegisterSet, text: &[u8], out: &mut [u8]) -> Played {
     let value = script::decimal(text);
-    if 65535 < value {
+    if script::WIDEST < value {
         return unreadable(state);
     }
     let reported = state.condition(set, value as u16);
     let outcome = reported.outcome;
-    let length = report::outcome(out, letter, outcome);
+    let length = report::outcome(out, letter_of(set), outcome);
     let after = reported.state;
     Played {
         state: after,
@@ -94,6 +110,7 @@ fn condition(state: State, set: RegisterSet, letter: u8, text: &[u8], out: &mut 
     }
 }
 
+// Plays a look, and reports the status byte.
 fn look(state: State, out: &mut [u8]) -> Played {
     let seen = state.look();
     let outcome = seen.outcome;
@@ -102,6 +119,7 @@ fn look(state: State, out: &mut [u8]) -> Played {
     Played { state, length }
 }
 
+// Writes the five registers of a set.
 fn show_group(group: Group, from: usize, out: &mut [u8]) -> usize {
     let condition = report::number(out, from, group.condition as u64);
     let event = report::number(out, condition, group.event as u64);
@@ -110,6 +128,7 @@ fn show_group(group: Group, from: usize, out: &mut [u8]) -> usize {
     report::number(out, ptr, group.ntr as u64)
 }
 
+// Writes the event status register, the two enables and OPERation's registers.
 fn show_registers(status: Status, from: usize, out: &mut [u8]) -> usize {
     let events = report::number(out, from, status.events as u64);
     let ese = report::number(out, events, status.ese as u64);
@@ -117,44 +136,50 @@ fn show_registers(status: Status, from: usize, out: &mut [u8]) -> usize {
     show_group(status.group(RegisterSet::Operation), sre, out)
 }
 
+// Writes the errors that wait.
 fn show_queue(status: Status, from: usize, out: &mut [u8]) -> usize {
     let errors = status.errors;
     report::numbers(out, from, &errors, status.queued)
 }
 
+// Writes the overlong mark, and the bytes that are held of the line.
 fn show_line(state: State, from: usize, out: &mut [u8]) -> usize {
     let line = state.line;
     let at = report::number(out, from, state.overlong as u64);
     report::hex_front(out, at, &line, state.filled)
 }
 
+// Writes the answer that waits.
 fn show_answer(state: State, from: usize, out: &mut [u8]) -> usize {
     let answer = state.answer;
     report::hex_front(out, from, &answer, state.waiting)
 }
 
+// Writes the settings in the order of their rows.
 fn show_settings(settings: Settings, from: usize, out: &mut [u8]) -> usize {
     let values = settings.values;
     report::signed_numbers(out, from, &values)
 }
 
-// What stands behind the line.
-fn show_behind(state: State, from: usize, out: &mut [u8]) -> usize {
+// Writes what a report has after the line: the answer, and the registers of LOCK and WARNing.
+fn show_rest(state: State, from: usize, out: &mut [u8]) -> usize {
     let answer = show_answer(state, from, out);
     let lock = show_group(state.status.group(RegisterSet::Lock), answer, out);
     show_group(state.status.group(RegisterSet::Warning), lock, out)
 }
 
+// Reports the state, in the order that the head of main.rt gives.
 fn show(state: State, out: &mut [u8]) -> Played {
     let letter = report::put(out, 0, b's');
     let values = show_settings(state.settings, letter, out);
     let registers = show_registers(state.status, values, out);
     let queue = show_queue(state.status, registers, out);
     let line = show_line(state, queue, out);
-    let length = show_behind(state, line, out);
+    let length = show_rest(state, line, out);
     Played { state, length }
 }
 
+// Plays an overwriting: a blank parts the field's name from its value.
 fn overwrite(state: State, text: &[u8], out: &mut [u8]) -> Played {
     let end = scan::find(text, 0, text.len(), b' ');
     if end == text.len() {
@@ -173,7 +198,7 @@ fn overwrite(state: State, text: &[u8], out: &mut [u8]) -> Played {
     unreadable(after)
 }
 
-// A line of one letter.
+// Plays a line of one letter; `p` alone is an empty piece.
 fn play_letter(state: State, letter: u8, out: &mut [u8]) -> Played {
     match letter {
         b'u' => power_up(out),
@@ -184,20 +209,20 @@ fn play_letter(state: State, letter: u8, out: &mut [u8]) -> Played {
     }
 }
 
-// A letter with a text behind it.
+// Plays a letter that a text follows.
 fn play_text(state: State, letter: u8, text: &[u8], out: &mut [u8]) -> Played {
     match letter {
         b'p' => receive_hex(state, text, out),
         b't' => take(state, text, out),
-        b'c' => condition(state, RegisterSet::Operation, letter, text, out),
-        b'k' => condition(state, RegisterSet::Lock, letter, text, out),
-        b'w' => condition(state, RegisterSet::Warning, letter, text, out),
+        b'c' => condition(state, RegisterSet::Operation, text, out),
+        b'k' => condition(state, RegisterSet::Lock, text, out),
+        b'w' => condition(state, RegisterSet::Warning, text, out),
         b'x' => overwrite(state, text, out),
         _ => unreadable(state),
     }
 }
 
-// The event that a line names.
+// Plays the event that a line names by its letter; a blank parts the letter from what follows.
 pub(crate) fn play(state: State, text: &[u8], out: &mut [u8]) -> Played {
     if text.len() == 0 {
         return unreadable(state);

@@ -1,4 +1,4 @@
-// The numbers of the raw record that a script can overwrite.
+// Overwrites a number of the raw record, so that states can be tried that the box never comes to.
 use crate::script;
 use crate::script::Reading;
 use interpreter::state::State;
@@ -7,7 +7,10 @@ use registers::settings::Settings;
 use registers::status::RegisterSet;
 use registers::status::Status;
 ghost use Prim.Native.Nat.{_≤_};
+ghost use lib.ListN.{length};
+ghost use Rattle.registers.specs.Settings.{count};
 
+// The numbers of the record that a script can name.
 pub(crate) enum Field {
     Setting(usize),
     Events,
@@ -31,20 +34,17 @@ pub(crate) struct Overwritten {
     pub(crate) readable: bool,
 }
 
-// The largest value of a register, an error and a length.
-const WIDEST: u64 = 65535;
-
 // As many places as the longer of the record's two arrays has.
-const PLACES: usize = 17;
+const PLACES: usize = Settings::COUNT;
 
-// The place that a text spells, PLACES for any other text.
+// Reads a place of an array, written without leading zeros; gives PLACES for any other text.
 fn place(text: &[u8]) -> usize
-    ensures { λ r. ⌜ r ≤ 17 ⌝ }
+    ensures { λ r. ⌜ r ≤ count ⌝ }
 {
     let n = script::decimal(text);
     let short = (n < 10) & (text.len() == 1);
     let long = (9 < n) & (text.len() == 2);
-    if n < 17 {
+    if n < PLACES as u64 {
         if short | long {
             return n as usize;
         }
@@ -52,20 +52,31 @@ fn place(text: &[u8]) -> usize
     PLACES
 }
 
-// The place in an array that a name spells behind the array's own, PLACES for any other name.
-fn place_in(name: &[u8], array: &[u8]) -> usize
-    ensures { λ r. ⌜ r ≤ 17 ⌝ }
+// Finds where a name's prefix ends; gives 0 where the name doesn't begin with it.
+fn prefix_end(name: &[u8], prefix: &[u8]) -> usize
+    ensures { λ r. ⌜ r ≤ length (now (name .entry)) ⌝ }
 {
-    let n = array.len();
+    let n = prefix.len();
     if n <= name.len() {
-        if check::same(&name[0..n], array) {
-            return place(&name[n..]);
+        if check::same(&name[0..n], prefix) {
+            return n;
         }
     }
-    PLACES
+    0
 }
 
-// The register of a set that a name spells.
+// Reads the place that follows an array's name; gives PLACES for any other name.
+fn place_in(name: &[u8], array: &[u8]) -> usize
+    ensures { λ r. ⌜ r ≤ count ⌝ }
+{
+    let end = prefix_end(name, array);
+    if end == 0 {
+        return PLACES;
+    }
+    place(&name[end..])
+}
+
+// Finds a register of a set by its name; gives Unknown for any other name.
 fn of_set(set: RegisterSet, name: &[u8]) -> Field {
     if check::same(name, b"condition") {
         return Field::Condition(set);
@@ -85,22 +96,20 @@ fn of_set(set: RegisterSet, name: &[u8]) -> Field {
     Field::Unknown
 }
 
-// The register of any set that a name spells, with the set's own name before it but for operation.
+// Finds a register by its name, which begins with its set's; those of OPERation have no prefix.
 fn register(name: &[u8]) -> Field {
-    if 5 <= name.len() {
-        if check::same(&name[0..5], b"lock_") {
-            return of_set(RegisterSet::Lock, &name[5..]);
-        }
+    let lock = prefix_end(name, b"lock_");
+    if lock != 0 {
+        return of_set(RegisterSet::Lock, &name[lock..]);
     }
-    if 8 <= name.len() {
-        if check::same(&name[0..8], b"warning_") {
-            return of_set(RegisterSet::Warning, &name[8..]);
-        }
+    let warning = prefix_end(name, b"warning_");
+    if warning != 0 {
+        return of_set(RegisterSet::Warning, &name[warning..]);
     }
     of_set(RegisterSet::Operation, name)
 }
 
-// The field of one number that a name spells.
+// Finds a field that is one number, not a place of an array.
 fn single(name: &[u8]) -> Field {
     if check::same(name, b"esr") {
         return Field::Events;
@@ -123,7 +132,7 @@ fn single(name: &[u8]) -> Field {
     register(name)
 }
 
-// The field that a name spells.
+// Finds the field that a name spells.
 fn named(name: &[u8]) -> Field {
     let row = place_in(name, b"setting.");
     if row < Settings::COUNT {
@@ -136,7 +145,7 @@ fn named(name: &[u8]) -> Field {
     single(name)
 }
 
-// The parts of the record with a number put in. A field of another part leaves a part as it is.
+// Puts a value into the setting of a row, if there is such a row.
 fn in_settings(mut settings: Settings, row: usize, value: i32) -> Settings {
     if row < Settings::COUNT {
         settings.values[row] = value;
@@ -144,6 +153,7 @@ fn in_settings(mut settings: Settings, row: usize, value: i32) -> Settings {
     settings
 }
 
+// Puts a number into a register of a group; a field of another part leaves the group as it is.
 fn in_group(mut group: Group, field: Field, n: u16) -> Group {
     match field {
         Field::Condition(_) => group.condition = n,
@@ -156,6 +166,7 @@ fn in_group(mut group: Group, field: Field, n: u16) -> Group {
     group
 }
 
+// Puts a number into a register of a set, whose group stands at the set's place.
 fn in_set(mut status: Status, set: RegisterSet, field: Field, n: u16) -> Status {
     let group = in_group(status.group(set), field, n);
     match set {
@@ -166,6 +177,7 @@ fn in_set(mut status: Status, set: RegisterSet, field: Field, n: u16) -> Status 
     status
 }
 
+// Puts a number into a place of the error queue, whether an error waits there or not.
 fn in_queue(mut status: Status, item: usize, n: u16) -> Status {
     if item < Status::MOST {
         status.errors[item] = n;
@@ -173,6 +185,7 @@ fn in_queue(mut status: Status, item: usize, n: u16) -> Status {
     status
 }
 
+// Puts a number into the status record; a field of another part leaves the record as it is.
 fn in_status(mut status: Status, field: Field, n: u16) -> Status {
     match field {
         Field::Events => status.events = n,
@@ -190,6 +203,7 @@ fn in_status(mut status: Status, field: Field, n: u16) -> Status {
     status
 }
 
+// Puts a number into the status or into one of the two lengths; a setting stays as it is.
 fn in_state(mut state: State, field: Field, n: u16) -> State {
     state.status = in_status(state.status, field, n);
     match field {
@@ -200,7 +214,7 @@ fn in_state(mut state: State, field: Field, n: u16) -> State {
     state
 }
 
-// A setting takes a signed value, the other fields a whole one.
+// Overwrites a setting, whose value may have a minus.
 fn setting(mut state: State, row: usize, value: &[u8]) -> Overwritten {
     match script::signed(value) {
         Reading::Value(v) => {
@@ -217,9 +231,10 @@ fn setting(mut state: State, row: usize, value: &[u8]) -> Overwritten {
     }
 }
 
+// Overwrites any other field, whose value has at most 16 bits.
 fn number(state: State, field: Field, value: &[u8]) -> Overwritten {
     let n = script::decimal(value);
-    if WIDEST < n {
+    if script::WIDEST < n {
         return Overwritten {
             state,
             readable: false,

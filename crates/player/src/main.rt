@@ -13,16 +13,18 @@
 //                                                                OVERLONG LINE ANSWER LOCK WARNING
 //     x FIELD VALUE   a number of the raw record overwritten   x
 //
-// NUMBER is 0 or the refusal's in 01's table. Every byte of take's buffer is AA before. SETTINGS
-// are the sixteen in 01's order and SYSTem:EXAM, with commas between (bools 0 and 1, words by their
-// place, numbers in steps); QUEUE the error numbers, without their minus; OVERLONG 0 or 1; BUFFER,
-// LINE and ANSWER hex in capitals; LOCK and WARNING the five registers of each, in the order of the
-// five from CONDITION on. What is empty is `-`. A hand-made length past its array shows the
+// NUMBER is 0 or the refusal's in 01's table; COUNT that of the piece's newlines; LENGTH the
+// answer's, also where the buffer is too short for it. Every byte of take's buffer is AA before.
+// SETTINGS are the sixteen in 01's order and SYSTem:EXAM, with commas between (bools 0 and 1, words
+// by their place, numbers in steps); QUEUE the error numbers, without their minus; OVERLONG 0 or 1;
+// BUFFER, LINE and ANSWER hex in capitals; LOCK and WARNING the five registers of each, in the order
+// CONDITION EVENT ENABLE PTR NTR. What is empty is `-`. A hand-made length past its array shows the
 // whole array.
 //
 // FIELD is `setting.0` to `setting.16`, `error.0` to `error.15`, `esr`, `ese`, `sre`, `condition`,
-// `event`, `enable`, `ptr`, `ntr`, `lock_condition` to `warning_ntr`, or a length: `queued`, `line`, `answer`. VALUE is decimal, of a
-// setting also with a minus: 32 bits signed for a setting, else 0 to 65535.
+// `event`, `enable`, `ptr`, `ntr`, `lock_condition` to `warning_ntr`, or a length: `queued`, `line`,
+// `answer`. VALUE is decimal, of a setting also with a minus: 32 bits signed for a setting, else 0 to
+// 65535.
 //
 // A line that can't be read is answered by `?` and its number, from 1, and passed over. One blank
 // parts the fields; a piece may be empty; hex digits may be small letters; a line has at most
@@ -51,7 +53,7 @@ struct Player {
     open: bool,
 }
 
-// One more, held at the largest.
+// Counts one line more, and stays at the largest number, so that nothing wraps.
 fn next(lines: u64) -> u64 {
     if lines < u64::MAX { lines + 1 } else { lines }
 }
@@ -64,27 +66,23 @@ fn write_front(out: &[u8], length: usize) -> bool {
     false
 }
 
-// The event of a line; a line that was too long counts as one without a letter.
-fn play_line(
-    state: State,
-    line: &[u8],
-    filled: usize,
-    overlong: bool,
-    out: &mut [u8],
-) -> event::Played {
-    if overlong {
-        return event::unreadable(state);
+// Plays the event of the line that is held. One that was too long can't be read, like one without a
+// letter; the second test only tells the prover that the line has so many bytes.
+fn play_line(player: Player, line: &[u8], out: &mut [u8]) -> event::Played {
+    if player.overlong {
+        return event::unreadable(player.state);
     }
-    if line.len() < filled {
-        return event::unreadable(state);
+    let end = player.filled;
+    if line.len() < end {
+        return event::unreadable(player.state);
     }
-    event::play(state, &line[0..filled], out)
+    event::play(player.state, &line[0..end], out)
 }
 
-// A line has ended: its event is played and answered.
+// Plays and answers the line that has ended, and makes room for the next.
 fn end_line(player: Player, line: &[u8], out: &mut [u8]) -> Player {
     let lines = next(player.lines);
-    let played = play_line(player.state, line, player.filled, player.overlong, out);
+    let played = play_line(player, line, out);
     let length = report::ended(out, played.length, lines);
     let written = write_front(out, length);
     let after = played.state;
@@ -97,14 +95,14 @@ fn end_line(player: Player, line: &[u8], out: &mut [u8]) -> Player {
     }
 }
 
-// Takes bytes of the script in.
+// Takes in bytes of the script: a newline ends a line, and bytes past a line's room are dropped.
 fn play_bytes(start: Player, line: &mut [u8], out: &mut [u8], bytes: &[u8]) -> Player {
     let mut player = start;
     let mut i: usize = 0;
     while i < bytes.len() {
         let b = bytes[i];
         i += 1;
-        if b == 10 {
+        if b == b'\n' {
             player = end_line(player, line, out);
             continue;
         }
@@ -119,7 +117,8 @@ fn play_bytes(start: Player, line: &mut [u8], out: &mut [u8], bytes: &[u8]) -> P
     player
 }
 
-// One read. At the script's end, or where it can't be read, the player is closed.
+// Reads once and plays what was read. At the script's end, or where it can't be read, the player is
+// closed.
 fn play_some(mut player: Player, chunk: &mut [u8], line: &mut [u8], out: &mut [u8]) -> Player {
     let got = libc::read(libc::STDIN_FILENO, chunk);
     let n = io::count(got, chunk);
@@ -159,6 +158,7 @@ fn main() {
         open: true,
     };
     let last = play_all(start, &mut chunk, &mut line, &mut out);
+    // the last line lacks its newline
     if last.filled != 0 {
         end_line(last, &line, &mut out);
     }

@@ -1,10 +1,14 @@
-// The line that answers an event, written into a buffer from a place on. Each writer answers the
-// place behind what it wrote; what the buffer can't hold is dropped.
+// Writes the line that answers an event into a buffer. Each writer is told where it starts and gives
+// where it ends; what the buffer can't hold is dropped.
 use interpreter::state::Outcome;
 use registers::answer;
 ghost use Prim.Native.Nat.{_<_};
-ghost use Rattle.player.specs.Digits.{DigitOf};
+ghost use Rattle.player.specs.ReportParts.{HexDigitOf};
 
+// Twenty bytes hold every number of 64 bits, and every signed one of 32.
+const DIGITS: usize = 20;
+
+// Writes one byte, if there is room for it.
 pub(crate) fn put(out: &mut [u8], at: usize, b: u8) -> usize {
     if at < out.len() {
         out[at] = b;
@@ -13,6 +17,7 @@ pub(crate) fn put(out: &mut [u8], at: usize, b: u8) -> usize {
     at
 }
 
+// Writes a text, as much of it as there is room for.
 fn put_text(out: &mut [u8], from: usize, text: &[u8]) -> usize {
     let mut at = from;
     let mut i: usize = 0;
@@ -23,52 +28,60 @@ fn put_text(out: &mut [u8], from: usize, text: &[u8]) -> usize {
     at
 }
 
+// Writes a number in decimal.
 fn put_number(out: &mut [u8], at: usize, n: u64) -> usize {
-    let mut text = [0u8; 20];
+    let mut text = [0u8; DIGITS];
     let count = io::decimal(n, &mut text);
     put_text(out, at, &text[..count])
 }
 
+// Writes a signed number in decimal. Its text always fits; the test only tells the prover so.
 fn put_signed(out: &mut [u8], at: usize, value: i32) -> usize {
-    let mut text = [0u8; 20];
+    let mut text = [0u8; DIGITS];
     let count = answer::write_whole(value, &mut text);
-    if 20 < count {
+    if DIGITS < count {
         return at;
     }
     put_text(out, at, &text[0..count])
 }
 
-fn glyph(half: u8) -> u8
+// Gives half a byte as a hex digit, in capitals.
+fn hex_digit(half: u8) -> u8
     requires { ⌜ half < 16 ⌝ }
-    ensures { λ r. ⌜ DigitOf half r ⌝ }
+    ensures { λ r. ⌜ HexDigitOf half r ⌝ }
 {
-    if half < 10 { 48 + half } else { 55 + half }
+    if half < 10 {
+        b'0' + half
+    } else {
+        b'A' + (half - 10)
+    }
 }
 
+// Writes a byte as two hex digits.
 fn put_byte(out: &mut [u8], at: usize, b: u8) -> usize {
-    let low = put(out, at, glyph(b / 16));
-    put(out, low, glyph(b % 16))
+    let low = put(out, at, hex_digit(b / 16));
+    put(out, low, hex_digit(b % 16))
 }
 
-// A blank and a number.
+// Writes a blank and a number.
 pub(crate) fn number(out: &mut [u8], from: usize, n: u64) -> usize {
     let at = put(out, from, b' ');
     put_number(out, at, n)
 }
 
-// An event's letter, and its refusal's number.
+// Begins a report with the event's letter and the number of its refusal, 0 where there was none.
 pub(crate) fn outcome(out: &mut [u8], letter: u8, outcome: Outcome) -> usize {
     let at = put(out, 0, letter);
     number(out, at, outcome.number() as u64)
 }
 
-// A blank and a dash, for what is empty.
+// Writes a blank and a dash, which stand for what is empty.
 fn nothing(out: &mut [u8], from: usize) -> usize {
     let at = put(out, from, b' ');
     put(out, at, b'-')
 }
 
-// A blank and bytes in hex.
+// Writes a blank and bytes in hex.
 pub(crate) fn hex(out: &mut [u8], from: usize, bytes: &[u8]) -> usize {
     if bytes.len() == 0 {
         return nothing(out, from);
@@ -82,7 +95,7 @@ pub(crate) fn hex(out: &mut [u8], from: usize, bytes: &[u8]) -> usize {
     at
 }
 
-// The same of the first bytes, or of all where there are fewer.
+// Writes a blank and the first bytes in hex, or all of them where a hand-made count is past the end.
 pub(crate) fn hex_front(out: &mut [u8], from: usize, bytes: &[u8], count: usize) -> usize {
     if count <= bytes.len() {
         return hex(out, from, &bytes[0..count]);
@@ -90,15 +103,15 @@ pub(crate) fn hex_front(out: &mut [u8], from: usize, bytes: &[u8], count: usize)
     hex(out, from, bytes)
 }
 
-// A blank before a list's first item, a comma before the others.
-fn parted(out: &mut [u8], at: usize, i: usize) -> usize {
+// Writes what stands before an item of a list: a blank before the first, a comma before the others.
+fn put_separator(out: &mut [u8], at: usize, i: usize) -> usize {
     if i == 0 {
         return put(out, at, b' ');
     }
     put(out, at, b',')
 }
 
-// A blank and the first numbers of a list, or all where there are fewer.
+// Writes the first numbers of a list, or all of them where a hand-made count is past the end.
 pub(crate) fn numbers(out: &mut [u8], from: usize, list: &[u16], count: usize) -> usize {
     if count == 0 {
         return nothing(out, from);
@@ -109,31 +122,32 @@ pub(crate) fn numbers(out: &mut [u8], from: usize, list: &[u16], count: usize) -
         if i == count {
             return at;
         }
-        let item = parted(out, at, i);
+        let item = put_separator(out, at, i);
         at = put_number(out, item, list[i] as u64);
         i += 1;
     }
     at
 }
 
-// A blank and a list of signed numbers.
+// Writes all the numbers of a list, which may have a minus.
 pub(crate) fn signed_numbers(out: &mut [u8], from: usize, list: &[i32]) -> usize {
     let mut at = from;
     let mut i: usize = 0;
     while i < list.len() {
-        let item = parted(out, at, i);
+        let item = put_separator(out, at, i);
         at = put_signed(out, item, list[i]);
         i += 1;
     }
     at
 }
 
-// The report's end. One without a byte is of a line that can't be read, and gets the line's number.
+// Ends a report by its newline. One without a byte is of a line that can't be read: it gets a `?` and
+// the line's number.
 pub(crate) fn ended(out: &mut [u8], length: usize, lines: u64) -> usize {
     if length == 0 {
         let mark = put(out, 0, b'?');
         let at = number(out, mark, lines);
-        return put(out, at, 10);
+        return put(out, at, b'\n');
     }
-    put(out, length, 10)
+    put(out, length, b'\n')
 }

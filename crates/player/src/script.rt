@@ -1,58 +1,66 @@
-// What the fields of a script line spell.
+// Reads the fields of a script line: numbers, and bytes in hex.
 use registers::text;
 ghost use mathlib.Core.Path.{_≡_};
-ghost use Prim.Native.Nat.{_+_, _-_, _*_, _^_, _≤_, _<_, min};
+ghost use Prim.Native.Nat.{_^_, _≤_, _<_};
 ghost use lib.ListN.{length};
-ghost use Rattle.player.specs.Digits.{ValueOf};
-ghost use Rattle.player.specs.Numbers.{unreadable, decimalOf};
+ghost use Rattle.player.specs.ScriptParts.{HexValueOf, unreadable, zeroDigit, withDigit, decimalIn};
 
-// More than any place of the record holds: what decimal answers where it can't read a number.
+// What `decimal` gives where it can't read a number: more than any place of the record holds.
 const UNREADABLE: u64 = 1_000_000_000_000;
 
-// A setting's value.
+// The largest number of 16 bits.
+pub(crate) const WIDEST: u64 = 65535;
+
+// The size of the lowest number of 32 bits; the sizes of all others are smaller.
+const MOST_BELOW: u64 = 2_147_483_648;
+
+// What `hex_value` gives for a byte that is no hex digit: more than the value of any.
+const NO_DIGIT: u8 = 16;
+
+// What a text says of a setting's value.
 pub(crate) enum Reading {
     Value(i32),
     Unreadable,
 }
 
-// A hex digit's value, 16 for any other byte.
+// Gives a hex digit's value, NO_DIGIT for any other byte.
 fn hex_value(b: u8) -> u8
-    ensures { λ r. ⌜ ValueOf b r ⌝ }
+    ensures { λ r. ⌜ HexValueOf b r ⌝ }
 {
-    if b < 48 {
-        return 16;
+    if b < b'0' {
+        return NO_DIGIT;
     }
-    if b < 58 {
-        return b - 48;
+    if b <= b'9' {
+        return b - b'0';
     }
-    if b < 65 {
-        return 16;
+    if b < b'A' {
+        return NO_DIGIT;
     }
-    if b < 71 {
-        return b - 55;
+    if b <= b'F' {
+        return b - b'A' + 10;
     }
-    if b < 97 {
-        return 16;
+    if b < b'a' {
+        return NO_DIGIT;
     }
-    if b < 103 {
-        return b - 87;
+    if b <= b'f' {
+        return b - b'a' + 10;
     }
-    16
+    NO_DIGIT
 }
 
-// One digit more, held at UNREADABLE.
+// Adds a digit to a number and holds it at UNREADABLE, so that nothing wraps.
 fn with_digit(n: u64, b: u8) -> u64
-    requires { ⌜ (n ≤ unreadable) × (48 ≤ b) ⌝ }
-    ensures { λ r. ⌜ r ≡ min unreadable (n * 10 + (b - 48)) ⌝ }
+    requires { ⌜ (n ≤ unreadable) × (zeroDigit ≤ b) ⌝ }
+    ensures { λ r. ⌜ r ≡ withDigit n b ⌝ }
 {
-    let next = n * 10 + (b - 48) as u64;
+    let next = n * 10 + (b - b'0') as u64;
     if next < UNREADABLE { next } else { UNREADABLE }
 }
 
-// The number that a text of digits spells. UNREADABLE where it has another byte or none, or spells
-// a number as large as that.
+// Reads the number that a text of digits spells. Gives UNREADABLE where the text has another byte or
+// none, or spells a number as large as that.
 pub(crate) fn decimal(text: &[u8]) -> u64
-    ensures { λ r. ⌜ r ≡ decimalOf (now (text .entry)) ⌝ }
+    ensures { λ r. ⌜ r ≡ decimalIn (now (text .entry)) ⌝ }
 {
     if text.len() == 0 {
         return UNREADABLE;
@@ -70,18 +78,19 @@ pub(crate) fn decimal(text: &[u8]) -> u64
     n
 }
 
-// A number of 32 bits from its size, which has a minus.
+// Makes a number below zero from its size, if 32 bits hold it. The lowest has a size that no number
+// of 32 bits has above zero, so it has a test of its own.
 fn below_zero(size: u64) -> Reading {
-    if size < 2147483648 {
+    if size < MOST_BELOW {
         return Reading::Value(0 - size as i32);
     }
-    if size == 2147483648 {
+    if size == MOST_BELOW {
         return Reading::Value(i32::MIN);
     }
     Reading::Unreadable
 }
 
-// The signed number of 32 bits that a text spells.
+// Reads the signed number of 32 bits that a text spells.
 pub(crate) fn signed(text: &[u8]) -> Reading {
     if text.len() == 0 {
         return Reading::Unreadable;
@@ -91,14 +100,15 @@ pub(crate) fn signed(text: &[u8]) -> Reading {
         return below_zero(decimal(&text[1..]));
     }
     let size = decimal(text);
-    if size < 2147483648 {
+    if size < MOST_BELOW {
         return Reading::Value(size as i32);
     }
     Reading::Unreadable
 }
 
-// The bytes that a text of hex digits spells, put at the start of bytes. Answers how many, and more
-// than bytes has where the text has another byte, an odd digit, or more than bytes holds.
+// Puts the bytes that a text of hex digits spells at the start of bytes, and gives how many they are.
+// Where the text has another byte, an odd digit, or more than bytes holds, it gives more than bytes
+// has.
 pub(crate) fn unhex(text: &[u8], bytes: &mut [u8]) -> usize
     requires { ⌜ length (now bytes) < 2 ^ 32 ⌝ }
 {
@@ -113,10 +123,10 @@ pub(crate) fn unhex(text: &[u8], bytes: &mut [u8]) -> usize
         }
         let low = hex_value(text[i]);
         i += 1;
-        if 15 < high {
+        if NO_DIGIT <= high {
             return bad;
         }
-        if 15 < low {
+        if NO_DIGIT <= low {
             return bad;
         }
         if n == bytes.len() {

@@ -1,3 +1,5 @@
+-- The loop over the reads. Invariant: both buffers keep their lengths, and since power-up the lines of some bytes were heard (`HeardSince`);
+-- what one read gave is heard after that (`since-on`). Measure: the turns left.
 use mathlib.Core.Path.{_≡_, refl}
 use native.Mathlib.Omega.{arith}
 use lib.ListN.{length}
@@ -20,38 +22,11 @@ loop-at v = v .before .before .before .before .before .before .before .before .b
 abbrev read-at : tie.After-serve-all Inv-loop μ-loop → tie.After-read Inv-loop μ-loop
 read-at v = v .before .before .before .before .before .before .before .before .before
 
-power-up-requires : tie.Need-power-up-requires Inv-loop μ-loop
-power-up-requires c κs = tt
-
 loop-holds : tie.Need-loop-holds Inv-loop μ-loop
 loop-holds c = (refl, refl, since-begun _ (c .power-up .ensures))
 
-sub-turns : tie.Need-sub-turns Inv-loop μ-loop
-sub-turns c = search needs
-
-read-requires : tie.Need-read-requires Inv-loop μ-loop
-read-requires c κs = tt
-
-count-requires : tie.Need-count-requires Inv-loop μ-loop
-count-requires c κs = tt
-
-same-length : tie.Need-same-length Inv-loop μ-loop
-same-length c = search needs
-
-same-length-2 : tie.Need-same-length-2 Inv-loop μ-loop
-same-length-2 c = search needs
-
 returns : tie.Need-returns Inv-loop μ-loop
 returns c = c .before .before .before .before .before .before .before .before .loop .inv .2
-
-sub-serve-all : tie.Need-sub-serve-all Inv-loop μ-loop
-sub-serve-all c = search needs
-
-part-serve-all-start : tie.Need-part-serve-all-start Inv-loop μ-loop
-part-serve-all-start c = search needs
-
-part-serve-all-end : tie.Need-part-serve-all-end Inv-loop μ-loop
-part-serve-all-end c = search needs
 
 serve-all-requires : tie.Need-serve-all-requires Inv-loop μ-loop
 serve-all-requires c κs =
@@ -77,9 +52,6 @@ same-length-4 c =
 returns-2 : tie.Need-returns-2 Inv-loop μ-loop
 returns-2 c = let v = c .before .before .before .before .before in since-on _ _ _ (loop-at v .loop .inv .2) (v .serve-all .ensures)
 
-loop-less : tie.Need-loop-less Inv-loop μ-loop
-loop-less c = search needs
-
 loop-again : tie.Need-loop-again Inv-loop μ-loop
 loop-again c =
     let v = c .before .before .before .before .before in
@@ -90,12 +62,6 @@ loop-again c =
     let room = g .1 in
     (omega arith, omega arith, since-on _ _ _ (g .2) (v .serve-all .ensures))
 
-same-length-5 : tie.Need-same-length-5 Inv-loop μ-loop
-same-length-5 c = search needs
-
-same-length-6 : tie.Need-same-length-6 Inv-loop μ-loop
-same-length-6 c = search needs
-
 returns-3 : tie.Need-returns-3 Inv-loop μ-loop
 returns-3 c = c .before .loop .inv .2
 
@@ -105,23 +71,16 @@ run-spec =
     (tie.spec
     Inv-loop
     μ-loop
-    power-up-requires
+    (λ c κs. tt)
     loop-holds
-    sub-turns
-    read-requires
-    count-requires
-    same-length
-    same-length-2
+    (λ c. search needs) (λ c κs. tt) (λ c κs. tt) (λ c. search needs) (λ c. search needs)
     returns
-    sub-serve-all
-    part-serve-all-start
-    part-serve-all-end
+    (λ c. search needs) (λ c. search needs) (λ c. search needs)
     serve-all-requires
     same-length-3
     same-length-4
     returns-2
-    loop-less
+    (λ c. search needs)
     loop-again
-    same-length-5
-    same-length-6
+    (λ c. search needs) (λ c. search needs)
     returns-3)

@@ -1,3 +1,5 @@
+-- The loop over what was read. Invariant: proofs/Hearing's `Hearing`, the first bytes, up to `at`, were heard in whole lines. Measure: the
+-- bytes left; each call of the chunk server reads at least one, since the output has room for an answer (`read-some`).
 use Prim.Native.Nat.{_-_, zero-le}
 use native.Mathlib.Nat.{le-refl}
 use native.Mathlib.Omega.{arith}
@@ -26,31 +28,16 @@ sub-serve c = c .before .loop .inv .within
 part-serve-start : tie.Need-part-serve-start Inv-loop μ-loop
 part-serve-start c = c .before .loop .inv .within
 
-part-serve-end : tie.Need-part-serve-end Inv-loop μ-loop
-part-serve-end c = le-refl _
-
-serve-requires : tie.Need-serve-requires Inv-loop μ-loop
-serve-requires c κs = tt
-
 add-at : tie.Need-add-at Inv-loop μ-loop
 add-at c =
     let v = c .before .before .before .before in
     let w = read-within _ _ _ _ _ _ (loop-at v .loop .inv) _ _ _ _ _ (v .serve .ensures) in
     search needs
 
-sub-write-all : tie.Need-sub-write-all Inv-loop μ-loop
-sub-write-all c = zero-le
-
-part-write-all-start : tie.Need-part-write-all-start Inv-loop μ-loop
-part-write-all-start c = zero-le
-
 part-write-all-end : tie.Need-part-write-all-end Inv-loop μ-loop
 part-write-all-end c =
     let v = c .before .before .before .before .before in
     wrote-within _ _ _ _ _ _ (loop-at v .loop .inv) _ _ _ _ _ (v .serve .ensures)
-
-write-all-requires : tie.Need-write-all-requires Inv-loop μ-loop
-write-all-requires c κs = tt
 
 same-length : tie.Need-same-length Inv-loop μ-loop
 same-length c =
@@ -96,13 +83,11 @@ serve-all-spec =
     loop-holds
     sub-serve
     part-serve-start
-    part-serve-end
-    serve-requires
+    (λ c. le-refl _) (λ c κs. tt)
     add-at
-    sub-write-all
-    part-write-all-start
+    (λ c. zero-le) (λ c. zero-le)
     part-write-all-end
-    write-all-requires
+    (λ c κs. tt)
     same-length
     returns
     loop-less

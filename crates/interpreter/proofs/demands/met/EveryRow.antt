@@ -4,19 +4,19 @@ use mathlib.Core.Path.{_≡_, refl, sym, _∙_, ap}
 use mathlib.Core.Bool.{Bool, true, false}
 use mathlib.Core.List.{List, [], _∷_, _++_, map}
 use Prim.Native.Nat.{ℕ, zero, suc, _+_, _<_}
-use Prim.Native.String.{String}
+use Prim.Native.Char.{code}
 use native.Mathlib.Omega.{arith}
 use lib.ListN as L
 use lib.ListN.{length, getD, replicate}
 use Rattle.registers.specs.Text.{Text, if_then_else_, bytes, same, white, printable, digit, letter, wordByte, small, capital, every}
 use Rattle.registers.specs.Check.{Checked, passed, _>>=_, _>>_, check}
-use Rattle.registers.specs.Words.{shortForm, longForm, matches}
+use Rattle.registers.specs.Words.{Node, must, may, shortForm, longForm, matches}
 use Rattle.registers.specs.Number.{afterSign, fractionOf, afterFraction, exponentOf, afterExponent, lowering, written, numeralFrom, decimalOf, valueOf, scaled, number}
 use Rattle.registers.specs.Suffix.{suffixes, noSuffix, powerIn, remains}
 use Rattle.registers.specs.Rounding.{switchedOn, nearest, sizeIn, rounded, sizeSide, sideIn}
 use Rattle.registers.specs.Answer.{inPlaces, decimal, tenths}
 use Rattle.registers.specs.Error.{eventBit}
-use Rattle.registers.specs.Settings.{count, table, settingAt, atReset, wideRange, lowest, highest, within, conflict, examined, accepted, answerOf}
+use Rattle.registers.specs.Settings.{count, Setting as OneSetting, table, settingAt, atReset, wideRange, lowest, highest, within, conflict, examined, accepted, answerOf}
 use Rattle.registers.specs.Group.{rises, falls, eventsAfter, conditionIs}
 use Rattle.registers.specs.Status.{raised, locked, atStart}
 use Rattle.interpreter.specs.Cuts.{front, cutAt, trimEnd, trim}
@@ -37,26 +37,34 @@ use Rattle.interpreter.specs.declared.deed.Role.the-variants.{Setting}
 use Rattle.interpreter.specs.Demand2.{Premises, queried, sentBack, takenFrom}
 use Rattle.interpreter.proofs.Possible.{power-up-own}
 
-unfoldable pub trips : List (String × String)
-trips =
-    ("OUTP", "0") ∷ ("OUTP:PON", "0") ∷ ("OUTP:REL", "1") ∷ ("OUTP:MON:MODE", "VOLT") ∷ ("VOLT", "0.0") ∷ ("VOLT:RANG", "R12V")
-    ∷ ("FREQ", "50.0") ∷ ("CURR:LIM:RMS", "1.0") ∷ ("CURR:LIM:RMS:MODE", "OFF") ∷ ("CURR:LIM:PEAK:MODE", "OFF")
-    ∷ ("CURR:LIM:RMS:TIME", "1") ∷ ("CURR:LIM:PEAK:TIME", "1") ∷ ("CURR:LIM:PEAK:HIGH", "4.0") ∷ ("CURR:LIM:PEAK:LOW", "-4.0")
-    ∷ ("DISP:BRIG", "50") ∷ ("SYST:KLOC", "0") ∷ ("SYST:EXAM", "0") ∷ []
+-- a header in its shortest spelling
+unfoldable pub shortNames : List Node → List Text
+shortNames [] = []
+shortNames (must w ∷ nodes) = shortForm w ∷ shortNames nodes
+shortNames (may w ∷ nodes) = shortNames nodes
+
+unfoldable pub colonJoined : List Text → Text
+colonJoined [] = []
+colonJoined (x ∷ []) = x
+colonJoined (x ∷ y ∷ names) = x ++ code ":" ∷ colonJoined (y ∷ names)
+
+-- each setting's header, and its answer at *RST
+unfoldable pub trips : List (Text × Text)
+trips = map (λ (s : OneSetting). (colonJoined (shortNames (s .nodes)), answerOf (s .kind) (s .reset))) table
 
 abbrev pub buffer : Text
 buffer = replicate 8 0
 
 -- the query's line, and the line that sends the answer back
-unfoldable pub asking : String × String → List Event
-asking t = received (bytes (t .0) ++ bytes "?") ∷ []
+unfoldable pub asking : Text × Text → List Event
+asking t = received (t .0 ++ bytes "?") ∷ []
 
-unfoldable pub sending : String × String → List Event
-sending t = received (bytes (t .0) ++ bytes " " ++ bytes (t .1)) ∷ []
+unfoldable pub sending : Text × Text → List Event
+sending t = received (t .0 ++ bytes " " ++ t .1) ∷ []
 
 -- the premises of demand 2's round trip
-abbrev pub PremisesAt : ℕ → String × String → Type 0
-PremisesAt i t = Premises powerUp i (bytes (t .1)) buffer (takenFrom powerUp (asking t) [] buffer) (asking t) [] (sending t)
+abbrev pub PremisesAt : ℕ → Text × Text → Type 0
+PremisesAt i t = Premises powerUp i (t .1) buffer (takenFrom powerUp (asking t) [] buffer) (asking t) [] (sending t)
 
 -- what they speak of
 record Seen : Type 0 where
@@ -72,7 +80,7 @@ record Seen : Type 0 where
   heading : Checked Header
   row : Checked Role
 
-unfoldable seenAt : String × String → Seen
+unfoldable seenAt : Text × Text → Seen
 seenAt t =
     let b = after powerUp (asking t) in
     let r = happens (after powerUp (queried (asking t) ++ [])) (take buffer) .result in
@@ -87,33 +95,33 @@ seenAt t =
       taken = L.take (r .value) (r .buffer);
       line = c .core .line;
       locks = locked (c .core .registers);
-      heading = header (bytes (t .0));
-      row = findRow false (cutAt 58 (bytes (t .0))) false rows;
+      heading = header (t .0);
+      row = findRow false (cutAt (code ":") (t .0)) false rows;
     }
 
-unfoldable expectedAt : ℕ → String × String → Seen
+unfoldable expectedAt : ℕ → Text × Text → Seen
 expectedAt i t =
     record {
       whole = (false, false);
       inLine = true;
-      asked = bytes (t .0) ++ bytes "?";
-      units = (bytes (t .0) ++ bytes "?") ∷ [];
-      read = passed (record { deed = Query (Value i); path = front (cutAt 58 (bytes (t .0))) });
+      asked = t .0 ++ bytes "?";
+      units = (t .0 ++ bytes "?") ∷ [];
+      read = passed (record { deed = Query (Value i); path = front (cutAt (code ":") (t .0)) });
       number = 0;
-      taken = bytes (t .1) ++ 10 ∷ [];
-      line = bytes (t .0) ++ (bytes " " ++ (bytes (t .1) ++ []));
+      taken = t .1 ++ 10 ∷ [];
+      line = t .0 ++ (bytes " " ++ (t .1 ++ []));
       locks = false;
-      heading = passed (record { place = here; names = cutAt 58 (bytes (t .0)); query = false });
+      heading = passed (record { place = here; names = cutAt (code ":") (t .0); query = false });
       row = passed (Setting i);
     }
 
 -- each expected by its place in the table
-unfoldable numbered : ℕ → List (String × String) → List Seen
+unfoldable numbered : ℕ → List (Text × Text) → List Seen
 numbered i [] = []
 numbered i (t ∷ ts) = expectedAt i t ∷ numbered (suc i) ts
 
-abbrev pub tripAt : List (String × String) → ℕ → String × String
-tripAt ts i = getD ts i ("", "")
+abbrev pub tripAt : List (Text × Text) → ℕ → Text × Text
+tripAt ts i = getD ts i ([], [])
 
 seen : map seenAt trips ≡ numbered 0 trips
 unfolding if_then_else_ bytes same white printable digit letter wordByte small capital _>>=_ _>>_ check shortForm longForm matches
@@ -124,16 +132,16 @@ unfolding if_then_else_ bytes same white printable digit letter wordByte small c
     parameters least greatest findWord parameter valueGiven settingDeed deedOf readUnit powerUp
     permitted changed replyTo inquiryReply joined fitsAnswer reply perform
     attempt refuse runUnits interrupted finished unitsOf runLine endLine held byte piece taken reported happens after
-    inLine trips asking sending seenAt expectedAt numbered
+    inLine shortNames colonJoined trips asking sending seenAt expectedAt numbered
 seen = refl
 
 long : length trips ≡ count
-unfolding trips
+unfolding trips table
 long = refl
 
 -- ---- the table's places
 
-seen-at : (ts : List (String × String)) (n i : ℕ) → i < length ts → map seenAt ts ≡ numbered n ts → seenAt (tripAt ts i) ≡ expectedAt (n + i) (tripAt ts i)
+seen-at : (ts : List (Text × Text)) (n i : ℕ) → i < length ts → map seenAt ts ≡ numbered n ts → seenAt (tripAt ts i) ≡ expectedAt (n + i) (tripAt ts i)
 unfolding numbered
 seen-at [] n i h e = absurd (omega arith)
 seen-at (t ∷ ts) n zero h e =
@@ -145,7 +153,7 @@ seen-at (t ∷ ts) n (suc i) h e =
     let q : n + suc i ≡ suc n + i = omega arith in
     rw q (seen-at ts (suc n) i (omega arith) z)
 
-trip-at : (i : ℕ) (t : String × String) → seenAt t ≡ expectedAt i t → PremisesAt i t
+trip-at : (i : ℕ) (t : Text × Text) → seenAt t ≡ expectedAt i t → PremisesAt i t
 unfolding seenAt expectedAt bytes white
 trip-at i t e =
     record {
@@ -156,14 +164,14 @@ trip-at i t e =
         asks = record {
           whole = ap (λ (x : Seen). x .whole .0) e;
           alone = ap (λ (x : Seen). x .units) e ∙ sym (ap (λ (x : Seen). x .asked ∷ []) e);
-          path = front (cutAt 58 (bytes (t .0)));
+          path = front (cutAt (code ":") (t .0));
           asks = ap (λ (x : Seen). x .read) e;
         };
         took = record { number = ap (λ (x : Seen). x .number) e; bytes = ap (λ (x : Seen). x .taken) e };
         sends = record {
           whole = ap (λ (x : Seen). x .whole .1) e;
           left = [];
-          header = bytes (t .0);
+          header = t .0;
           gap = bytes " ";
           right = [];
           line = ap (λ (x : Seen). x .line) e;

@@ -1,3 +1,5 @@
+-- The loop over a number's digits. Invariant: script/Laws' `Reading`, the digits left, read after the number so far, spell what the whole text
+-- does. Measure: the bytes left.
 use mathlib.Core.Path.{sym, _∙_}
 use Prim.Native.Nat.{_-_}
 use lib.ListN.{length, getD}
@@ -20,12 +22,6 @@ returns c = nothing-spelt (c .before .before .args .text .now) (c .if1 .taken)
 loop-holds : tie.Need-loop-holds Inv-loop μ-loop
 loop-holds c = reading-start (c .before .before .args .text .now) (c .if1 .left)
 
-shared-slice-read-b : tie.Need-shared-slice-read-b Inv-loop μ-loop
-shared-slice-read-b c = search needs
-
-is-digit-requires : tie.Need-is-digit-requires Inv-loop μ-loop
-is-digit-requires c κs = search needs
-
 returns-2 : tie.Need-returns-2 Inv-loop μ-loop
 returns-2 c =
     let other = sym (c .before .is-digit .ensures) ∙ not-true _ (c .if2 .taken) in
@@ -37,12 +33,6 @@ with-digit-requires c κs =
     let at = c .before .before .before .before .loop in
     let passes = sym (c .before .is-digit .ensures) ∙ not-false _ (c .if2 .left) in
     (at .inv .low, digit-bounds (getD t (at .i) 0) (rw passes tt) .0)
-
-add-i : tie.Need-add-i Inv-loop μ-loop
-add-i c = search needs
-
-loop-less : tie.Need-loop-less Inv-loop μ-loop
-loop-less c = search needs
 
 loop-again : tie.Need-loop-again Inv-loop μ-loop
 loop-again c =
@@ -61,11 +51,9 @@ decimal-spec =
     μ-loop
     returns
     loop-holds
-    shared-slice-read-b
-    is-digit-requires
+    (λ c. search needs) (λ c κs. search needs)
     returns-2
     with-digit-requires
-    add-i
-    loop-less
+    (λ c. search needs) (λ c. search needs)
     loop-again
     returns-3)
