@@ -41,6 +41,12 @@ module _ {A : Type 0} (Q : A → Type 0) where
   hold-if true x y h k = h
   hold-if false x y h k = k
 
+-- a check before a chain, or as its first
+pub first-check : {A B : Type 0} (x : Checked (Unit {0})) (m : Checked A) (f : A → Checked B) → ((x >> m) >>= f) ≡ (x >> (m >>= f))
+unfolding _>>_ _>>=_
+first-check (refused n) m f = refl
+first-check (passed _) m f = refl
+
 -- what is refused did not pass
 pub apart : {A : Type 0} (n : ℕ) (a : A) → refused n ≡ passed a → ⊥
 apart n a e = let z : _≡_ {A = ℕ} 0 1 = cc in omega arith

@@ -5,15 +5,17 @@ use mathlib.Core.List.{List, []}
 use Prim.Native.Nat.{ℕ, _≤_, _<_}
 use Prim.Native.Char.{code}
 use Rattle.registers.specs.Text.{Text}
-use Rattle.registers.specs.Check.{refused, passed}
+use Rattle.registers.specs.Check.{Checked, refused, passed, _>>_}
 use Rattle.registers.specs.Queue.{most}
 use Rattle.registers.specs.Status.{registersOf, troubleOf}
 use Rattle.registers.specs.declared.error.Error.{Error}
 use Rattle.interpreter.specs.Cuts.{cutAt}
 use Rattle.interpreter.specs.Box.{Box, box, mostAnswer}
+use Rattle.interpreter.specs.Perform.{permitted, perform}
 use Rattle.interpreter.specs.Line.{attempt, refuse, runUnits, runLine}
 use Rattle.interpreter.specs.HeaderParts.{Holds}
 use Rattle.interpreter.specs.PresentParts.{boxIn, boxAt, RefusedWith}
+use Rattle.interpreter.specs.declared.deed.Deed.{Deed}
 use Rattle.interpreter.specs.declared.present.Present.{Present}
 use Rattle.interpreter.specs.declared.line.Done.{Done}
 
@@ -21,6 +23,16 @@ use Rattle.interpreter.specs.declared.line.Done.{Done}
 pub record StoppedWith (e : Error) (p : Present) (r : Done) : Type 0 where
   pub stops : r .obeyed ≡ false
   pub left : RefusedWith e p (r .present)
+
+-- what comes of a unit that was read: the lock and check 8, and what it does with check 9
+abbrev pub carried : Deed → Box → Checked Box
+carried d b = permitted d (b .core) >> perform d b
+
+pub record CarriedOut (d : Deed) (used : ℕ) (p : Present) (out : Text) (r : Done) (out′ : Text) : Type 0 where
+  pub queued : r .present .status .queued ≤ most
+  pub room : r .present .answered < mostAnswer
+  pub goes : r .obeyed ≡ true → (carried d (boxAt p out) ≡ passed (boxAt (r .present) out′)) × (r .used ≡ used)
+  pub stops : r .obeyed ≡ false → (n : ℕ) × (carried d (boxAt p out) ≡ refused n) × (boxAt (r .present) out′ ≡ refuse n (boxAt p out))
 
 -- a unit was obeyed, or refused
 pub record UnitRan (d : Done) (path : List Text) (unit out : Text) (r : Done) (keys : List ℕ) (out′ : Text) : Type 0 where

@@ -1,4 +1,5 @@
 // A line: its units left to right, and its end.
+use crate::deed::Deed;
 use crate::header::MOST_NAMES;
 use crate::parameter::Decision;
 use crate::perform;
@@ -17,7 +18,8 @@ ghost use Rattle.registers.specs.Queue.{most};
 ghost use Rattle.interpreter.specs.Box.{mostAnswer};
 ghost use Rattle.interpreter.specs.TableParts.{commandTable};
 ghost use Rattle.interpreter.specs.HeaderParts.{Holds, Held};
-ghost use Rattle.interpreter.specs.LineParts.{StoppedWith, UnitRan, UnitsRan, LineRan};
+ghost use Rattle.interpreter.specs.UnitParts.{Allowed};
+ghost use Rattle.interpreter.specs.LineParts.{StoppedWith, CarriedOut, UnitRan, UnitsRan, LineRan};
 
 // What the units so far leave: how many names the path has, and whether the last one was obeyed.
 struct Done {
@@ -37,8 +39,32 @@ fn stop(present: Present, error: Error) -> Done
     }
 }
 
-// Runs one unit after those before it: checks 1 to 7, then the lock and check 8, then check 9. Where check 9 refuses, "the query
-// isn't performed", and what it would have left is forgotten.
+// Carries out a unit that was read, after those before it: the lock and check 8, what it does, and check 9. Where check 9 refuses,
+// "the query isn't performed", and what it would have left is forgotten.
+fn carry_out(present: Present, deed: Deed, used: usize, out: &mut [u8]) -> Done
+    requires { ⌜ Allowed (present .settings) deed × (present .answered < mostAnswer) ⌝ }
+    requires { ⌜ (length (now out) ≡ mostAnswer) × (present .status .queued ≤ most) ⌝ }
+    ensures { λ r. ⌜ CarriedOut deed used present (now (out .entry)) r (now (out .exit)) ⌝ }
+{
+    if !perform::is_permitted(present, deed) {
+        return stop(present, Error::SettingsConflict);
+    }
+    let mut next = perform::after(present, deed);
+    let told = reply::answer(present, deed, out);
+    match told {
+        Told::Refused(error) => return stop(present, error),
+        Told::Until(end) => {
+            next.answered = end;
+            return Done {
+                present: next,
+                used,
+                obeyed: true,
+            };
+        }
+    }
+}
+
+// Runs one unit after those before it: checks 1 to 7, and what it then does.
 fn run_unit(
     table: &[u8],
     done: Done,
@@ -55,24 +81,7 @@ fn run_unit(
     let decision = reading.decision;
     match decision {
         Decision::Refused(error) => return stop(present, error),
-        Decision::Obey(deed) => {
-            if !perform::is_permitted(present, deed) {
-                return stop(present, Error::SettingsConflict);
-            }
-            let mut next = perform::after(present, deed);
-            let told = reply::answer(present, deed, out);
-            match told {
-                Told::Refused(error) => return stop(present, error),
-                Told::Until(end) => {
-                    next.answered = end;
-                    return Done {
-                        present: next,
-                        used: reading.used,
-                        obeyed: true,
-                    };
-                }
-            }
-        }
+        Decision::Obey(deed) => return carry_out(present, deed, reading.used, out),
     }
 }
 

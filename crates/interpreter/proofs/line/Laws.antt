@@ -1,5 +1,5 @@
--- One unit, by the promises of its three steps: reading refuses it, the lock or check 8 bars it, check 9 leaves it unanswered, or it is obeyed.
--- Each is a case of the definition's chain of checks (`attempt-read` to `attempt-full`).
+-- One unit, by the promises of its steps: reading refuses it, or it is carried out, and then the lock or check 8 bars it, check 9 leaves it
+-- unanswered, or it is done. Each is a case of the definition's chain of checks (`attempt-read`, `attempt-carried`).
 use mathlib.Core.Path.{_≡_, refl, sym, _∙_, subst}
 use mathlib.Core.Bool.{true, false≢true}
 use mathlib.Core.List.{List}
@@ -17,7 +17,7 @@ use Rattle.interpreter.specs.UnitParts.{UnitRead, Allowed}
 use Rattle.interpreter.specs.PresentParts.{coreIn, boxAt}
 use Rattle.interpreter.specs.PerformParts.{After}
 use Rattle.interpreter.specs.ReplyParts.{Answered}
-use Rattle.interpreter.specs.LineParts.{StoppedWith, UnitRan}
+use Rattle.interpreter.specs.LineParts.{StoppedWith, carried, CarriedOut, UnitRan}
 use Rattle.interpreter.specs.declared.reply.Told.the-variants.{Until, Refused as noAnswer}
 use Rattle.interpreter.specs.declared.deed.Deed.{Deed}
 use Rattle.interpreter.specs.declared.present.Present.{Present}
@@ -25,30 +25,66 @@ use Rattle.interpreter.specs.declared.parameter.Decision.{Decision}
 use Rattle.interpreter.specs.declared.parameter.Decision.the-variants.{Refused, Obey}
 use Rattle.interpreter.specs.declared.line.Done.{Done}
 use Rattle.registers.specs.Queue.{most}
+use Rattle.interpreter.proofs.Checks.{first-check}
 use Rattle.interpreter.proofs.unit.Allowed.{read-allowed}
 
--- ---- all nine checks on a unit
+-- ---- a unit that was read: it is barred, left unanswered, or done
+
+module _ (p : Present) (d : Deed) (used : ℕ) (out : Text) where
+  abbrev b : Box
+  b = boxAt p out
+
+  -- the lock and check 8 see nothing of the answers so far
+  seen : {m : Checked (Unit {0})} → permitted d (coreIn (p .settings) (p .status)) ≡ m → permitted d (b .core) ≡ m
+  unfolding permitted
+  seen q = q
+
+  -- a refusal, which leaves of the answers so far what it leaves of those in out
+  module _ (short : p .status .queued ≤ most) (room : p .answered < mostAnswer) (e : Error) (r : Done) (w : StoppedWith e p r) where
+    stopped : (left : Text) → carried d b ≡ refused (numberOf e) → refuse (numberOf e) (boxAt p left) ≡ refuse (numberOf e) b
+        → CarriedOut d used p out r left
+    stopped left is same =
+        let less = w .left .room in
+        record {
+          queued = w .left .queued short;
+          room = omega arith;
+          goes = λ t. absurd (false≢true (sym (w .stops) ∙ t));
+          stops = λ _. (numberOf e, is, w .left .box left ∙ same);
+        }
+
+    pub deed-barred : permitted d (coreIn (p .settings) (p .status)) ≡ refused (numberOf e) → CarriedOut d used p out r out
+    unfolding _>>_
+    deed-barred l = stopped out (rw (seen l)) refl
+
+    pub deed-unanswered : permitted d (coreIn (p .settings) (p .status)) ≡ passed tt → (left : Text) → Answered d p out (noAnswer e) left
+        → CarriedOut d used p out r left
+    unfolding _>>_
+    deed-unanswered l left a = stopped left (rw (seen l, a .0)) (a .1)
+
+  pub deed-done : permitted d (coreIn (p .settings) (p .status)) ≡ passed tt → Allowed (p .settings) d
+      → (next : Present) → After d p next → (end : ℕ) (left : Text) → Answered d p out (Until end) left
+      → CarriedOut d used p out
+      (record { present = record { settings = next .settings; status = next .status; answered = end }; used = used; obeyed = true }) left
+  unfolding _>>_
+  deed-done l allowed next s end left a =
+      record {
+        queued = s .status .queued;
+        room = a .0;
+        goes = λ _. (rw (seen l) (a .1 next allowed s), refl);
+        stops = λ t. absurd (false≢true (sym t));
+      }
+
+-- ---- the whole unit: it is refused by its reading, or carried out
 
 module _ (path : List Text) (b : Box) (u : Text) where
-  pub attempt-read : (n : ℕ) → readUnit (b .core .settings) path u ≡ refused n → attempt path b u ≡ refused n
+  attempt-read : (n : ℕ) → readUnit (b .core .settings) path u ≡ refused n → attempt path b u ≡ refused n
   unfolding attempt _>>=_
   attempt-read n e = rw e
 
-  pub attempt-barred : (r : Read) (n : ℕ) → readUnit (b .core .settings) path u ≡ passed r → permitted (r .deed) (b .core) ≡ refused n
-      → attempt path b u ≡ refused n
-  unfolding attempt _>>=_ _>>_
-  attempt-barred r n e p = rw (e, p)
-
-  module _ (r : Read) (e : readUnit (b .core .settings) path u ≡ passed r) (p : permitted (r .deed) (b .core) ≡ passed tt) where
-    pub attempt-done : (c : Box) → perform (r .deed) b ≡ passed c → attempt path b u ≡ passed (record { path = r .path; box = c })
-    unfolding attempt _>>=_ _>>_
-    attempt-done c f = rw (e, p, f)
-
-    pub attempt-full : (n : ℕ) → perform (r .deed) b ≡ refused n → attempt path b u ≡ refused n
-    unfolding attempt _>>=_ _>>_
-    attempt-full n f = rw (e, p, f)
-
--- ---- a unit that was read, and then refused or performed
+  attempt-carried : (r : Read) → readUnit (b .core .settings) path u ≡ passed r
+      → attempt path b u ≡ (carried (r .deed) b >>= λ c. passed (record { path = r .path; box = c }))
+  unfolding attempt _>>=_
+  attempt-carried r e = rw e (sym (first-check (permitted (r .deed) (b .core)) (perform (r .deed) b) (λ c. passed (record { path = r .path; box = c }))))
 
 module _ (d : Done) (path : List Text) (unit : Text) (keys : List ℕ) (res : Decision) (used : ℕ) (read : UnitRead (d .present .settings) path unit res used keys) where
   pub unit-allowed : (e : Deed) → res ≡ Obey e → Allowed (d .present .settings) e
@@ -57,53 +93,29 @@ module _ (d : Done) (path : List Text) (unit : Text) (keys : List ℕ) (res : De
       read-allowed (d .present .settings) path unit (f .1)
 
   module _ (out : Text) where
-    abbrev b : Box
-    b = boxAt (d .present) out
+    abbrev start : Box
+    start = boxAt (d .present) out
 
-    -- the lock and check 8 see nothing of the answers so far
-    seen : (e : Deed) {m : Checked (Unit {0})} → permitted e (coreIn (d .present .settings) (d .present .status)) ≡ m → permitted e (b .core) ≡ m
-    unfolding permitted
-    seen e p = p
-
-    -- a refusal by any check, which leaves of the answers so far what it leaves of those in out
-    module _ (short : d .present .status .queued ≤ most) (room : d .present .answered < mostAnswer) (e : Error) (r : Done) (w : StoppedWith e (d .present) r) where
-      stopped : (left : Text) → attempt path b unit ≡ refused (numberOf e) → refuse (numberOf e) (boxAt (d .present) left) ≡ refuse (numberOf e) b
-          → UnitRan d path unit out r keys left
-      stopped left is same =
-          let less = w .left .room in
-          record {
-            queued = w .left .queued short;
-            room = omega arith;
-            goes = λ t. absurd (false≢true (sym (w .stops) ∙ t));
-            stops = λ _. (numberOf e, is, w .left .box left ∙ same);
-          }
-
-      pub unit-refused : res ≡ Refused e → UnitRan d path unit out r keys out
-      unit-refused q =
-          let f = subst (λ (r : Decision). UnitRead (d .present .settings) path unit r used keys) q read in
-          stopped out (attempt-read path b unit (numberOf e) f) refl
-
-      module _ (a : Deed) (q : res ≡ Obey a) where
-        pub unit-barred : permitted a (coreIn (d .present .settings) (d .present .status)) ≡ refused (numberOf e) → UnitRan d path unit out r keys out
-        unit-barred l =
-            let f = subst (λ (r : Decision). UnitRead (d .present .settings) path unit r used keys) q read in
-            stopped out (attempt-barred path b unit _ (numberOf e) (f .1) (seen a l)) refl
-
-        pub unit-unanswered : permitted a (coreIn (d .present .settings) (d .present .status)) ≡ passed tt → (left : Text)
-            → Answered a (d .present) out (noAnswer e) left → UnitRan d path unit out r keys left
-        unit-unanswered l left w =
-            let f = subst (λ (r : Decision). UnitRead (d .present .settings) path unit r used keys) q read in
-            stopped left (attempt-full path b unit _ (f .1) (seen a l) (numberOf e) (w .0)) (w .1)
-
-    pub unit-obeyed : (a : Deed) → res ≡ Obey a → permitted a (coreIn (d .present .settings) (d .present .status)) ≡ passed tt
-        → (next : Present) → After a (d .present) next → (end : ℕ) (left : Text) → Answered a (d .present) out (Until end) left
-        → UnitRan d path unit out
-        (record { present = record { settings = next .settings; status = next .status; answered = end }; used = used; obeyed = true }) keys left
-    unit-obeyed a q l next s end left w =
+    pub unit-refused : d .present .status .queued ≤ most → d .present .answered < mostAnswer → (e : Error) (r : Done) → StoppedWith e (d .present) r → res ≡ Refused e
+        → UnitRan d path unit out r keys out
+    unit-refused short room e r w q =
         let f = subst (λ (r : Decision). UnitRead (d .present .settings) path unit r used keys) q read in
+        let less = w .left .room in
         record {
-          queued = s .status .queued;
-          room = w .0;
-          goes = λ _. (f .0, attempt-done path b unit _ (f .1) (seen a l) _ (w .1 next (unit-allowed a q) s), f .2);
-          stops = λ t. absurd (false≢true (sym t));
+          queued = w .left .queued short;
+          room = omega arith;
+          goes = λ t. absurd (false≢true (sym (w .stops) ∙ t));
+          stops = λ _. (numberOf e, attempt-read path start unit (numberOf e) f, w .left .box out);
+        }
+
+    pub unit-carried : (a : Deed) → res ≡ Obey a → (r : Done) (left : Text) → CarriedOut a used (d .present) out r left → UnitRan d path unit out r keys left
+    unfolding _>>=_
+    unit-carried a q r left c =
+        let f = subst (λ (r : Decision). UnitRead (d .present .settings) path unit r used keys) q read in
+        let is = attempt-carried path start unit _ (f .1) in
+        record {
+          queued = c .queued;
+          room = c .room;
+          goes = λ t. let g = c .goes t in (f .0, is ∙ rw (g .0), rw (g .1) (f .2));
+          stops = λ t. let g = c .stops t in (g .0, is ∙ rw (g .1), g .2);
         }

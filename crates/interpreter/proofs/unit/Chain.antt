@@ -30,7 +30,7 @@ use Rattle.interpreter.specs.declared.parameter.Decision.{Decision}
 use Rattle.interpreter.specs.declared.parameter.Decision.the-variants.{Refused as noDeed, Obey as someDeed}
 use Rattle.interpreter.proofs.Lists.{rest-is}
 use Rattle.interpreter.proofs.header.Laws.{found-most}
-use Rattle.interpreter.proofs.Checks.{apart}
+use Rattle.interpreter.proofs.Checks.{apart, first-check}
 use Rattle.interpreter.proofs.unit.HeaderAllowed.{allowed-behind}
 use Rattle.interpreter.proofs.unit.Found.{role-found}
 
@@ -90,11 +90,6 @@ module _ (s : Settings) (asked : Bool) (ps : List Text) where
   -- the checks after the header, with what is made of the deed
   abbrev checksWith : Checked Role → (Deed → Checked Read) → Checked Read
   checksWith m k = full >> m >>= λ r. few r >> enough r >> deedOf s r asked ps >>= k
-
-first-check : {A B : Type 0} (x : Checked (Unit {0})) (m : Checked A) (f : A → Checked B) → ((x >> m) >>= f) ≡ (x >> (m >>= f))
-unfolding _>>_ _>>=_
-first-check (refused n) m f = refl
-first-check (passed _) m f = refl
 
 decided-then : (s : Settings) (row : ℕ) (asked : Bool) (t : Text) (k : Deed → Checked Read)
     → (decided s row asked t >>= k) ≡ checksWith s asked (parameters t) (roleFound row) k
