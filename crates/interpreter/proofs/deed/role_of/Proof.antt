@@ -1,15 +1,13 @@
 -- A setting's row has its number, the rows after the settings have an arm each, and those of the register sets go by set and place. What
 -- the definition's list of rows says at each number is computed (deed/Laws).
-use mathlib.Core.Path.{_≡_, refl, sym, ap, _∙_}
-use Prim.Native.Nat.{ℕ, _+_, _-_, _≤_, _<_}
+use mathlib.Core.Path.{_≡_}
+use Prim.Native.Nat.{ℕ, _+_, _-_, _≤_}
 use native.Mathlib.Omega.{arith}
-use borrow.Author.Tests.{ne-eqb, le-leb, lt-leb}
 use borrow.Author.Needs.{needs}
-use Rattle.registers.specs.Text.{if_then_else_}
 use Rattle.registers.specs.Settings.{count, table}
 use Rattle.interpreter.specs.Rows.{rows, settingRows, otherRows}
-use Rattle.interpreter.specs.DeedParts.{rowCount, roleAt, commonRows}
-use Rattle.interpreter.proofs.deed.Laws.{role-setting, role-told}
+use Rattle.interpreter.specs.DeedParts.{roleAt, commonRows}
+use Rattle.interpreter.proofs.deed.Laws.{role-setting, role-of-sets}
 use Rattle.interpreter.proofs.deed.role_of.Statement.{statement}
 use Rattle.interpreter.proofs.deed.role_of.Tie as tie
 
@@ -20,31 +18,25 @@ returns c = role-setting (c .before .args .row) (c .if1 .taken)
 numbered : {row k : ℕ} → count ≤ row → row - count ≡ k → row ≡ count + k
 numbered h e = omega arith
 
-again : (row : ℕ) → count ≤ row → roleAt (count + (row - count)) ≡ roleAt row
-again row h = ap roleAt (sym (numbered h refl))
-
-placed : (row : ℕ) → count ≤ row → row < rowCount → count + (row - count) < rowCount
-placed row h k = omega arith
-
 returns-2 : tie.Need-returns-2
-unfolding if_then_else_
 returns-2 c =
     let s = c .before .before .before .before in
     let row = s .args .row in
     let after = c .before .before .before .if1 .left in
-    rw (c .of-set .ensures, c .before .set-at .ensures) (rw (le-leb commonRows (row - count) (c .before .before .if2 .taken)) at (role-told (row - count) (placed row after (s .pre))) ∙ again row after)
+    let sets = c .before .before .if2 .taken in
+    let whole : count + commonRows + (row - count - commonRows) ≡ row = omega arith in
+    rw (c .of-set .ensures, c .before .set-at .ensures) (rw whole at (role-of-sets (row - count - commonRows) (omega (arith, s .pre))))
 
+-- the last arm is for the one place that is left
 returns-14 : tie.Need-returns-14
-unfolding if_then_else_
+unfolding roleAt rows settingRows otherRows table
 returns-14 c =
-    let s = c .before .before .before in
-    let row = s .args .row in
-    let place = row - count in
-    let after = c .before .before .if1 .left in
+    let place = c .before .before .before .args .row - count in
     let n = c .match .rest in
-    rw (lt-leb commonRows place (c .before .if2 .left), ne-eqb place 0 (n .0 .0 .0 .0 .0 .0 .0 .0 .0 .0 .1), ne-eqb place 1 (n .0 .0 .0 .0 .0 .0 .0 .0 .0 .1), ne-eqb place 2 (n .0 .0 .0 .0 .0 .0 .0 .0 .1), ne-eqb place 3 (n .0 .0 .0 .0 .0 .0 .0 .1), ne-eqb place 4 (n .0 .0 .0 .0 .0 .0 .1), ne-eqb place 5 (n .0 .0 .0 .0 .0 .1), ne-eqb place 6 (n .0 .0 .0 .0 .1), ne-eqb place 7 (n .0 .0 .0 .1), ne-eqb place 8 (n .0 .0 .1), ne-eqb place 9 (n .0 .1), ne-eqb place 10 (n .1))
-    at (role-told place (placed row after (s .pre)))
-    ∙ again row after
+    let from-4 : 4 ≤ place = omega (arith, n .0 .0 .0 .0 .0 .0 .0 .0 .0 .0 .1, n .0 .0 .0 .0 .0 .0 .0 .0 .0 .1, n .0 .0 .0 .0 .0 .0 .0 .0 .1, n .0 .0 .0 .0 .0 .0 .0 .1) in
+    let from-8 : 8 ≤ place = omega (arith, n .0 .0 .0 .0 .0 .0 .1, n .0 .0 .0 .0 .0 .1, n .0 .0 .0 .0 .1, n .0 .0 .0 .1) in
+    let last : place ≡ 11 = omega (arith, c .before .if2 .left, n .0 .0 .1, n .0 .1, n .1) in
+    rw (numbered (c .before .before .if1 .left) last)
 
 pub role-of-spec : {M : Type 1} → statement M
 unfolding roleAt rows settingRows otherRows table
