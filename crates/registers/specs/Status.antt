@@ -9,7 +9,7 @@ use lib.Bits.{bitAnd, bitOr}
 use Rattle.registers.specs.Text.{if_then_else_, every, empty, rest}
 use Rattle.registers.specs.Error.{eventBit, overflow}
 use Rattle.registers.specs.Queue.{mayBeQueued, most}
-use Rattle.registers.specs.Group.{meet, conditionIs, eventRead, withEnable, withPtr, withNtr, possibleGroup, groupAtStart, noGroup, widestGroup}
+use Rattle.registers.specs.Group.{meet, conditionIs, eventRead, withEnable, withPtr, withNtr, possibleGroup, groupAtStart, noGroup, widestGroup, groupCount}
 use Rattle.registers.specs.declared.group.Group.{Group}
 use Rattle.registers.specs.declared.status.Status.{Status}
 use Rattle.registers.specs.declared.status.Register.{Register}
@@ -211,4 +211,4 @@ registerSet x n s = if leb n (widest x) then withRegisters (storedIn x n (regist
 
 unfoldable pub atStart : Status
 atStart =
-    record { events = 128; ese = 0; sre = 0; groups = replicate 3 groupAtStart; queued = 0; errors = replicate most 0 }
+    record { events = 128; ese = 0; sre = 0; groups = replicate groupCount groupAtStart; queued = 0; errors = replicate most 0 }

@@ -52,7 +52,7 @@ impl Group {
     }
 
     // Tells whether an event is enabled, which is the group's bit in the status byte.
-    pub(crate) fn sums_up(self) -> bool
+    pub(crate) fn has_enabled_event(self) -> bool
         ensures { λ r. ⌜ r ≡ meet (self .event) (self .enable) ⌝ }
     {
         self.event & self.enable != 0

@@ -14,12 +14,11 @@ use borrow.Author.Tests.{lt-ltb, le-ltb, le-leb, lt-leb, eq-eqb, ne-eqb}
 use Rattle.registers.specs.Text.{if_then_else_, first, empty, every}
 use Rattle.registers.specs.Error.{eventBit, overflow}
 use Rattle.registers.specs.Queue.{mayBeQueued, most}
-use Rattle.registers.specs.Group.{meet, widestGroup, noGroup}
-use Rattle.registers.specs.Status.{registersOf, troubleOf, raisedIn, oldestReadIn, reportedIn, registerSet, storedIn, withTrouble, withRegisters, setReported, setBits, placeOf, widest, bitIf, summary, statusByte, possibleRegisters, possibleTrouble, possibleStatus}
+use Rattle.registers.specs.Group.{meet, widestGroup}
+use Rattle.registers.specs.Status.{Registers, registersOf, troubleOf, groupIn, raisedIn, oldestReadIn, reportedIn, registerSet, storedIn, withTrouble, withRegisters, setReported, setBits, summedUp, bitOf, widest, bitIf, summary, statusByte, possibleRegisters, possibleTrouble, possibleStatus}
 use Rattle.registers.specs.declared.status.Register.{Register}
 use Rattle.registers.specs.declared.status.RegisterSet.{RegisterSet}
 use Rattle.registers.specs.declared.status.RegisterSet.the-variants.{Operation, Lock, Warning}
-use Rattle.registers.specs.declared.group.Group.{Group}
 use Rattle.registers.specs.declared.status.Status.{Status}
 
 -- ---- an error raised, by the room in the queue
@@ -123,14 +122,12 @@ module _ (s : Status) where
 
 -- ---- the three groups
 
--- a set's place is one of the three
-pub place-within : (x : RegisterSet) → placeOf x < 3
-place-within Operation = omega arith
-place-within Lock = omega arith
-place-within Warning = omega arith
+-- the weight of a set's bit
+weight-is : (x : RegisterSet) (r : Registers) → (if meet (groupIn x r .event) (groupIn x r .enable) then 2 ^ bitOf x else 0) ≡ summedUp x (r .groups)
+weight-is x r = bit-is (meet (groupIn x r .event) (groupIn x r .enable)) (bitOf x)
 
 -- the weights of the three bits
-pub bits-are : (l : List Group) → let bit : ℕ → ℕ → ℕ = λ i w. if meet (getD l i noGroup .event) (getD l i noGroup .enable) then w else 0 in
-    bit 0 128 + bit 1 1 + bit 2 2 ≡ setBits l
+pub bits-are : (r : Registers) → let bit : RegisterSet → ℕ → ℕ = λ x w. if meet (groupIn x r .event) (groupIn x r .enable) then w else 0 in
+    bit Operation 128 + bit Lock 1 + bit Warning 2 ≡ setBits (r .groups)
 unfolding setBits
-bits-are l = rw (bit-is (meet (getD l 0 noGroup .event) (getD l 0 noGroup .enable)) 7, bit-is (meet (getD l 1 noGroup .event) (getD l 1 noGroup .enable)) 0, bit-is (meet (getD l 2 noGroup .event) (getD l 2 noGroup .enable)) 1)
+bits-are r = rw (weight-is Operation r, weight-is Lock r, weight-is Warning r)

@@ -9,7 +9,7 @@ use Rattle.registers.proofs.status.Status.status_byte.Tie as tie
 
 returns : tie.Need-returns
 returns c =
-    let o = c .before .before .before .before .before .before .before .before .before in
+    let o = c .before .before .before .before .before .before .before .before in
     let s = o .args .self in
     let long = length-unmapped ℕ (s .errors) 16 (o .good .0 .1 .1 .1 .1 .1 .1 .1 .0 .1 .0 .1) in
     let r = c .before .before in
