@@ -1,12 +1,16 @@
 -- "Registers and queue": how many errors wait at most, and which numbers may stand in the queue. 222 stands for -222.
 use mathlib.Core.Bool.{Bool, false, _||_}
 use mathlib.Core.List.{List, [], _∷_}
-use Prim.Native.Nat.{ℕ}
+use Prim.Native.Nat.{ℕ, _-_}
 use lib.Dec.{eqb}
 
 -- "The queue holds 16 numbers"
 abbrev pub most : ℕ
 most = 16
+
+-- the last of its places, "the sixteenth"
+abbrev pub lastPlace : ℕ
+lastPlace = most - 1
 
 -- the numbers that 01 puts into the queue: refusal 4 speaks of "a number this paper never puts there"
 unfoldable pub queueable : List ℕ

@@ -8,7 +8,7 @@ use lib.ListN.{length, take, drop, set, getD, replicate}
 use lib.Bits.{bitAnd, bitOr}
 use Rattle.registers.specs.Text.{if_then_else_, every, empty, rest}
 use Rattle.registers.specs.Error.{eventBit, overflow}
-use Rattle.registers.specs.Queue.{mayBeQueued, most}
+use Rattle.registers.specs.Queue.{mayBeQueued, most, lastPlace}
 use Rattle.registers.specs.Group.{meet, conditionIs, eventRead, withEnable, withPtr, withNtr, possibleGroup, groupAtStart, noGroup, widestGroup, groupCount}
 use Rattle.registers.specs.declared.group.Group.{Group}
 use Rattle.registers.specs.declared.status.Status.{Status}
@@ -41,7 +41,7 @@ unfoldable pub raised : ℕ → Trouble → Trouble
 raised n t =
     if ltb (length (t .queue)) most
     then record { events = bitOr (t .events) (eventBit n); queue = t .queue ++ n ∷ [] }
-    else record { events = bitOr (bitOr (t .events) (eventBit n)) (eventBit overflow); queue = take 15 (t .queue) ++ overflow ∷ [] }
+    else record { events = bitOr (bitOr (t .events) (eventBit n)) (eventBit overflow); queue = take lastPlace (t .queue) ++ overflow ∷ [] }
 
 -- what *CLS leaves
 abbrev pub noTrouble : Trouble
@@ -184,7 +184,7 @@ unfoldable pub raisedIn : ℕ → Status → Status
 raisedIn n s =
     if ltb (s .queued) most
     then withTrouble (bitOr (s .events) (eventBit n)) (s .queued + 1) (set (s .errors) (s .queued) n) s
-    else withTrouble (bitOr (bitOr (s .events) (eventBit n)) (eventBit overflow)) (s .queued) (set (s .errors) 15 overflow) s
+    else withTrouble (bitOr (bitOr (s .events) (eventBit n)) (eventBit overflow)) (s .queued) (set (s .errors) lastPlace overflow) s
 
 -- "*CLS clears the event status register, the operation event register and the queue, nothing else"; by 02 "all three event registers"
 unfoldable pub clearedIn : Status → Status

@@ -3,7 +3,7 @@ use crate::answer;
 ghost use mathlib.Core.Path.{_≡_};
 ghost use Prim.Native.Nat.{_≤_};
 ghost use Rattle.registers.specs.Answer.{Laid};
-ghost use Rattle.registers.specs.AnswerParts.{LaidAt};
+ghost use Rattle.registers.specs.AnswerParts.{farthest, LaidAt};
 ghost use Rattle.registers.specs.Error.{numberOf, eventBit, messages, messageIn, errorText};
 ghost use Rattle.registers.specs.ErrorParts.{messageTable, rowIn, quoted};
 
@@ -98,7 +98,7 @@ fn row_of(table: &[u8], number: u16) -> usize
 
 // Writes what follows the number in an answer: a comma and the number's text in quotes.
 fn quoted_at(table: &[u8], number: u16, tail: &mut [u8], at: usize) -> usize
-    requires { ⌜ (now table ≡ messageTable) × (at ≤ 100) ⌝ }
+    requires { ⌜ (now table ≡ messageTable) × (at ≤ farthest) ⌝ }
     ensures { λ r. ⌜ LaidAt at (quoted (messageIn messages number)) (now (tail .entry)) r (now (tail .exit)) ⌝ }
 {
     let row = row_of(table, number) * WIDTH;

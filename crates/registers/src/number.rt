@@ -47,6 +47,9 @@ struct Exponent {
 // and so nothing wraps however many digits a line holds.
 const HELD: u64 = 1_000_000_000_000;
 
+// The largest size of an exponent.
+const MOST_EXPONENT: u64 = 9;
+
 // Reads the digits at a place. They go on from the number `from`, as a fraction's do from the whole.
 fn read_digits(text: &[u8], at: usize, from: u64) -> Digits
     requires { ⌜ (at ≤ length (now text)) × (from ≤ held) ⌝ }
@@ -135,7 +138,7 @@ fn valued(minus: bool, mantissa: Mantissa, exponent: Exponent, power: Power) -> 
         return ReadNumber::Refused(Error::TooManyDigits);
     }
     let size = exponent.size;
-    if 9 < size {
+    if MOST_EXPONENT < size {
         return ReadNumber::Refused(Error::ExponentTooLarge);
     }
     let places = mantissa.places as u64;

@@ -38,6 +38,9 @@ pub enum Register {
     Ptr(RegisterSet),
 }
 
+// Bit 6, the summary of the status byte, which *SRE never has.
+const SUMMARY: u16 = 64;
+
 // Gives a bit's weight where the bit is on; a function, so that each sum of bits has a bound.
 fn bit_if(on: bool, weight: u8) -> u8
     ensures { λ r. ⌜ r ≡ if on then weight else 0 ⌝ }
@@ -235,7 +238,7 @@ impl Status {
                 return self;
             }
             Register::Sre => {
-                self.sre = value - (value & 64);
+                self.sre = value - (value & SUMMARY);
                 return self;
             }
             Register::Enable(set) => {
@@ -275,7 +278,7 @@ impl Status {
         let answer = bit_if(answers, 16);
         let queue = bit_if(self.queued != 0, 4);
         let summary = sets + standard + answer + queue;
-        summary + bit_if(summary as u16 & self.sre != 0, 64)
+        summary + bit_if(summary as u16 & self.sre != 0, SUMMARY as u8)
     }
 
     // Refusal 4 tests the queue's length first: only so many numbers are looked at.
@@ -287,7 +290,7 @@ impl Status {
             return false;
         }
         let enables = (self.ese <= Status::WIDEST) & (self.sre <= Status::WIDEST);
-        let registers = enables & (self.sre & 64 == 0);
+        let registers = enables & (self.sre & SUMMARY == 0);
         let errors = self.errors;
         let groups = self.groups;
         let trouble = (self.events <= Status::WIDEST) & queue::may_all_be_queued(errors, count);

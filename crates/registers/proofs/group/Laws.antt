@@ -94,7 +94,7 @@ transition-bit k new g = simp (has-or, has-and, rises-bit, falls-bit)
 
 -- ---- no register above its width
 
-or-within : (k a b : ℕ) → a ≤ 2 ^ k - 1 → b ≤ 2 ^ k - 1 → bitOr a b ≤ 2 ^ k - 1
+pub or-within : (k a b : ℕ) → a ≤ 2 ^ k - 1 → b ≤ 2 ^ k - 1 → bitOr a b ≤ 2 ^ k - 1
 or-within k a b ha hb = let p = pow-pos k in let h = or-lt k a b (omega arith) (omega arith) in omega arith
 
 -- the five facts of the test

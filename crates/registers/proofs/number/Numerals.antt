@@ -13,7 +13,7 @@ use mir.Val.{Fits}
 use mir.Facts.{and-yes}
 use borrow.Author.Tests.{le-leb, lt-leb, leb-true, leb-false, eqb-true, eqb-false}
 use Rattle.registers.specs.Text.{Text, if_then_else_, digit, every, start, after}
-use Rattle.registers.specs.Number.{numeralFrom}
+use Rattle.registers.specs.Number.{mostDigits, numeralFrom}
 use Rattle.registers.specs.NumberParts.{held, DigitsRead}
 use Rattle.registers.proofs.text.Laws.{start-more, end-drop, end-within, digit-bounds}
 
@@ -59,7 +59,7 @@ numeral-bounds n (d ∷ ds) t =
     (one-more n (d - 48) (10 ^ length ds) (numeralFrom (n * 10 + (d - 48)) ds) (omega arith) (ih .0) (ih .1))
 
 -- "more than 12 mantissa digits after leading zeros" make a number of 10 to the power 12 or more, and twelve a lower one
-pub few-digits : (ds : Text) → T (every digit ds) → leb (length (after (eqb 48) ds)) 12 ≡ ltb (numeralFrom 0 ds) held
+pub few-digits : (ds : Text) → T (every digit ds) → leb (length (after (eqb 48) ds)) mostDigits ≡ ltb (numeralFrom 0 ds) held
 unfolding numeralFrom if_then_else_
 few-digits [] t = refl
 few-digits (d ∷ ds) t = go (eqb 48 d) refl (few-digits ds (both .1))
@@ -67,17 +67,17 @@ few-digits (d ∷ ds) t = go (eqb 48 d) refl (few-digits ds (both .1))
     both : T (digit d) × T (every digit ds)
     both = and-yes (digit d) (every digit ds) t
 
-    few : (x : ℕ) → 1 ≤ x → x ≤ 9 → leb (suc (length ds)) 12 ≡ ltb (numeralFrom x ds) held
+    few : (x : ℕ) → 1 ≤ x → x ≤ 9 → leb (suc (length ds)) mostDigits ≡ ltb (numeralFrom x ds) held
     few x low high =
         let b = numeral-bounds x ds (both .1) in
         let p = mul-le-mul-right (10 ^ length ds) low in
         let q = mul-le-mul-right (10 ^ length ds) high in
-        same-test (suc (length ds)) 12 (suc (numeralFrom x ds)) held
-        (λ k. let z = pow-le-pow-right {n = 10} (omega arith) {i = length ds} {j = 11} (omega arith) in omega arith)
-        (λ k. let z = pow-le-pow-right {n = 10} (omega arith) {i = 12} {j = length ds} (omega arith) in omega arith)
+        same-test (suc (length ds)) mostDigits (suc (numeralFrom x ds)) held
+        (λ k. let z = pow-le-pow-right {n = 10} (omega arith) {i = length ds} {j = mostDigits - 1} (omega arith) in omega arith)
+        (λ k. let z = pow-le-pow-right {n = 10} (omega arith) {i = mostDigits} {j = length ds} (omega arith) in omega arith)
 
-    go : (e : Bool) → eqb 48 d ≡ e → leb (length (after (eqb 48) ds)) 12 ≡ ltb (numeralFrom 0 ds) held
-        → leb (length (if e then after (eqb 48) ds else d ∷ ds)) 12 ≡ ltb (numeralFrom (0 * 10 + (d - 48)) ds) held
+    go : (e : Bool) → eqb 48 d ≡ e → leb (length (after (eqb 48) ds)) mostDigits ≡ ltb (numeralFrom 0 ds) held
+        → leb (length (if e then after (eqb 48) ds else d ∷ ds)) mostDigits ≡ ltb (numeralFrom (0 * 10 + (d - 48)) ds) held
     go true q ih = let y = eqb-true 48 d q in let z : 0 * 10 + (d - 48) ≡ 0 = omega arith in rw z ih
     go false q ih =
         let ne = eqb-false 48 d q in

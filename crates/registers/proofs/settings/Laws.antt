@@ -3,7 +3,7 @@
 use mathlib.Core.Path.{_≡_, refl, sym, _∙_, ap, subst}
 use mathlib.Core.Bool.{Bool, true, false, not, _&&_}
 use mathlib.Core.List.{List, [], _∷_}
-use Prim.Native.Nat.{ℕ, zero, suc, _≤_, _<_}
+use Prim.Native.Nat.{ℕ, zero, suc, _^_, _≤_, _<_}
 use native.Mathlib.Omega.{arith}
 use lib.ListN.{length, getD, List·getD-map, List·getD-eq-default}
 use lib.IntN.{ℤ, pos}
@@ -91,12 +91,12 @@ behind-measures i h = ap (λ (x : Setting). x .quantity) (behind-row i h)
 -- what a table holds comes back from its bits
 abbrev small : List ℤ → Bool
 small [] = true
-small (z ∷ l) = ltb (mag z) 2147483648 && small l
+small (z ∷ l) = ltb (mag z) (2 ^ 31) && small l
 
 table-fits : (l : List ℤ) (i : ℕ) → small l ≡ true → SFits w32 (getD l i (pos 0))
 table-fits [] i h = record { sfits = omega arith }
-table-fits (z ∷ l) zero h = record { sfits = ltb-true (mag z) 2147483648 (and-both (ltb (mag z) 2147483648) (small l) h .0) }
-table-fits (z ∷ l) (suc i) h = table-fits l i (and-both (ltb (mag z) 2147483648) (small l) h .1)
+table-fits (z ∷ l) zero h = record { sfits = ltb-true (mag z) (2 ^ 31) (and-both (ltb (mag z) (2 ^ 31)) (small l) h .0) }
+table-fits (z ∷ l) (suc i) h = table-fits l i (and-both (ltb (mag z) (2 ^ 31)) (small l) h .1)
 
 pub low-behind : (i : ℕ) → count ≤ i → pos 0 ≡ lowest i
 unfolding lowest

@@ -13,9 +13,9 @@ use mir.Val.{Fits}
 use borrow.Author.Tests.{lt-ltb, le-ltb, le-leb, lt-leb, eq-eqb, ne-eqb}
 use Rattle.registers.specs.Text.{if_then_else_, first, empty, every}
 use Rattle.registers.specs.Error.{eventBit, overflow}
-use Rattle.registers.specs.Queue.{mayBeQueued, most}
+use Rattle.registers.specs.Queue.{mayBeQueued, most, lastPlace}
 use Rattle.registers.specs.Group.{meet, widestGroup}
-use Rattle.registers.specs.Status.{Registers, registersOf, troubleOf, groupIn, raisedIn, oldestReadIn, reportedIn, registerSet, storedIn, withTrouble, withRegisters, setReported, setBits, summedUp, bitOf, widest, bitIf, summary, statusByte, possibleRegisters, possibleTrouble, possibleStatus}
+use Rattle.registers.specs.Status.{Registers, registersOf, troubleOf, groupIn, raisedIn, oldestReadIn, reportedIn, registerSet, storedIn, withTrouble, withRegisters, setReported, setBits, summedUp, bitOf, widestByte, widest, bitIf, summary, statusByte, possibleRegisters, possibleTrouble, possibleStatus}
 use Rattle.registers.specs.declared.status.Register.{Register}
 use Rattle.registers.specs.declared.status.RegisterSet.{RegisterSet}
 use Rattle.registers.specs.declared.status.RegisterSet.the-variants.{Operation, Lock, Warning}
@@ -37,7 +37,7 @@ module _ (n : ℕ) (s : Status) where
   raised-more h = rw (lt-ltb (s .queued) most h)
 
   pub raised-full : most ≤ s .queued
-      → raisedIn n s ≡ withTrouble (bitOr (bitOr (s .events) (eventBit n)) (eventBit overflow)) (s .queued) (set (s .errors) 15 overflow) s
+      → raisedIn n s ≡ withTrouble (bitOr (bitOr (s .events) (eventBit n)) (eventBit overflow)) (s .queued) (set (s .errors) lastPlace overflow) s
   unfolding raisedIn if_then_else_
   raised-full h = rw (le-ltb (s .queued) most h)
 
@@ -89,7 +89,7 @@ queue-empty [] q h = absurd (omega arith)
 queue-empty (x ∷ l) zero h = refl
 queue-empty (x ∷ l) (suc q) h = sym (ne-eqb (suc q) 0 (λ e. omega arith))
 
-module _ (s : Status) (answers : Bool) (long : length (s .errors) ≡ 16) where
+module _ (s : Status) (answers : Bool) (long : length (s .errors) ≡ most) where
   pub summary-is :
       setBits (s .groups)
       + (if meet (s .events) (s .ese) then 32 else 0)
@@ -116,7 +116,7 @@ module _ (s : Status) where
   queue-above h = rw (lt-leb (s .queued) most h)
 
   pub queue-within : s .queued ≤ most
-      → possibleRegisters (registersOf s) && (leb (s .events) 255 && every mayBeQueued (take (s .queued) (s .errors))) ≡ possibleStatus s
+      → possibleRegisters (registersOf s) && (leb (s .events) widestByte && every mayBeQueued (take (s .queued) (s .errors))) ≡ possibleStatus s
   unfolding possibleStatus possibleTrouble
   queue-within h = rw (le-leb (s .queued) most h, front-short (s .errors) (s .queued) h)
 
