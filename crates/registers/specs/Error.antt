@@ -40,7 +40,7 @@ unfoldable pub eventBit : ℕ → ℕ
 eventBit n = if ltb n 200 then 2 ^ 5 else (if ltb n 300 then 2 ^ 4 else (if ltb n 400 then 2 ^ 3 else 2 ^ 2))
 
 -- the texts of SCPI-99
-unfoldable pub messages : List (ℕ × String)
+abbrev pub messages : List (ℕ × String)
 messages =
     (0, "No error")
     ∷ (101, "Invalid character")

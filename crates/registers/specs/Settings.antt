@@ -196,9 +196,3 @@ meantValues BoolValue = bools
 meantValues Word = someWords
 meantValues Tenths = numbers 10
 meantValues Whole = numbers 1
-
--- the name of a kind that has one
-abbrev pub valuesIn : Kind → Values
-valuesIn bool = BoolValue
-valuesIn (words ws) = Word
-valuesIn (number k low high) = if eqb k 10 then Tenths else Whole

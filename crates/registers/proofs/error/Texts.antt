@@ -23,16 +23,14 @@ use Rattle.registers.proofs.Tables.{table-at, cell-at, table-length}
 -- ---- the table
 
 rows : length messages ≡ rowCount
-unfolding messages
 rows = refl
 
 all-rows : length messageRows ≡ rowCount + 1
-unfolding messages
 all-rows = refl
 
 -- the one test over all messages: each text has room in its row
 all-wide : every (λ (m : ℕ × String). eqb (length (messageRow m)) rowWidth) messageRows ≡ true
-unfolding messageRow messages bytes
+unfolding messageRow bytes
 all-wide = refl
 
 pub table-long : length messageTable ≡ (rowCount + 1) * rowWidth

@@ -51,7 +51,7 @@ module _ (t : Text) (at : ℕ) (w : Digits) (h : DigitsRead t at 0 w) where
   no-point ne =
       let q : point (first (after digit (drop at t))) ≡ false = rw (sym (h .rest)) (ne-eqb (first (drop (w .end) t)) 46 ne) in
       let none : fractionOf (after digit (drop at t)) ≡ [] = rw q in
-      let behind : afterFraction (after digit (drop at t)) ≡ after digit (drop at t) = rw q in
+      let rest-is : afterFraction (after digit (drop at t)) ≡ after digit (drop at t) = rw q in
       let all : mantissaOf (drop at t) ≡ whole = rw none (append-nil whole) in
       let n = h .end in
       let long : w .end - at ≡ length whole = omega arith in
@@ -59,7 +59,7 @@ module _ (t : Text) (at : ℕ) (w : Digits) (h : DigitsRead t at 0 w) where
         value = h .value ∙ ap (λ (u : Text). min held (numeral u)) (sym all);
         count = long ∙ ap length (sym all);
         places = ap length (sym none);
-        rest = h .rest ∙ sym behind;
+        rest = h .rest ∙ sym rest-is;
         within = h .within;
         short = omega arith;
       }
@@ -72,7 +72,7 @@ module _ (t : Text) (at : ℕ) (w : Digits) (h : DigitsRead t at 0 w) where
       let q : point (first (after digit (drop at t))) ≡ true = rw (sym (h .rest), e) in
       let fraction = start digit (drop (w .end + 1) t) in
       let is : fractionOf (after digit (drop at t)) ≡ fraction = rw (q, more) in
-      let behind : afterFraction (after digit (drop at t)) ≡ after digit (drop (w .end + 1) t) = rw (q, more) in
+      let rest-is : afterFraction (after digit (drop at t)) ≡ after digit (drop (w .end + 1) t) = rw (q, more) in
       let all : mantissaOf (drop at t) ≡ whole ++ fraction = ap (λ (u : Text). whole ++ u) is in
       let n = h .end in
       let m = k .end in
@@ -88,7 +88,7 @@ module _ (t : Text) (at : ℕ) (w : Digits) (h : DigitsRead t at 0 w) where
             ∙ ap (min held) (sym (numeral-append 0 whole fraction) ∙ ap numeral (sym all));
         count = count ∙ ap length (sym all);
         places = places ∙ ap length (sym is);
-        rest = k .rest ∙ sym behind;
+        rest = k .rest ∙ sym rest-is;
         within = l;
         short = omega arith;
       }

@@ -1,17 +1,17 @@
 -- The status record by cases: an error raised, the oldest removed, a condition reported, a register set, the status byte, and
 -- refusal 4.
-use mathlib.Core.Path.{_≡_, refl, sym}
+use mathlib.Core.Path.{_≡_, refl}
 use mathlib.Core.Bool.{Bool, true, false, not, _&&_}
 use mathlib.Core.List.{List, [], _∷_, _++_}
 use Prim.Native.Nat.{ℕ, zero, suc, _+_, _-_, _*_, _^_, _≤_, _<_}
 use native.Mathlib.Omega.{arith}
 use lib.Bits.{bitOr}
 use lib.Dec.{leb, eqb}
-use lib.ListN.{length, take, drop, getD, set, length-take}
+use lib.ListN.{length, take, drop, getD, set}
 use mir.Syntax.{w64}
 use mir.Val.{Fits}
 use borrow.Author.Tests.{lt-ltb, le-ltb, le-leb, lt-leb, eq-eqb, ne-eqb}
-use Rattle.registers.specs.Text.{if_then_else_, first, empty, every}
+use Rattle.registers.specs.Text.{if_then_else_, first, every}
 use Rattle.registers.specs.Error.{eventBit, overflow}
 use Rattle.registers.specs.Queue.{mayBeQueued, most, lastPlace}
 use Rattle.registers.specs.Group.{meet, widestGroup}
@@ -20,6 +20,7 @@ use Rattle.registers.specs.declared.status.Register.{Register}
 use Rattle.registers.specs.declared.status.RegisterSet.{RegisterSet}
 use Rattle.registers.specs.declared.status.RegisterSet.the-variants.{Operation, Lock, Warning}
 use Rattle.registers.specs.declared.status.Status.{Status}
+use Rattle.registers.proofs.Tests.{front-empty, front-within}
 
 -- ---- an error raised, by the room in the queue
 
@@ -27,8 +28,8 @@ module _ {n : ℕ} (h : n < most) where
   pub place-fits : Fits w64 (n * 2)
   place-fits = omega arith
 
-  pub behind-fits : Fits w64 (n + 1)
-  behind-fits = omega arith
+  pub next-fits : Fits w64 (n + 1)
+  next-fits = omega arith
 
 module _ (n : ℕ) (s : Status) where
   pub raised-more : s .queued < most
@@ -84,11 +85,6 @@ unfolding if_then_else_
 bit-is true k = refl
 bit-is false k = refl
 
-queue-empty : (l : List ℕ) (q : ℕ) → 0 < length l → empty (take q l) ≡ eqb q 0
-queue-empty [] q h = absurd (omega arith)
-queue-empty (x ∷ l) zero h = refl
-queue-empty (x ∷ l) (suc q) h = sym (ne-eqb (suc q) 0 (λ e. omega arith))
-
 module _ (s : Status) (answers : Bool) (long : length (s .errors) ≡ most) where
   pub summary-is :
       setBits (s .groups)
@@ -98,7 +94,7 @@ module _ (s : Status) (answers : Bool) (long : length (s .errors) ≡ most) wher
       ≡ summary (registersOf s) (troubleOf s) answers
   unfolding summary
   summary-is =
-      rw (queue-empty (s .errors) (s .queued) (omega arith), bit-is (meet (s .events) (s .ese)) 5, bit-is answers 4, bit-is (not (eqb (s .queued) 0)) 2)
+      rw (front-empty (s .errors) (s .queued) (omega arith), bit-is (meet (s .events) (s .ese)) 5, bit-is answers 4, bit-is (not (eqb (s .queued) 0)) 2)
 
   pub byte-is : (n : ℕ) → n ≡ summary (registersOf s) (troubleOf s) answers
       → n + (if meet n (s .sre) then 64 else 0) ≡ statusByte (registersOf s) (troubleOf s) answers
@@ -106,9 +102,6 @@ module _ (s : Status) (answers : Bool) (long : length (s .errors) ≡ most) wher
   byte-is n e = rw (e, bit-is (meet (summary (registersOf s) (troubleOf s) answers) (s .sre)) 6)
 
 -- ---- refusal 4 on the status
-
-front-short : (l : List ℕ) (q : ℕ) → q ≤ most → leb (length (take q l)) most ≡ true
-front-short l q h = le-leb (length (take q l)) most (rw length-take (omega arith))
 
 module _ (s : Status) where
   pub queue-above : most < s .queued → false ≡ possibleStatus s
@@ -118,7 +111,7 @@ module _ (s : Status) where
   pub queue-within : s .queued ≤ most
       → possibleRegisters (registersOf s) && (leb (s .events) widestByte && every mayBeQueued (take (s .queued) (s .errors))) ≡ possibleStatus s
   unfolding possibleStatus possibleTrouble
-  queue-within h = rw (le-leb (s .queued) most h, front-short (s .errors) (s .queued) h)
+  queue-within h = rw (le-leb (s .queued) most h, front-within (s .errors) (s .queued) most h)
 
 -- ---- the three groups
 

@@ -5,7 +5,7 @@ use lib.IntN.{pos}
 use mir.Syntax.{w32}
 use mir.Facts.{toZ-ofZ}
 use Rattle.registers.specs.Settings.{table, range}
-use Rattle.registers.proofs.settings.Laws.{high-read, high-behind, high-narrow, high-other}
+use Rattle.registers.proofs.settings.Laws.{high-read, high-past, high-narrow, high-other}
 use Rattle.registers.proofs.settings.Settings.highest.Statement.{statement}
 use Rattle.registers.proofs.settings.Settings.highest.Tie as tie
 
@@ -35,7 +35,7 @@ returns-3 : tie.Need-returns-3
 returns-3 c =
     let s = c .before .before .before .args .t1 in
     let b = toZ-ofZ {w = w32} {z = getD (s .values) range (pos 0)} (record { sfits = c .before .before .range .given }) in
-    high-behind (c .before .before .before .args .row) (c .if2 .left) ∙ high-other s (c .before .before .before .args .row) (rw b at (c .before .if1 .left))
+    high-past (c .before .before .before .args .row) (c .if2 .left) ∙ high-other s (c .before .before .before .args .row) (rw b at (c .before .if1 .left))
 
 pub highest-spec : {M : Type 1} → statement M
 highest-spec =
