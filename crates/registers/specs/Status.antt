@@ -105,7 +105,7 @@ registerIn (Enable x) r = groupIn x r .enable
 registerIn (Ntr x) r = groupIn x r .ntr
 registerIn (Ptr x) r = groupIn x r .ptr
 
--- a set's event register read; "*CLS clears all three event registers"
+-- a set's event register read; "*CLS clears all three event registers" (02, #104)
 abbrev pub setRead : RegisterSet → Registers → Registers
 setRead x r = withGroup x (eventRead (groupIn x r)) r
 
@@ -116,7 +116,7 @@ allRead r = record { ese = r .ese; sre = r .sre; groups = map eventRead (r .grou
 abbrev pub setReported : RegisterSet → ℕ → Registers → Registers
 setReported x n r = withGroup x (conditionIs n (groupIn x r)) r
 
--- "While any lock condition bit is 1": its event, enable, PTR and NTR have no say
+-- "While any lock condition bit is 1" (02, #105): its event, enable, PTR and NTR have no say
 abbrev pub locked : Registers → Bool
 locked r = not (eqb (groupIn Lock r .condition) 0)
 
@@ -127,7 +127,7 @@ abbrev pub bitIf : Bool → ℕ → ℕ
 bitIf true k = 2 ^ k
 bitIf false k = 0
 
--- a set's bit in the status byte: 02's bits 1 and 3 for LOCK and WARNing hold "unless Table 2.1 of source document 000 says
+-- a set's bit in the status byte: the bits 1 and 3 of 02 (#104) for LOCK and WARNing hold "unless Table 2.1 of source document 000 says
 -- otherwise", and it does
 abbrev pub bitOf : RegisterSet → ℕ
 bitOf Operation = 7
@@ -186,7 +186,8 @@ raisedIn n s =
     then withTrouble (bitOr (s .events) (eventBit n)) (s .queued + 1) (set (s .errors) (s .queued) n) s
     else withTrouble (bitOr (bitOr (s .events) (eventBit n)) (eventBit overflow)) (s .queued) (set (s .errors) lastPlace overflow) s
 
--- "*CLS clears the event status register, the operation event register and the queue, nothing else"; by 02 "all three event registers"
+-- "*CLS clears the event status register, the operation event register and the queue, nothing else"; by 02 (#104) "all three event
+-- registers"
 unfoldable pub clearedIn : Status → Status
 clearedIn s = withRegisters (allRead (registersOf s)) (withTrouble 0 0 (s .errors) s)
 

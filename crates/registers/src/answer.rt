@@ -21,7 +21,7 @@ pub(crate) fn put(tail: &mut [u8], at: usize, b: u8)
     }
 }
 
-// Writes a text at a place of the tail, and answers where it ends, so that the next can follow it.
+// Writes a text at a place of the tail, and gives where it ends, so that the next can follow it.
 pub(crate) fn text_at(text: &[u8], tail: &mut [u8], at: usize) -> usize
     requires { ⌜ at ≤ farthest ⌝ }
     ensures { λ r. ⌜ LaidAt at (now (text .entry)) (now (tail .entry)) r (now (tail .exit)) ⌝ }
@@ -82,7 +82,7 @@ pub fn write_text(text: &[u8], tail: &mut [u8]) -> usize
     text_at(text, tail, 0)
 }
 
-// "Register answers are decimal"
+// Writes a register's number: "Register answers are decimal".
 pub fn write_decimal(n: u32, tail: &mut [u8]) -> usize
     ensures { λ r. ⌜ Laid (decimal n) (now (tail .entry)) r (now (tail .exit)) ⌝ }
 {

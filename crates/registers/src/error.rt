@@ -1,4 +1,4 @@
-// The errors that 01 raises, and their texts.
+// The errors that 01 and 02 raise, and their texts.
 use crate::answer;
 ghost use mathlib.Core.Path.{_≡_};
 ghost use Prim.Native.Nat.{_≤_};

@@ -19,6 +19,7 @@ impl Group {
     // The widest value of each register.
     pub const WIDEST: u16 = 32_767;
 
+    // Makes a set's registers at power-up: PTR has every bit.
     pub(crate) fn power_up() -> Group
         ensures { λ r. ⌜ r ≡ groupAtStart ⌝ }
     {

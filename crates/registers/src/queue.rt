@@ -11,7 +11,7 @@ pub(crate) const MOST: usize = 16;
 
 pub(crate) const LAST: usize = MOST - 1;
 
-// The numbers that 01 puts into the queue.
+// The numbers that 01 and 02 put into the queue.
 const QUEUEABLE: [u16; 19] = [
     101,
     102,

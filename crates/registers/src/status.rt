@@ -89,6 +89,7 @@ impl Status {
     // The widest value of *ESE, *SRE and the event status register.
     pub const WIDEST: u16 = 255;
 
+    // Makes the status of power-up: event status 128, every PTR 32,767, and all else empty.
     pub fn power_up() -> Status
         ensures { λ r. ⌜ r ≡ atStart ⌝ }
     {
@@ -158,6 +159,7 @@ impl Status {
         self
     }
 
+    // Gives the registers of a set.
     pub fn group(self, set: RegisterSet) -> Group
         ensures { λ r. ⌜ r ≡ groupIn set (registersOf self) ⌝ }
     {

@@ -1,4 +1,5 @@
--- A signed number of 32 bits as its sign and its size.
+-- A signed number of 32 bits as its sign and its size, by the two cases of a signed number; the lowest has its size in 64 bits
+-- (`other-fits`).
 use mathlib.Core.Path.{_≡_, refl, sym}
 use mathlib.Core.Bool.{true, false, false≢true}
 use mathlib.Core.List.{[], _∷_, _++_}

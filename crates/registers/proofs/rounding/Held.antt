@@ -21,7 +21,7 @@ use Rattle.registers.specs.declared.rounding.Side.{Side}
 use Rattle.registers.specs.declared.rounding.Sized.{Sized}
 use Rattle.registers.specs.declared.rounding.Stepped.{Stepped}
 use Rattle.registers.proofs.answer.Signs.{minus-is}
-use Rattle.registers.proofs.rounding.Tens.{times-tens}
+use Rattle.registers.proofs.rounding.Tens.{tens-add}
 use Rattle.registers.proofs.rounding.Exact.{tells}
 
 -- ---- a size with its sign
@@ -45,11 +45,11 @@ stepped z x = record { value = z; side = x }
 module _ (tens : ℕ) (d : Decimal) (r : Sized) (is : r ≡ heldOver (d .digits * 10 ^ (d .up + tens)) (10 ^ d .down)) where
   pub held-minus : d .minus ≡ true → stepped (signed true (r .size)) (turned true (r .side)) ≡ heldIn (10 ^ tens) d
   unfolding heldIn heldOver sizeIn sideIn
-  held-minus e = rw (is, times-tens (d .digits) (d .up) tens, e)
+  held-minus e = rw (is, tens-add (d .digits) (d .up) tens, e)
 
   pub held-plus : d .minus ≡ false → stepped (pos (r .size)) (r .side) ≡ heldIn (10 ^ tens) d
   unfolding heldIn heldOver sizeIn sideIn
-  held-plus e = rw (is, times-tens (d .digits) (d .up) tens, e)
+  held-plus e = rw (is, tens-add (d .digits) (d .up) tens, e)
 
 pub minus-bits : (n : ℕ) → n ≤ beyond → pos 0 -ℤ toZ w64 n ≡ signed true n
 minus-bits n h = rw (toZ-pos w64 {n = n} (omega arith)) (minus-is (pos n))

@@ -1,4 +1,5 @@
--- Refusal 4 never comes by what the box does: registers and trouble that could be the box's stay so.
+-- Refusal 4 never comes by what the box does: the facts of its test (`Good`, `Fit`) are kept by each method. And 01's transition rule
+-- over the three sets (`transition`, `others-stay`).
 use mathlib.Core.Path.{_≡_, refl}
 use mathlib.Core.Bool.{Bool, true, false, not, _&&_, _||_}
 use mathlib.Core.List.{List, [], _∷_, _++_, map}

@@ -9,8 +9,8 @@ use Rattle.registers.specs.Check.{passed, check, _>>_}
 use Rattle.registers.specs.Number.{mostExponent, decimalOf, scaled}
 use Rattle.registers.specs.NumberParts.{held, valueRead}
 use Rattle.registers.specs.Text.{if_then_else_}
-use Rattle.registers.proofs.number.valued.Statement.{statement}
-use Rattle.registers.proofs.number.valued.Tie as tie
+use Rattle.registers.proofs.number.value_of.Statement.{statement}
+use Rattle.registers.proofs.number.value_of.Tie as tie
 
 -- neither the digits nor the exponent are refused
 within : (c : tie.Else2)
@@ -48,8 +48,8 @@ returns-4 c =
     let e = c .before .before in
     rw (within (e .before .before .before), e .if3 .left, c .before .above .ensures, c .above2 .ensures)
 
-pub valued-spec : {M : Type 1} → statement M
-valued-spec =
+pub value-of-spec : {M : Type 1} → statement M
+value-of-spec =
     tie.close
     (tie.spec
     returns
