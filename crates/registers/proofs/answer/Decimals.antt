@@ -4,6 +4,7 @@ use mathlib.Core.Path.{_≡_, refl, ap}
 use mathlib.Core.Bool.{Bool, true, false}
 use mathlib.Core.List.{[], _∷_, _++_}
 use Prim.Native.Nat.{ℕ, zero, suc, _+_, _-_, _^_, _/_, _%_, _≤_, _<_}
+use Prim.Native.Char.{code}
 use native.Mathlib.Omega.{arith}
 use native.Mathlib.Nat.{pow-suc}
 use lib.ListN.{length, length-append}
@@ -23,19 +24,19 @@ more zero n h = rw (lt-ltb n 10 h)
 more (suc p) n h = go (ltb n 10) (more p (n / 10) (let e = pow-suc 10 (suc p) in omega arith))
   where
     go : (t : Bool) → inPlaces (suc p) (n / 10) ≡ inPlaces (suc (suc p)) (n / 10)
-        → (if t then (48 + n) ∷ [] else inPlaces (suc p) (n / 10) ++ (48 + n % 10) ∷ [])
-        ≡ (if t then (48 + n) ∷ [] else inPlaces (suc (suc p)) (n / 10) ++ (48 + n % 10) ∷ [])
+        → (if t then (code "0" + n) ∷ [] else inPlaces (suc p) (n / 10) ++ (code "0" + n % 10) ∷ [])
+        ≡ (if t then (code "0" + n) ∷ [] else inPlaces (suc (suc p)) (n / 10) ++ (code "0" + n % 10) ∷ [])
     go true e = refl
-    go false e = ap (λ (l : Text). l ++ (48 + n % 10) ∷ []) e
+    go false e = ap (λ (l : Text). l ++ (code "0" + n % 10) ∷ []) e
 
-pub decimal-one : (n : ℕ) → n < 10 → decimal n ≡ (48 + n) ∷ []
+pub decimal-one : (n : ℕ) → n < 10 → decimal n ≡ (code "0" + n) ∷ []
 unfolding decimal inPlaces if_then_else_
 decimal-one n h = rw (lt-ltb n 10 h)
 
 -- the last digit stands after the decimal of the rest
-pub decimal-more : (n : ℕ) → 10 ≤ n → n < 10 ^ mostPlaces → decimal n ≡ decimal (n / 10) ++ (48 + n % 10) ∷ []
+pub decimal-more : (n : ℕ) → 10 ≤ n → n < 10 ^ mostPlaces → decimal n ≡ decimal (n / 10) ++ (code "0" + n % 10) ∷ []
 unfolding decimal inPlaces if_then_else_
-decimal-more n g h = rw (le-ltb n 10 g) (ap (λ (l : Text). l ++ (48 + n % 10) ∷ []) (more (mostPlaces - 2) (n / 10) (omega arith)))
+decimal-more n g h = rw (le-ltb n 10 g) (ap (λ (l : Text). l ++ (code "0" + n % 10) ∷ []) (more (mostPlaces - 2) (n / 10) (omega arith)))
 
 inPlaces-length : (p n : ℕ) → length (inPlaces p n) ≤ p
 unfolding inPlaces if_then_else_
@@ -43,9 +44,9 @@ inPlaces-length zero n = omega arith
 inPlaces-length (suc p) n = go (ltb n 10) (inPlaces-length p (n / 10))
   where
     go : (t : Bool) → length (inPlaces p (n / 10)) ≤ p
-        → length (if t then (48 + n) ∷ [] else inPlaces p (n / 10) ++ (48 + n % 10) ∷ []) ≤ suc p
+        → length (if t then (code "0" + n) ∷ [] else inPlaces p (n / 10) ++ (code "0" + n % 10) ∷ []) ≤ suc p
     go true h = omega arith
-    go false h = let e = length-append (inPlaces p (n / 10)) ((48 + n % 10) ∷ []) in omega arith
+    go false h = let e = length-append (inPlaces p (n / 10)) ((code "0" + n % 10) ∷ []) in omega arith
 
 pub decimal-length : (n : ℕ) → length (decimal n) ≤ mostPlaces
 unfolding decimal
@@ -62,7 +63,7 @@ module _ (n : ℕ) {at r : ℕ} (e : r ≡ at + length (decimal n)) where
 pub tenths-length : (n : ℕ) → length (tenths n) ≤ mostPlaces + 2
 unfolding tenths
 tenths-length n =
-    let e = length-append (decimal (n / 10)) (46 ∷ decimal (n % 10)) in
+    let e = length-append (decimal (n / 10)) (code "." ∷ decimal (n % 10)) in
     let d = decimal-length (n / 10) in
     let l : length (decimal (n % 10)) ≡ 1 = rw (decimal-one (n % 10) (omega arith)) in
     omega arith

@@ -4,6 +4,7 @@ use mathlib.Core.Path.{_≡_, refl, sym}
 use mathlib.Core.Bool.{true, false, false≢true}
 use mathlib.Core.List.{[], _∷_, _++_}
 use Prim.Native.Nat.{ℕ, zero, suc, _^_, _≤_, _<_}
+use Prim.Native.Char.{code}
 use native.Mathlib.Omega.{arith}
 use lib.Dec.{T}
 use lib.IntN.{ℤ, pos, negsuc, negℤ, natAbs, _-ℤ_, +ℤ-idl}
@@ -29,8 +30,8 @@ from-zero : (P : ℤ → Type 0) → ((n : ℕ) → P (pos n)) → (z : ℤ) →
 from-zero P f (pos n) e = f n
 from-zero P f (negsuc n) e = absurd (false≢true (sym e))
 
-pub sign-minus : (z : ℤ) → ltZ z (pos 0) ≡ true → signText z ≡ 45 ∷ []
-sign-minus = below-zero (λ z. signText z ≡ 45 ∷ []) (λ n. refl)
+pub sign-minus : (z : ℤ) → ltZ z (pos 0) ≡ true → signText z ≡ code "-" ∷ []
+sign-minus = below-zero (λ z. signText z ≡ code "-" ∷ []) (λ n. refl)
 
 pub sign-plus : (z : ℤ) → ltZ z (pos 0) ≡ false → signText z ≡ []
 sign-plus = from-zero (λ z. signText z ≡ []) (λ n. refl)

@@ -3,6 +3,7 @@ use mathlib.Core.Path.{_≡_, refl, ap, _∙_}
 use mathlib.Core.Bool.{Bool, true, false}
 use mathlib.Core.List.{List, [], _∷_, _++_, append-assoc}
 use Prim.Native.Nat.{ℕ, zero, suc, _+_, _-_, _*_, _≤_, _<_}
+use Prim.Native.Char.{code}
 use Prim.Native.String.{String}
 use native.Mathlib.Nat.{add-zero}
 use native.Mathlib.Numerals.{add-one}
@@ -184,7 +185,7 @@ module _ (n row : ℕ) where
 -- an error's number stands in the answer as a negative number
 pub error-text : (n : ℕ) → errorText n ≡ signedText decimal (negℤ (pos n)) ++ quoted (messageIn messages n)
 unfolding errorText if_then_else_
-error-text zero = append-assoc (decimal 0) (44 ∷ 34 ∷ bytes (messageIn messages 0)) (34 ∷ [])
+error-text zero = append-assoc (decimal 0) (code "," ∷ code "\"" ∷ bytes (messageIn messages 0)) (code "\"" ∷ [])
 error-text (suc n) =
     rw (ne-eqb (suc n) 0 (λ (e : suc n ≡ 0). omega arith))
-    (append-assoc (45 ∷ decimal (suc n)) (44 ∷ 34 ∷ bytes (messageIn messages (suc n))) (34 ∷ []))
+    (append-assoc (code "-" ∷ decimal (suc n)) (code "," ∷ code "\"" ∷ bytes (messageIn messages (suc n))) (code "\"" ∷ []))

@@ -4,6 +4,7 @@ use mathlib.Core.Path.{_≡_, refl, ap, sym, _∙_}
 use mathlib.Core.Bool.{Bool, true, false, not}
 use mathlib.Core.List.{[], _∷_}
 use Prim.Native.Nat.{ℕ, suc, min}
+use Prim.Native.Char.{code}
 use native.Mathlib.Omega.{arith}
 use lib.Dec.{T, leb, ltb, eqb}
 use lib.ListN.{length, drop}
@@ -42,7 +43,7 @@ chain-value none (passed p) false low h = refl
 
 -- check 6 by the first two and what the reader found: the first byte, the mantissa and the exponent
 unfoldable pub verdict : Bool → Checked Power → ℕ → Mantissa → Exponent → Checked Decimal
-verdict none scale b m x = check 121 (not none) >> scale >>= λ p. valueRead (eqb b 45) m x p
+verdict none scale b m x = check 121 (not none) >> scale >>= λ p. valueRead (eqb b (code "-")) m x p
 
 no-digits : (l : Text) (n : ℕ) → n ≡ length l → empty l ≡ eqb n 0
 no-digits [] n e = rw e
@@ -99,7 +100,7 @@ module _ {t : Text} {b s : ℕ} {m : Mantissa} {x : Exponent} (byte : b ≡ firs
       rw (none sign mantissa, remainder, few, low, sym byte, sym lowers, sym places-is)
       (chain-value (eqb (m .count) 0) (remains q (drop e t)) _ _ exact)
     where
-      few : leb (length (after (eqb 48) all)) mostDigits ≡ ltb (m .value) held
+      few : leb (length (after (eqb (code "0")) all)) mostDigits ≡ ltb (m .value) held
       few =
           let whole = start digit (afterSign t) in
           let fraction = fractionOf (after digit (afterSign t)) in
@@ -111,8 +112,8 @@ module _ {t : Text} {b s : ℕ} {m : Mantissa} {x : Exponent} (byte : b ≡ firs
       low = let z = size-is in same-test (numeral power) mostExponent (x .size) mostExponent (λ k. omega arith) (λ k. omega arith)
 
       exact : ltb (m .value) held ≡ true → leb (x .size) mostExponent ≡ true
-          → decimalOf (eqb b 45) (numeral all) (m .places) (x .lowers) (numeral power)
-          ≡ decimalOf (eqb b 45) (m .value) (m .places) (x .lowers) (x .size)
+          → decimalOf (eqb b (code "-")) (numeral all) (m .places) (x .lowers) (numeral power)
+          ≡ decimalOf (eqb b (code "-")) (m .value) (m .places) (x .lowers) (x .size)
       exact few low =
           let l = ltb-true (m .value) held few in
           let k = leb-true (x .size) mostExponent low in
