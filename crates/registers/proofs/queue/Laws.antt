@@ -8,7 +8,7 @@ use Prim.Native.Nat.{ℕ, suc, _+_, _-_, _≤_, _<_}
 use native.Mathlib.Numerals.{add-one}
 use native.Mathlib.Omega.{arith}
 use lib.ListN.{length, take, drop, getD, set, replicate, length-take, length-drop, drop-of-length-le}
-use lib.Seq.{drop-cons, set-at, take-suc, take-all, append-snoc, getD-take}
+use lib.Seq.{drop-cons, set-at, take-suc, take-all, append-snoc, getD-take, length-take-le}
 use borrow.Author.Tests.{eq-eqb, ne-eqb}
 use Rattle.registers.specs.Text.{every}
 use Rattle.registers.specs.Error.{numberOf}
@@ -50,12 +50,9 @@ raised-queueable QueryDeadlocked = refl
 
 -- the loop over the numbers that wait
 module _ (errors : List ℕ) (count i : ℕ) (long : length errors ≡ most) (h : count ≤ most) where
-  waiting : length (take count errors) ≡ count
-  waiting = rw length-take (omega arith)
-
   module _ (k : i < count) where
     within : i < length (take count errors)
-    within = let w = waiting in omega arith
+    within = let w = length-take-le count errors (omega arith) in omega arith
 
     pub queued-one : mayBeQueued (getD errors i 0) ≡ true → every mayBeQueued (drop i (take count errors)) ≡ every mayBeQueued (drop (i + 1) (take count errors))
     queued-one e = every-skip mayBeQueued (take count errors) i within (rw (getD-take count errors i 0 k) e)
@@ -64,7 +61,7 @@ module _ (errors : List ℕ) (count i : ℕ) (long : length errors ≡ most) (h 
     queued-none e = every-miss mayBeQueued (take count errors) i within (rw (getD-take count errors i 0 k) e)
 
   pub queued-all : count ≤ i → every mayBeQueued (drop i (take count errors)) ≡ true
-  queued-all k = let w = waiting in let past : length (take count errors) ≤ i = omega arith in rw (drop-of-length-le (take count errors) past)
+  queued-all k = let w = length-take-le count errors (omega arith) in let past : length (take count errors) ≤ i = omega arith in rw (drop-of-length-le (take count errors) past)
 
 -- ---- the oldest removed
 
