@@ -61,15 +61,15 @@ range-fits s v c t = go (leZ (pos 1) v) refl
         not-false _ (sym (ltZ-not twelveVolts (valueAt s voltage)) ∙ low)
 
 -- each of the settings is within its limits
-pub Good : Settings → Type 0
+abbrev pub Good : Settings → Type 0
 Good s = (j : ℕ) → j < count → within s j (valueAt s j) ≡ true
 
 pub good-from : (s : Settings) → possibleSettings s ≡ true → Good s
-unfolding possibleSettings Good
+unfolding possibleSettings
 good-from s e = below-at count (λ j. within s j (valueAt s j)) e
 
 pub good-to : (s : Settings) → Good s → possibleSettings s ≡ true
-unfolding possibleSettings Good
+unfolding possibleSettings
 good-to s g = below-from count (λ j. within s j (valueAt s j)) g
 
 -- the voltage, where the range is what changes
@@ -90,7 +90,6 @@ module _ (s : Settings) (i : ℕ) (v : ℤ) (long : length (s .values) ≡ count
       apart e = omega arith
 
   there-fits : (j : ℕ) → j < count → within (withValue i v s) j (valueAt s j) ≡ true
-  unfolding Good
   there-fits j h = by-range (eqb i range) refl
     where
       by-voltage : i ≡ range → (e : Bool) → eqb j voltage ≡ e → within (withValue i v s) j (valueAt s j) ≡ true
@@ -106,7 +105,6 @@ module _ (s : Settings) (i : ℕ) (v : ℤ) (long : length (s .values) ≡ count
           within-same s (withValue i v s) j (valueAt s j) (highest-same s (withValue i v s) j (λ r. range-kept s i v (eqb-false i range q))) (good j h)
 
   pub value-good : i < count → Good (withValue i v s)
-  unfolding Good
   value-good k j h = go (eqb j i) refl
     where
       go : (e : Bool) → eqb j i ≡ e → within (withValue i v s) j (valueAt (withValue i v s) j) ≡ true
