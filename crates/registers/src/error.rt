@@ -31,7 +31,7 @@ pub enum Error {
 }
 
 impl Error {
-    // Gives 01's number without its minus, as the queue holds it.
+    // Gives the error's number without its minus, as the queue holds it.
     pub fn number(self) -> u16
         ensures { λ r. ⌜ r ≡ numberOf self ⌝ }
     {

@@ -62,7 +62,7 @@ module _ {z : ℤ} (h : SFits w32 z) where
   pub widened : toZ w64 (ofZ w64 (toZ w32 (ofZ w32 z))) ≡ z
   widened = rw (toZ-ofZ {w = w32} h) (toZ-ofZ {w = w64} (sfits-widen tt h))
 
-  -- 64 bits hold its other side of zero, that of -2147483648 too
+  -- 64 bits hold its other side of zero, that of the lowest too
   pub other-fits : SFits w64 (negℤ z)
   other-fits = let f = fits-natAbs {w = w32} {w′ = w32} tt h in neg-fits w64 z (omega arith)
 

@@ -88,16 +88,16 @@ bit-is false k = refl
 module _ (s : Status) (answers : Bool) (long : length (s .errors) ≡ most) where
   pub summary-is :
       setBits (s .groups)
-      + (if meet (s .events) (s .ese) then 32 else 0)
-      + (if answers then 16 else 0)
-      + (if not (eqb (s .queued) 0) then 4 else 0)
+      + (if meet (s .events) (s .ese) then 2 ^ 5 else 0)
+      + (if answers then 2 ^ 4 else 0)
+      + (if not (eqb (s .queued) 0) then 2 ^ 2 else 0)
       ≡ summary (registersOf s) (troubleOf s) answers
   unfolding summary
   summary-is =
       rw (front-empty (s .errors) (s .queued) (omega arith), bit-is (meet (s .events) (s .ese)) 5, bit-is answers 4, bit-is (not (eqb (s .queued) 0)) 2)
 
   pub byte-is : (n : ℕ) → n ≡ summary (registersOf s) (troubleOf s) answers
-      → n + (if meet n (s .sre) then 64 else 0) ≡ statusByte (registersOf s) (troubleOf s) answers
+      → n + (if meet n (s .sre) then 2 ^ 6 else 0) ≡ statusByte (registersOf s) (troubleOf s) answers
   unfolding statusByte
   byte-is n e = rw (e, bit-is (meet (summary (registersOf s) (troubleOf s) answers) (s .sre)) 6)
 
@@ -120,7 +120,7 @@ weight-is : (x : RegisterSet) (r : Registers) → (if meet (groupIn x r .event) 
 weight-is x r = bit-is (meet (groupIn x r .event) (groupIn x r .enable)) (bitOf x)
 
 -- the weights of the three bits
-pub bits-are : (r : Registers) → let bit : RegisterSet → ℕ → ℕ = λ x w. if meet (groupIn x r .event) (groupIn x r .enable) then w else 0 in
-    bit Operation 128 + bit Lock 1 + bit Warning 2 ≡ setBits (r .groups)
+pub bits-are : (r : Registers) → let bit : RegisterSet → ℕ = λ x. if meet (groupIn x r .event) (groupIn x r .enable) then 2 ^ bitOf x else 0 in
+    bit Operation + bit Lock + bit Warning ≡ setBits (r .groups)
 unfolding setBits
 bits-are r = rw (weight-is Operation r, weight-is Lock r, weight-is Warning r)
