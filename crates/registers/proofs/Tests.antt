@@ -1,17 +1,17 @@
--- Laws of tests that are made of tests: `&&`, `if`, `every`, and all numbers below one.
+-- Laws of tests that are made of tests, `&&`, `if`, `every`, and all numbers below one; and of tests on the start of a list.
 use mathlib.Core.Path.{_≡_, refl, sym, _∙_, ap, subst}
 use mathlib.Core.Bool.{Bool, true, false, not, _&&_, false≢true}
 use mathlib.Core.List.{List, [], _∷_, _++_}
-use Prim.Native.Nat.{ℕ, zero, suc, _+_, _<_}
+use Prim.Native.Nat.{ℕ, zero, suc, _+_, _≤_, _<_}
 use native.Mathlib.Omega.{arith}
 use native.Mathlib.Numerals.{add-one}
-use lib.ListN.{length, getD, take, drop}
+use lib.ListN.{length, getD, take, drop, length-take}
 use lib.Seq.{drop-cons}
 use lib.Dec.{T, leb, ltb, eqb}
 use lib.IntN.{ℤ, pos, negsuc}
 use lib.Signed.{leZ, ltZ}
-use borrow.Author.Tests.{eqb-true, eqb-false, leb-true, leb-false, lt-ltb, le-ltb}
-use Rattle.registers.specs.Text.{if_then_else_, every, below, rest}
+use borrow.Author.Tests.{eqb-true, eqb-false, leb-true, leb-false, le-leb, ne-eqb, lt-ltb, le-ltb}
+use Rattle.registers.specs.Text.{if_then_else_, every, below, empty, rest}
 
 -- a test that holds, as a fact and as an equation
 pub holds : {b : Bool} → b ≡ true → T b
@@ -72,18 +72,32 @@ module _ (p : ℕ → Bool) (l : List ℕ) (i : ℕ) (h : i < length l) where
   pub every-miss : p (getD l i 0) ≡ false → every p (drop i l) ≡ false
   every-miss e = rw (drop-cons l i 0 h, e)
 
-pub every-append : (p : ℕ → Bool) (a b : List ℕ) → every p a ≡ true → every p b ≡ true → every p (a ++ b) ≡ true
+pub every-append {ℓ} : {A : Type ℓ} (p : A → Bool) (a b : List A) → every p a ≡ true → every p b ≡ true → every p (a ++ b) ≡ true
 every-append p [] b f g = g
 every-append p (x ∷ a) b f g = let q = and-both (p x) (every p a) f in rw (q .0) (every-append p a b (q .1) g)
 
-pub every-take : (p : ℕ → Bool) (n : ℕ) (l : List ℕ) → every p l ≡ true → every p (take n l) ≡ true
+pub every-take {ℓ} : {A : Type ℓ} (p : A → Bool) (n : ℕ) (l : List A) → every p l ≡ true → every p (take n l) ≡ true
 every-take p zero l e = refl
 every-take p (suc n) [] e = refl
 every-take p (suc n) (x ∷ l) e = let q = and-both (p x) (every p l) e in rw (q .0) (every-take p n l (q .1))
 
-pub every-rest : (p : ℕ → Bool) (l : List ℕ) → every p l ≡ true → every p (rest l) ≡ true
+pub every-rest {ℓ} : {A : Type ℓ} (p : A → Bool) (l : List A) → every p l ≡ true → every p (rest l) ≡ true
 every-rest p [] e = refl
 every-rest p (x ∷ l) e = and-both (p x) (every p l) e .1
+
+-- ---- the first n of a list
+
+-- there are none exactly where n is 0
+pub front-empty : (l : List ℕ) (n : ℕ) → 0 < length l → empty (take n l) ≡ eqb n 0
+front-empty [] n h = absurd (omega arith)
+front-empty (x ∷ l) zero h = refl
+front-empty (x ∷ l) (suc n) h = sym (ne-eqb (suc n) 0 (λ e. omega arith))
+
+-- they are no more than n
+pub front-within : (l : List ℕ) (n k : ℕ) → n ≤ k → leb (length (take n l)) k ≡ true
+front-within l n k h = le-leb (length (take n l)) k (rw length-take (omega arith))
+
+-- ---- other tests
 
 lt-not : (a b : ℕ) → ltb a b ≡ not (leb b a)
 lt-not a b = go (leb b a) refl

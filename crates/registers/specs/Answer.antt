@@ -19,8 +19,11 @@ inPlaces (suc p) n =
     if ltb n 10 then (code "0" + n) ∷ [] else more
 
 -- twenty places hold every number of 64 bits
+abbrev pub mostPlaces : ℕ
+mostPlaces = 20
+
 unfoldable pub decimal : ℕ → Text
-decimal n = inPlaces 20 n
+decimal n = inPlaces mostPlaces n
 
 -- "one decimal for step 0.1"
 unfoldable pub tenths : ℕ → Text

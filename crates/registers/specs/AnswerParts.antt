@@ -9,6 +9,10 @@ use Rattle.registers.specs.Text.{Text}
 use Rattle.registers.specs.Answer.{over}
 use Rattle.registers.specs.declared.answer.Sign.{Sign}
 
+-- how far into a tail a text is laid at most, so that no place wraps
+abbrev pub farthest : ℕ
+farthest = 100
+
 -- the text over a tail, starting at a place, as far as the tail reaches
 unfoldable pub overAt : ℕ → Text → Text → Text
 overAt zero text tail = over text tail

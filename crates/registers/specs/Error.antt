@@ -1,4 +1,4 @@
--- "Registers and queue": the errors that 01 raises, their numbers, the event bit of each, and their texts in SCPI-99. 222 stands for
+-- "Registers and queue": the errors that 01 and 02 raise, their numbers, the event bit of each, and their texts in SCPI-99. 222 stands for
 -- -222.
 use mathlib.Core.List.{List, [], _∷_, _++_}
 use Prim.Native.Nat.{ℕ, _^_}
@@ -10,7 +10,7 @@ use Rattle.registers.specs.Answer.{decimal}
 use Rattle.registers.specs.declared.error.Error.{Error}
 use Rattle.registers.specs.declared.error.Error.the-variants.{InvalidCharacter, Syntax, DataType, ParameterNotAllowed, MissingParameter, UndefinedHeader, InvalidCharacterInNumber, ExponentTooLarge, TooManyDigits, InvalidSuffix, SuffixNotAllowed, InvalidCharacterData, SettingsConflict, DataOutOfRange, InputBufferOverrun, QueryInterrupted, QueryUnterminated, QueryDeadlocked}
 
--- 01's number for each error that can be raised
+-- the number of each error that can be raised: 01's, and -131 of 02 (#101)
 abbrev pub numberOf : Error → ℕ
 numberOf InvalidCharacter = 101
 numberOf Syntax = 102
@@ -40,7 +40,7 @@ unfoldable pub eventBit : ℕ → ℕ
 eventBit n = if ltb n 200 then 2 ^ 5 else (if ltb n 300 then 2 ^ 4 else (if ltb n 400 then 2 ^ 3 else 2 ^ 2))
 
 -- the texts of SCPI-99
-unfoldable pub messages : List (ℕ × String)
+abbrev pub messages : List (ℕ × String)
 messages =
     (0, "No error")
     ∷ (101, "Invalid character")

@@ -12,18 +12,18 @@ use Rattle.registers.specs.Error.{messages}
 abbrev pub quoted : String → Text
 quoted t = code "," ∷ code "\"" ∷ bytes t ++ code "\"" ∷ []
 
--- how wide a row is, and how many there are
-abbrev pub rowWidth : ℕ
-rowWidth = 33
+-- how many bytes a message's row has, and how many messages there are
+abbrev pub messageSize : ℕ
+messageSize = 33
 
-abbrev pub rowCount : ℕ
-rowCount = 20
+abbrev pub messageCount : ℕ
+messageCount = 20
 
 -- a row: a number's high and low byte, the length of what stands after the number in an answer, that itself, and zeros
 unfoldable pub messageRow : ℕ × String → Text
 messageRow m =
     let t = quoted (m .1) in
-    m .0 / 256 ∷ m .0 % 256 ∷ length t ∷ t ++ replicate (rowWidth - 3 - length t) 0
+    m .0 / 256 ∷ m .0 % 256 ∷ length t ∷ t ++ replicate (messageSize - 3 - length t) 0
 
 unfoldable pub tableOf : List (ℕ × String) → Text
 tableOf [] = []

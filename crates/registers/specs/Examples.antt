@@ -1,6 +1,6 @@
 -- Worked values of 01, as one table under one statement: the definitions of this crate compute each of them. Checks 6, 7 and 8,
 -- the seventeen settings and their answers, registers, queue and status byte, and refusal 4 on the status record.
-use mathlib.Core.Bool.{Bool, true, false, not, _&&_}
+use mathlib.Core.Bool.{Bool, true, false, _&&_}
 use mathlib.Core.List.{List, [], _∷_, _++_}
 use Prim.Native.Nat.{ℕ, suc}
 use Prim.Native.Char.{code}
@@ -10,11 +10,11 @@ use lib.Dec.{T, eqb}
 use lib.ListN.{replicate}
 use lib.IntN.{ℤ, pos}
 use lib.Signed.{leZ}
-use Rattle.registers.specs.Text.{Text, if_then_else_, bytes, white, digit, small, letter, capital, every, same}
+use Rattle.registers.specs.Text.{Text, if_then_else_, bytes, white, digit, small, letter, capital, sameBool, every, same}
 use Rattle.registers.specs.Check.{Checked, refused, passed, _>>=_, _>>_, check}
 use Rattle.registers.specs.Words.{Node, must, may, shortForm}
 use Rattle.registers.specs.Answer.{inPlaces, decimal, tenths, over}
-use Rattle.registers.specs.Error.{numberOf, eventBit, messages, messageIn, errorText}
+use Rattle.registers.specs.Error.{numberOf, eventBit, messageIn, errorText}
 use Rattle.registers.specs.Queue.{queueable, mayBeQueued}
 use Rattle.registers.specs.Number.{afterSign, fractionOf, afterFraction, exponentOf, afterExponent, lowering, written, numeralFrom, decimalOf, valueOf, scaled, number}
 use Rattle.registers.specs.Suffix.{suffixes, noSuffix, powerIn, remains}
@@ -306,9 +306,6 @@ fails : {A : Type 0} → ℕ → Checked A → Bool
 fails n (refused m) = eqb m n
 fails n (passed a) = false
 
-alike : Bool → Bool → Bool
-alike a b = if a then b else not b
-
 sameFit : Checked ℤ → Checked ℤ → Bool
 sameFit (passed a) m = passes (λ (b : ℤ). leZ a b && leZ b a) m
 sameFit (refused n) m = fails n m
@@ -373,12 +370,12 @@ stepsFrom s (x ∷ xs) = stepsFrom (step x s) xs
 
 holds : Example → Bool
 holds (value t m n up down) =
-    passes (λ (d : Decimal). alike (d .minus) m && (eqb (d .digits) n && (eqb (d .up) up && eqb (d .down) down))) (number Nothing (bytes t))
+    passes (λ (d : Decimal). sameBool (d .minus) m && (eqb (d .digits) n && (eqb (d .up) up && eqb (d .down) down))) (number Nothing (bytes t))
 holds (wrong n ts) = every (λ (t : String). fails n (number Nothing (bytes t))) ts
-holds (switch t on) = passes (λ (d : Decimal). alike (switchedOn d) on) (number Nothing (bytes t))
+holds (switch t on) = passes (λ (d : Decimal). sameBool (switchedOn d) on) (number Nothing (bytes t))
 holds (rounds t k low high r) = sameFit r (fit Nothing k low high t)
 holds (rests t k x) = passes (λ (d : Decimal). sameSide (sideIn k d) x) (number Nothing (bytes t))
-holds (exams h v x on) = alike (accepted (stored (row h) v atReset) x) on
+holds (exams h v x on) = sameBool (accepted (stored (row h) v atReset) x) on
 holds (sets h t answer) = passes (answered (row h) answer) (given (row h) t)
 holds (refuses h n ts) = every (λ (t : String). fails n (given (row h) t)) ts
 holds (limits h low high reset) =
@@ -392,13 +389,13 @@ holds (events xs n) = eqb (stepsFrom atStart xs .events) n
 holds (queue xs ns) = same (troubleOf (stepsFrom atStart xs) .queue) ns
 holds (register xs x n) = eqb (registerIn x (registersOf (stepsFrom atStart xs))) n
 holds (byte xs on n) = eqb (statusByte (registersOf (stepsFrom atStart xs)) (troubleOf (stepsFrom atStart xs)) on) n
-holds (locks xs on) = alike (locked (registersOf (stepsFrom atStart xs))) on
-holds (possible s on) = alike (possibleStatus s) on
+holds (locks xs on) = sameBool (locked (registersOf (stepsFrom atStart xs))) on
+holds (possible s on) = sameBool (possibleStatus s) on
 
 all-hold : T (every holds examples)
-unfolding examples passes fails alike sameFit sameSide fit stepsOf shortest rowIn row given answered storedAll step stepsFrom holds
+unfolding examples passes fails sameFit sameSide fit stepsOf shortest rowIn row given answered storedAll step stepsFrom holds
     if_then_else_ bytes white digit small letter capital same _>>=_ _>>_ check shortForm inPlaces decimal tenths over
-    eventBit messages messageIn errorText queueable mayBeQueued
+    eventBit messageIn errorText queueable mayBeQueued
     afterSign fractionOf afterFraction exponentOf afterExponent lowering written numeralFrom decimalOf valueOf scaled suffixes noSuffix powerIn remains number switchedOn
     nearest sizeIn rounded fitted sizeSide sideIn
     table settingAt atReset wideRange lowest highest within conflict examined accepted stored answerOf

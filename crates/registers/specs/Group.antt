@@ -10,6 +10,10 @@ use Rattle.registers.specs.declared.group.Group.{Group}
 abbrev pub widestGroup : ℕ
 widestGroup = 32767
 
+-- STATus:OPERation, STATus:LOCK and STATus:WARNing (02, #104)
+abbrev pub groupCount : ℕ
+groupCount = 3
+
 -- some bit is in both
 abbrev pub meet : ℕ → ℕ → Bool
 meet a b = not (eqb (bitAnd a b) 0)

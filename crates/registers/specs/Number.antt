@@ -15,7 +15,8 @@ use Rattle.registers.specs.declared.number.ReadNumber.the-variants.{Refu
 use Rattle.registers.specs.declared.suffix.Power.{Power}
 use Rattle.registers.specs.declared.suffix.Quantity.{Quantity}
 
--- ---- "optional sign, digits with an optional point, and as an option `E` or `e`, optional sign, at least one digit"
+-- ---- "optional sign, digits with an optional point (at least one digit), and as an option `E` or `e`, optional sign, at least one
+-- digit"
 
 abbrev pub sign : ℕ → Bool
 sign b = eqb b (code "+") || eqb b (code "-")
@@ -92,7 +93,7 @@ decimalOf minus digits places lowers exponent =
 unfoldable pub valueOf : Written → Decimal
 valueOf w = decimalOf (w .minus) (numeral (w .whole ++ w .fraction)) (length (w .fraction)) (w .lowers) (numeral (w .exponent))
 
--- "The exact scaled value": times a power of ten
+-- "The exact scaled value" (02, #101): times a power of ten
 unfoldable pub scaled : Power → Decimal → Decimal
 scaled p d = record { minus = d .minus; digits = d .digits; up = d .up + p .up; down = d .down + p .down }
 

@@ -2,11 +2,11 @@
 use mathlib.Core.Path.{_≡_}
 use mathlib.Core.Bool.{Bool}
 use mathlib.Core.List.{_++_}
-use Prim.Native.Nat.{ℕ, _+_, _≤_, min}
+use Prim.Native.Nat.{ℕ, _+_, _^_, _≤_, min}
 use lib.Dec.{leb, ltb}
 use lib.ListN.{length, drop}
 use Rattle.registers.specs.Text.{Text, digit, start, after}
-use Rattle.registers.specs.Number.{decimalOf, scaled, numeralFrom, numeral, fractionOf, afterFraction, exponentOf, afterExponent, lowering}
+use Rattle.registers.specs.Number.{mostDigits, mostExponent, decimalOf, scaled, numeralFrom, numeral, fractionOf, afterFraction, exponentOf, afterExponent, lowering}
 use Rattle.registers.specs.Check.{Checked, passed, _>>_, check}
 use Rattle.registers.specs.declared.number.Decimal.{Decimal}
 use Rattle.registers.specs.declared.number.Digits.{Digits}
@@ -14,9 +14,9 @@ use Rattle.registers.specs.declared.number.Mantissa.{Mantissa}
 use Rattle.registers.specs.declared.number.Exponent.{Exponent}
 use Rattle.registers.specs.declared.suffix.Power.{Power}
 
--- digits are counted up to this, which has thirteen of them
+-- digits are counted up to this, the first number with a digit more than `mostDigits`
 abbrev pub held : ℕ
-held = 1000000000000
+held = 10 ^ mostDigits
 
 -- the digits of t that start at a place, read after those of the number `from`
 pub record DigitsRead (t : Text) (at from : ℕ) (r : Digits) : Type 0 where
@@ -48,5 +48,5 @@ pub record ExponentRead (t : Text) (at : ℕ) (r : Exponent) : Type 0 where
 unfoldable pub valueRead : Bool → Mantissa → Exponent → Power → Checked Decimal
 valueRead minus m x p =
     check 124 (ltb (m .value) held)
-    >> check 123 (leb (x .size) 9)
+    >> check 123 (leb (x .size) mostExponent)
     >> passed (scaled p (decimalOf minus (m .value) (m .places) (x .lowers) (x .size)))

@@ -161,14 +161,11 @@ possibleSettings s = below count (λ i. within s i (valueAt s i))
 unfoldable pub stored : ℕ → ℤ → Settings → Settings
 stored i v s = if within s i v && not (conflict s i v) then withValue i v s else s
 
--- ---- "Answers: 0 or 1; plain integers; one decimal for step 0.1; words in short form"
-
-abbrev pub wordAt : List String → ℕ → String
-wordAt ws i = getD ws i ""
+-- ---- "Answers: 0 or 1; plain integers; one decimal for step 0.1 ..; words in short form"
 
 -- the short form of a word by its place in its list
 abbrev pub wordText : List String → ℤ → Text
-wordText ws (pos n) = shortForm (wordAt ws n)
+wordText ws (pos n) = shortForm (getD ws n "")
 wordText ws (negsuc n) = []
 
 -- a row's value as it is answered
@@ -177,7 +174,7 @@ answerOf bool v = signedText decimal v
 answerOf (words ws) v = wordText ws v
 answerOf (number k low high) v = signedText (if eqb k 10 then tenths else decimal) v
 
--- ---- what a row's values are, as the code names it
+-- ---- what a row's values are, by name: 01's "Values" and "Step"
 
 -- the columns Values and Step of 01's table, without the words and the limits
 pub data Sort : Type 0 where
@@ -196,9 +193,3 @@ meantValues BoolValue = bools
 meantValues Word = someWords
 meantValues Tenths = numbers 10
 meantValues Whole = numbers 1
-
--- the name of a kind that has one
-abbrev pub valuesIn : Kind → Values
-valuesIn bool = BoolValue
-valuesIn (words ws) = Word
-valuesIn (number k low high) = if eqb k 10 then Tenths else Whole

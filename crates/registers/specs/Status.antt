@@ -8,8 +8,8 @@ use lib.ListN.{length, take, drop, set, getD, replicate}
 use lib.Bits.{bitAnd, bitOr}
 use Rattle.registers.specs.Text.{if_then_else_, every, empty, rest}
 use Rattle.registers.specs.Error.{eventBit, overflow}
-use Rattle.registers.specs.Queue.{mayBeQueued, most}
-use Rattle.registers.specs.Group.{meet, conditionIs, eventRead, withEnable, withPtr, withNtr, possibleGroup, groupAtStart, noGroup, widestGroup}
+use Rattle.registers.specs.Queue.{mayBeQueued, most, lastPlace}
+use Rattle.registers.specs.Group.{meet, conditionIs, eventRead, withEnable, withPtr, withNtr, possibleGroup, groupAtStart, noGroup, widestGroup, groupCount}
 use Rattle.registers.specs.declared.group.Group.{Group}
 use Rattle.registers.specs.declared.status.Status.{Status}
 use Rattle.registers.specs.declared.status.Register.{Register}
@@ -41,7 +41,7 @@ unfoldable pub raised : ℕ → Trouble → Trouble
 raised n t =
     if ltb (length (t .queue)) most
     then record { events = bitOr (t .events) (eventBit n); queue = t .queue ++ n ∷ [] }
-    else record { events = bitOr (bitOr (t .events) (eventBit n)) (eventBit overflow); queue = take 15 (t .queue) ++ overflow ∷ [] }
+    else record { events = bitOr (bitOr (t .events) (eventBit n)) (eventBit overflow); queue = take lastPlace (t .queue) ++ overflow ∷ [] }
 
 -- what *CLS leaves
 abbrev pub noTrouble : Trouble
@@ -105,7 +105,7 @@ registerIn (Enable x) r = groupIn x r .enable
 registerIn (Ntr x) r = groupIn x r .ntr
 registerIn (Ptr x) r = groupIn x r .ptr
 
--- a set's event register read; "*CLS clears all three event registers"
+-- a set's event register read; "*CLS clears all three event registers" (02, #104)
 abbrev pub setRead : RegisterSet → Registers → Registers
 setRead x r = withGroup x (eventRead (groupIn x r)) r
 
@@ -116,7 +116,7 @@ allRead r = record { ese = r .ese; sre = r .sre; groups = map eventRead (r .grou
 abbrev pub setReported : RegisterSet → ℕ → Registers → Registers
 setReported x n r = withGroup x (conditionIs n (groupIn x r)) r
 
--- "While any lock condition bit is 1": its event, enable, PTR and NTR have no say
+-- "While any lock condition bit is 1" (02, #105): its event, enable, PTR and NTR have no say
 abbrev pub locked : Registers → Bool
 locked r = not (eqb (groupIn Lock r .condition) 0)
 
@@ -127,7 +127,7 @@ abbrev pub bitIf : Bool → ℕ → ℕ
 bitIf true k = 2 ^ k
 bitIf false k = 0
 
--- a set's bit in the status byte: 02's bits 1 and 3 for LOCK and WARNing hold "unless Table 2.1 of source document 000 says
+-- a set's bit in the status byte: the bits 1 and 3 of 02 (#104) for LOCK and WARNing hold "unless Table 2.1 of source document 000 says
 -- otherwise", and it does
 abbrev pub bitOf : RegisterSet → ℕ
 bitOf Operation = 7
@@ -184,9 +184,10 @@ unfoldable pub raisedIn : ℕ → Status → Status
 raisedIn n s =
     if ltb (s .queued) most
     then withTrouble (bitOr (s .events) (eventBit n)) (s .queued + 1) (set (s .errors) (s .queued) n) s
-    else withTrouble (bitOr (bitOr (s .events) (eventBit n)) (eventBit overflow)) (s .queued) (set (s .errors) 15 overflow) s
+    else withTrouble (bitOr (bitOr (s .events) (eventBit n)) (eventBit overflow)) (s .queued) (set (s .errors) lastPlace overflow) s
 
--- "*CLS clears the event status register, the operation event register and the queue, nothing else"; by 02 "all three event registers"
+-- "*CLS clears the event status register, the operation event register and the queue, nothing else"; by 02 (#104) "all three event
+-- registers"
 unfoldable pub clearedIn : Status → Status
 clearedIn s = withRegisters (allRead (registersOf s)) (withTrouble 0 0 (s .errors) s)
 
@@ -211,4 +212,4 @@ registerSet x n s = if leb n (widest x) then withRegisters (storedIn x n (regist
 
 unfoldable pub atStart : Status
 atStart =
-    record { events = 128; ese = 0; sre = 0; groups = replicate 3 groupAtStart; queued = 0; errors = replicate most 0 }
+    record { events = 128; ese = 0; sre = 0; groups = replicate groupCount groupAtStart; queued = 0; errors = replicate most 0 }

@@ -31,7 +31,7 @@ lettersOf t =
       third = capital (first (rest (rest t)));
     }
 
--- they are so many, and these
+-- they are n letters, and these are the first three
 unfoldable pub alike : Letters → ℕ → ℕ → ℕ → ℕ → Bool
 alike l n a b c = eqb (l .count) n && eqb (l .first) a && eqb (l .second) b && eqb (l .third) c
 

@@ -58,6 +58,11 @@ capital b = if small b then b - 32 else b
 
 -- ---- texts and lists
 
+-- both hold, or neither
+abbrev pub sameBool : Bool → Bool → Bool
+sameBool true b = b
+sameBool false b = not b
+
 -- the test holds of every member
 abbrev pub every {ℓ} : {A : Type ℓ} → (A → Bool) → List A → Bool
 every p [] = true

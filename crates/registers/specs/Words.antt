@@ -11,7 +11,7 @@ shortForm w = only (λ b. not (small b)) (bytes w)
 unfoldable pub longForm : String → Text
 longForm w = map capital (bytes w)
 
--- "A node matches in any letter case, in its short form or long form, and nothing between. Parameter words match likewise"
+-- "A node matches in any letter case, in its short form .. or long form, and nothing between. Parameter words match likewise"
 unfoldable pub matches : String → Text → Bool
 matches w t = same (map capital t) (shortForm w) || same (map capital t) (longForm w)
 

@@ -4,7 +4,7 @@ ghost use mathlib.Core.Path.{_≡_};
 ghost use Prim.Native.Nat.{_≤_};
 ghost use lib.ListN.{set};
 ghost use Rattle.registers.specs.Answer.{decimal, tenths, signedText, Laid};
-ghost use Rattle.registers.specs.AnswerParts.{LaidAt, SignLaid};
+ghost use Rattle.registers.specs.AnswerParts.{farthest, LaidAt, SignLaid};
 
 // Where a number's sign ends, and the number without it.
 struct Sign {
@@ -21,9 +21,9 @@ pub(crate) fn put(tail: &mut [u8], at: usize, b: u8)
     }
 }
 
-// Writes a text at a place of the tail, and answers where it ends, so that the next can follow it.
+// Writes a text at a place of the tail, and gives where it ends, so that the next can follow it.
 pub(crate) fn text_at(text: &[u8], tail: &mut [u8], at: usize) -> usize
-    requires { ⌜ at ≤ 100 ⌝ }
+    requires { ⌜ at ≤ farthest ⌝ }
     ensures { λ r. ⌜ LaidAt at (now (text .entry)) (now (tail .entry)) r (now (tail .exit)) ⌝ }
 {
     let mut i = 0;
@@ -36,7 +36,7 @@ pub(crate) fn text_at(text: &[u8], tail: &mut [u8], at: usize) -> usize
 
 // Writes a number in decimal: first the digits before the last, by a call with a tenth of it.
 pub(crate) fn decimal_at(n: u32, tail: &mut [u8], at: usize) -> usize
-    requires { ⌜ at ≤ 100 ⌝ }
+    requires { ⌜ at ≤ farthest ⌝ }
     ensures { λ r. ⌜ LaidAt at (decimal n) (now (tail .entry)) r (now (tail .exit)) ⌝ }
 {
     if n < 10 {
@@ -82,7 +82,7 @@ pub fn write_text(text: &[u8], tail: &mut [u8]) -> usize
     text_at(text, tail, 0)
 }
 
-// "Register answers are decimal"
+// Writes a register's number: "Register answers are decimal".
 pub fn write_decimal(n: u32, tail: &mut [u8]) -> usize
     ensures { λ r. ⌜ Laid (decimal n) (now (tail .entry)) r (now (tail .exit)) ⌝ }
 {

@@ -1,9 +1,9 @@
-// The errors that 01 raises, and their texts.
+// The errors that 01 and 02 raise, and their texts.
 use crate::answer;
 ghost use mathlib.Core.Path.{_≡_};
 ghost use Prim.Native.Nat.{_≤_};
 ghost use Rattle.registers.specs.Answer.{Laid};
-ghost use Rattle.registers.specs.AnswerParts.{LaidAt};
+ghost use Rattle.registers.specs.AnswerParts.{farthest, LaidAt};
 ghost use Rattle.registers.specs.Error.{numberOf, eventBit, messages, messageIn, errorText};
 ghost use Rattle.registers.specs.ErrorParts.{messageTable, rowIn, quoted};
 
@@ -31,7 +31,7 @@ pub enum Error {
 }
 
 impl Error {
-    // Gives 01's number without its minus, as the queue holds it.
+    // Gives the error's number without its minus, as the queue holds it.
     pub fn number(self) -> u16
         ensures { λ r. ⌜ r ≡ numberOf self ⌝ }
     {
@@ -76,9 +76,10 @@ pub(crate) fn event_bit(number: u16) -> u16
 // ---- the texts, in a table of rows: the number's two bytes, a length, what stands after the number
 // in an answer, and zeros. The last row is for every number that has no text.
 
-const ROWS: usize = 20;
+// How many messages there are, and how many bytes the row of one has.
+const MESSAGES: usize = 20;
 
-const WIDTH: usize = 33;
+const MESSAGE_SIZE: usize = 33;
 
 // Finds the first row with a number; where none has it, the last row, which has no text.
 fn row_of(table: &[u8], number: u16) -> usize
@@ -86,22 +87,22 @@ fn row_of(table: &[u8], number: u16) -> usize
     ensures { λ r. ⌜ r ≡ rowIn messages number ⌝ }
 {
     let mut row: usize = 0;
-    while row < ROWS {
-        let at = row * WIDTH;
+    while row < MESSAGES {
+        let at = row * MESSAGE_SIZE;
         if table[at] as u16 * 256 + table[at + 1] as u16 == number {
             return row;
         }
         row += 1;
     }
-    ROWS
+    MESSAGES
 }
 
 // Writes what follows the number in an answer: a comma and the number's text in quotes.
 fn quoted_at(table: &[u8], number: u16, tail: &mut [u8], at: usize) -> usize
-    requires { ⌜ (now table ≡ messageTable) × (at ≤ 100) ⌝ }
+    requires { ⌜ (now table ≡ messageTable) × (at ≤ farthest) ⌝ }
     ensures { λ r. ⌜ LaidAt at (quoted (messageIn messages number)) (now (tail .entry)) r (now (tail .exit)) ⌝ }
 {
-    let row = row_of(table, number) * WIDTH;
+    let row = row_of(table, number) * MESSAGE_SIZE;
     let start = row + 3;
     let end = start + table[row + 2] as usize;
     answer::text_at(&table[start..end], tail, at)

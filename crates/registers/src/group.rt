@@ -19,6 +19,7 @@ impl Group {
     // The widest value of each register.
     pub const WIDEST: u16 = 32_767;
 
+    // Makes a set's registers at power-up: PTR has every bit.
     pub(crate) fn power_up() -> Group
         ensures { λ r. ⌜ r ≡ groupAtStart ⌝ }
     {
@@ -52,7 +53,7 @@ impl Group {
     }
 
     // Tells whether an event is enabled, which is the group's bit in the status byte.
-    pub(crate) fn sums_up(self) -> bool
+    pub(crate) fn has_enabled_event(self) -> bool
         ensures { λ r. ⌜ r ≡ meet (self .event) (self .enable) ⌝ }
     {
         self.event & self.enable != 0

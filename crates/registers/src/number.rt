@@ -25,11 +25,14 @@ pub enum ReadNumber {
     Number(Decimal),
 }
 
+// Digits as a number, held, and where they end.
 struct Digits {
     value: u64,
     end: usize,
 }
 
+// The digits before and after the point as one number, how many they are, how many of them stand after the point,
+// and where they end.
 struct Mantissa {
     value: u64,
     count: usize,
@@ -37,6 +40,7 @@ struct Mantissa {
     end: usize,
 }
 
+// Whether the exponent's sign is a minus, its size, held, and where it ends.
 struct Exponent {
     lowers: bool,
     size: u64,
@@ -46,6 +50,9 @@ struct Exponent {
 // Digits are counted up to the first number that has thirteen of them: -124 and -123 need no more,
 // and so nothing wraps however many digits a line holds.
 const HELD: u64 = 1_000_000_000_000;
+
+// The largest size of an exponent.
+const MOST_EXPONENT: u64 = 9;
 
 // Reads the digits at a place. They go on from the number `from`, as a fraction's do from the whole.
 fn read_digits(text: &[u8], at: usize, from: u64) -> Digits
@@ -126,7 +133,7 @@ fn above(a: u64, b: u64) -> u64
 
 // Ends check 6: -124 for too many digits, then -123 for too large an exponent, then the exact value,
 // scaled by the suffix.
-fn valued(minus: bool, mantissa: Mantissa, exponent: Exponent, power: Power) -> ReadNumber
+fn value_of(minus: bool, mantissa: Mantissa, exponent: Exponent, power: Power) -> ReadNumber
     requires { ⌜ mantissa .places < 2 ^ 63 ⌝ }
     ensures { λ r. ⌜ meant r ≡ valueRead minus mantissa exponent power ⌝ }
 {
@@ -135,7 +142,7 @@ fn valued(minus: bool, mantissa: Mantissa, exponent: Exponent, power: Power) -> 
         return ReadNumber::Refused(Error::TooManyDigits);
     }
     let size = exponent.size;
-    if 9 < size {
+    if MOST_EXPONENT < size {
         return ReadNumber::Refused(Error::ExponentTooLarge);
     }
     let places = mantissa.places as u64;
@@ -170,6 +177,6 @@ pub fn read(text: &[u8], quantity: Quantity) -> ReadNumber
     let scale = suffix::read(text, text::white_end(text, exponent.end), quantity);
     match scale {
         Scale::Refused(e) => return ReadNumber::Refused(e),
-        Scale::By(power) => return valued(sign == b'-', mantissa, exponent, power),
+        Scale::By(power) => return value_of(sign == b'-', mantissa, exponent, power),
     }
 }

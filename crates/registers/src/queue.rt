@@ -11,7 +11,7 @@ pub(crate) const MOST: usize = 16;
 
 pub(crate) const LAST: usize = MOST - 1;
 
-// The numbers that 01 puts into the queue.
+// The numbers that 01 and 02 put into the queue.
 const QUEUEABLE: [u16; 19] = [
     101,
     102,
@@ -34,7 +34,7 @@ const QUEUEABLE: [u16; 19] = [
     430,
 ];
 
-// Tells a number that 01 queues from "a number this paper never puts there".
+// Tells a number that 01 or 02 queues from "a number this paper never puts there".
 fn may_be_queued(number: u16) -> bool
     ensures { λ r. ⌜ r ≡ mayBeQueued number ⌝ }
 {

@@ -43,7 +43,7 @@ struct Stepped {
 const BEYOND: u64 = 2_147_483_649;
 
 // Multiplies by 10 to the power n and stops at the bound, however large n is.
-fn raised(x: u64, n: u64) -> u64
+fn times_tens(x: u64, n: u64) -> u64
     ensures { λ r. ⌜ r ≡ min beyond (x * 10 ^ n) ⌝ }
 {
     let mut y = x;
@@ -57,7 +57,7 @@ fn raised(x: u64, n: u64) -> u64
 
 // Divides by 10 to the power n + 1 and rounds: only the last digit that is cut off decides. The size
 // is exact where every digit that is cut off is 0.
-fn lowered(x: u64, n: u64) -> Sized
+fn over_tens(x: u64, n: u64) -> Sized
     ensures { λ r. ⌜ r ≡ sizedOver x (10 ^ (n + 1)) ⌝ }
 {
     let mut y = x;
@@ -95,15 +95,15 @@ fn size_of(x: u64, up: u64, down: u64) -> Sized
 {
     if down <= up {
         return Sized {
-            size: raised(x, up - down),
+            size: times_tens(x, up - down),
             side: Side::On,
         };
     }
-    let low = lowered(x, down - up - 1);
+    let low = over_tens(x, down - up - 1);
     let side = low.side;
-    // Raised by nothing: only held.
+    // Times 10 to the power 0: only held.
     Sized {
-        size: raised(low.size, 0),
+        size: times_tens(low.size, 0),
         side,
     }
 }
@@ -144,9 +144,9 @@ fn steps(d: Decimal, tens: u32) -> Stepped
 pub fn round_in(d: Decimal, tens: u32, low: i32, high: i32) -> Rounded
     ensures { λ r. ⌜ RoundedIn (10 ^ tens) low high d r ⌝ }
 {
-    let steps = steps(d, tens);
-    let v = steps.value;
-    let side = steps.side;
+    let stepped = steps(d, tens);
+    let v = stepped.value;
+    let side = stepped.side;
     if (low as i64 <= v) & (v <= high as i64) {
         return Rounded {
             fit: Fit::Within(v as i32),

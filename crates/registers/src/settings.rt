@@ -45,6 +45,7 @@ const KINDS: [u8; ROWS] = [0, 0, 0, 1, 2, 1, 2, 2, 1, 1, 3, 3, 2, 2, 3, 0, 0];
 const QUANTITIES: [u8; ROWS] = [0, 0, 0, 0, 1, 0, 3, 2, 0, 0, 4, 4, 2, 2, 0, 0, 0];
 
 impl Settings {
+    // How many settings there are, and the rows that a rule names.
     pub const COUNT: usize = ROWS;
 
     pub const OUTPUT: usize = 0;
@@ -55,13 +56,15 @@ impl Settings {
 
     pub const EXAM: usize = 16;
 
+    // 12.0 V in steps.
     pub const TWELVE_VOLTS: i32 = 120;
 
+    // Each row's limits in steps; the voltage's highest is that of range R24V.
     pub const LOWEST: [i32; ROWS] = [0, 0, 0, 0, 0, 0, 400, 1, 0, 0, 1, 1, 5, -80, 0, 0, 0];
 
     pub const HIGHEST: [i32; ROWS] = [1, 1, 1, 2, 240, 1, 5500, 20, 1, 1, 10, 10, 80, -5, 99, 1, 1];
 
-    // The values at *RST.
+    // Makes the settings that *RST leaves.
     pub fn reset() -> Settings
         ensures { λ r. ⌜ r ≡ atReset ⌝ }
     {

@@ -6,11 +6,12 @@ use crate::group;
 use crate::group::Group;
 use crate::queue;
 ghost use mathlib.Core.Path.{_≡_};
-ghost use Prim.Native.Nat.{_≤_};
+ghost use Prim.Native.Nat.{_+_, _^_, _≤_, _<_};
 ghost use lib.Bits.{bitOr};
 ghost use Rattle.registers.specs.Text.{if_then_else_, first};
 ghost use Rattle.registers.specs.Error.{numberOf};
-ghost use Rattle.registers.specs.Status.{locked, placeOf, groupIn, withGroup, setRead, setBits, registersOf, troubleOf, withRegisters, raisedIn, clearedIn, eventsIn, oldestReadIn, reportedIn, registerSet, registerIn, widest, statusByte, possibleStatus, atStart};
+ghost use Rattle.registers.specs.Group.{groupCount};
+ghost use Rattle.registers.specs.Status.{locked, placeOf, groupIn, setRead, setBits, registersOf, troubleOf, withRegisters, raisedIn, clearedIn, eventsIn, oldestReadIn, reportedIn, registerSet, registerIn, widest, statusByte, possibleStatus, atStart};
 
 pub struct Status {
     pub events: u16,
@@ -37,15 +38,8 @@ pub enum Register {
     Ptr(RegisterSet),
 }
 
-// Adds up the groups' bits of the status byte: OPERation's is bit 7, LOCK's bit 0, WARNing's bit 1.
-fn set_bits(groups: [Group; RegisterSet::COUNT]) -> u8
-    ensures { λ r. ⌜ r ≡ setBits groups ⌝ }
-    ensures { λ r. ⌜ r ≤ 131 ⌝ }
-{
-    bit_if(groups[0].sums_up(), 128)
-        + bit_if(groups[1].sums_up(), 1)
-        + bit_if(groups[2].sums_up(), 2)
-}
+// Bit 6, the summary of the status byte, which *SRE never has.
+const SUMMARY: u16 = 64;
 
 // Gives a bit's weight where the bit is on; a function, so that each sum of bits has a bound.
 fn bit_if(on: bool, weight: u8) -> u8
@@ -58,8 +52,10 @@ fn bit_if(on: bool, weight: u8) -> u8
 impl RegisterSet {
     pub const COUNT: usize = group::COUNT;
 
+    // Gives the set's place among the groups.
     fn place(self) -> usize
         ensures { λ r. ⌜ r ≡ placeOf self ⌝ }
+        ensures { λ r. ⌜ r < groupCount ⌝ }
     {
         match self {
             RegisterSet::Operation => 0,
@@ -93,6 +89,7 @@ impl Status {
     // The widest value of *ESE, *SRE and the event status register.
     pub const WIDEST: u16 = 255;
 
+    // Makes the status of power-up: event status 128, every PTR 32,767, and all else empty.
     pub fn power_up() -> Status
         ensures { λ r. ⌜ r ≡ atStart ⌝ }
     {
@@ -153,13 +150,16 @@ impl Status {
     }
 
     // Reading a set's event register clears it.
-    pub fn read_event(self, set: RegisterSet) -> Status
+    pub fn read_event(mut self, set: RegisterSet) -> Status
         ensures { λ r. ⌜ r ≡ withRegisters (setRead set (registersOf self)) self ⌝ }
     {
+        let i = set.place();
         let group = self.group(set).read_event();
-        self.with_group(set, group)
+        self.groups[i] = group;
+        self
     }
 
+    // Gives the registers of a set.
     pub fn group(self, set: RegisterSet) -> Group
         ensures { λ r. ⌜ r ≡ groupIn set (registersOf self) ⌝ }
     {
@@ -173,15 +173,6 @@ impl Status {
         ensures { λ r. ⌜ r ≡ locked (registersOf self) ⌝ }
     {
         self.group(RegisterSet::Lock).condition != 0
-    }
-
-    // Puts other registers of a set into the record.
-    fn with_group(mut self, set: RegisterSet, group: Group) -> Status
-        ensures { λ r. ⌜ r ≡ withRegisters (withGroup set group (registersOf self)) self ⌝ }
-    {
-        let i = set.place();
-        self.groups[i] = group;
-        self
     }
 
     // Gives the oldest error, 0 where none waits, as SYSTem:ERRor? answers it.
@@ -211,14 +202,16 @@ impl Status {
     }
 
     // Reports a set's condition; refusal 3 leaves all unchanged for a value above 32,767.
-    pub fn report(self, set: RegisterSet, condition: u16) -> Status
+    pub fn report(mut self, set: RegisterSet, condition: u16) -> Status
         ensures { λ r. ⌜ r ≡ reportedIn set condition self ⌝ }
     {
         if Group::WIDEST < condition {
             return self;
         }
+        let i = set.place();
         let group = self.group(set).report(condition);
-        self.with_group(set, group)
+        self.groups[i] = group;
+        self
     }
 
     // Gives the value that the register's query answers.
@@ -247,38 +240,47 @@ impl Status {
                 return self;
             }
             Register::Sre => {
-                self.sre = value - (value & 64);
+                self.sre = value - (value & SUMMARY);
                 return self;
             }
             Register::Enable(set) => {
-                let mut group = self.group(set);
-                group.enable = value;
-                return self.with_group(set, group);
+                let i = set.place();
+                self.groups[i].enable = value;
+                return self;
             }
             Register::Ntr(set) => {
-                let mut group = self.group(set);
-                group.ntr = value;
-                return self.with_group(set, group);
+                let i = set.place();
+                self.groups[i].ntr = value;
+                return self;
             }
             Register::Ptr(set) => {
-                let mut group = self.group(set);
-                group.ptr = value;
-                return self.with_group(set, group);
+                let i = set.place();
+                self.groups[i].ptr = value;
+                return self;
             }
         }
+    }
+
+    // Adds up the sets' bits of the status byte: OPERation's is bit 7, LOCK's bit 0, WARNing's bit 1.
+    fn set_bits(self) -> u8
+        ensures { λ r. ⌜ r ≡ setBits (self .groups) ⌝ }
+        ensures { λ r. ⌜ r ≤ 2 ^ 7 + 2 ^ 1 + 2 ^ 0 ⌝ }
+    {
+        bit_if(self.group(RegisterSet::Operation).has_enabled_event(), 128)
+            + bit_if(self.group(RegisterSet::Lock).has_enabled_event(), 1)
+            + bit_if(self.group(RegisterSet::Warning).has_enabled_event(), 2)
     }
 
     // Sums up the status byte, and sets bit 6 where *SRE enables one of the others.
     pub fn status_byte(self, answers: bool) -> u8
         ensures { λ r. ⌜ r ≡ statusByte (registersOf self) (troubleOf self) answers ⌝ }
     {
-        let groups = self.groups;
-        let sets = set_bits(groups);
+        let sets = self.set_bits();
         let standard = bit_if(self.events & self.ese != 0, 32);
         let answer = bit_if(answers, 16);
         let queue = bit_if(self.queued != 0, 4);
         let summary = sets + standard + answer + queue;
-        summary + bit_if(summary as u16 & self.sre != 0, 64)
+        summary + bit_if(summary as u16 & self.sre != 0, SUMMARY as u8)
     }
 
     // Refusal 4 tests the queue's length first: only so many numbers are looked at.
@@ -290,7 +292,7 @@ impl Status {
             return false;
         }
         let enables = (self.ese <= Status::WIDEST) & (self.sre <= Status::WIDEST);
-        let registers = enables & (self.sre & 64 == 0);
+        let registers = enables & (self.sre & SUMMARY == 0);
         let errors = self.errors;
         let groups = self.groups;
         let trouble = (self.events <= Status::WIDEST) & queue::may_all_be_queued(errors, count);

@@ -23,6 +23,7 @@ pub struct Power {
     pub down: u8,
 }
 
+// What comes of a suffix: a refusal, or what it multiplies by.
 pub(crate) enum Scale {
     Refused(Error),
     By(Power),
@@ -57,7 +58,7 @@ fn letters_at(text: &[u8], at: usize) -> Letters
 }
 
 // Compares what remains with a suffix; 0 stands for a letter that it lacks.
-fn spell(letters: Letters, count: usize, first: u8, second: u8, third: u8) -> bool
+fn spells(letters: Letters, count: usize, first: u8, second: u8, third: u8) -> bool
     ensures { λ r. ⌜ r ≡ alike letters count first second third ⌝ }
 {
     (letters.count == count)
@@ -70,10 +71,10 @@ fn spell(letters: Letters, count: usize, first: u8, second: u8, third: u8) -> bo
 fn with_milli(letters: Letters, unit: u8) -> Scale
     ensures { λ r. ⌜ meantScale r ≡ milliTo unit letters ⌝ }
 {
-    if spell(letters, 1, unit, 0, 0) {
+    if spells(letters, 1, unit, 0, 0) {
         return Scale::By(Power { up: 0, down: 0 });
     }
-    if spell(letters, 2, b'M', unit, 0) {
+    if spells(letters, 2, b'M', unit, 0) {
         return Scale::By(Power { up: 0, down: 3 });
     }
     Scale::Refused(Error::InvalidSuffix)
@@ -88,19 +89,19 @@ fn scale_of(quantity: Quantity, letters: Letters) -> Scale
         Quantity::Volt => return with_milli(letters, b'V'),
         Quantity::Ampere => return with_milli(letters, b'A'),
         Quantity::Hertz => {
-            if spell(letters, 2, b'H', b'Z', 0) {
+            if spells(letters, 2, b'H', b'Z', 0) {
                 return Scale::By(Power { up: 0, down: 0 });
             }
-            if spell(letters, 3, b'K', b'H', b'Z') {
+            if spells(letters, 3, b'K', b'H', b'Z') {
                 return Scale::By(Power { up: 3, down: 0 });
             }
-            if spell(letters, 3, b'M', b'H', b'Z') {
+            if spells(letters, 3, b'M', b'H', b'Z') {
                 return Scale::By(Power { up: 6, down: 0 });
             }
             return Scale::Refused(Error::InvalidSuffix);
         }
         Quantity::Second => {
-            if spell(letters, 1, b'S', 0, 0) {
+            if spells(letters, 1, b'S', 0, 0) {
                 return Scale::By(Power { up: 0, down: 0 });
             }
             return Scale::Refused(Error::InvalidSuffix);

@@ -2,7 +2,7 @@
 ghost use mathlib.Core.Path.{_≡_};
 ghost use Prim.Native.Nat.{_+_};
 ghost use lib.ListN.{length, drop};
-ghost use Rattle.registers.specs.Text.{white, start, digit, letter, wordByte, capital, first};
+ghost use Rattle.registers.specs.Text.{white, start, digit, letter, capital, first};
 
 pub fn is_white(b: u8) -> bool
     ensures { λ r. ⌜ r ≡ white b ⌝ }
@@ -20,13 +20,6 @@ pub fn is_letter(b: u8) -> bool
     ensures { λ r. ⌜ r ≡ letter b ⌝ }
 {
     ((b'A' <= b) & (b <= b'Z')) | ((b'a' <= b) & (b <= b'z'))
-}
-
-// Tells whether a name may have the byte after its first letter.
-pub fn is_word_byte(b: u8) -> bool
-    ensures { λ r. ⌜ r ≡ wordByte b ⌝ }
-{
-    is_letter(b) | is_digit(b) | (b == b'_')
 }
 
 // Turns a small letter into its capital, which is 32 below it, and leaves any other byte.

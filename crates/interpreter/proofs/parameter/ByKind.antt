@@ -14,7 +14,7 @@ use denote.Enum.Declared.{tagOf}
 use borrow.Author.Tests.{leb-true, ltb-true, ltb-false}
 use Rattle.registers.specs.Text.{if_then_else_}
 use Rattle.registers.specs.Rounding.{switchedOn, rounded, sideIn}
-use Rattle.registers.specs.Settings.{count, Kind, bool, words, number, table, settingAt, kindOf, sortOf, meantValues, valuesIn, highest}
+use Rattle.registers.specs.Settings.{count, Kind, bool, words, number, table, settingAt, kindOf, sortOf, meantValues, highest}
 use Rattle.registers.specs.declared.number.Decimal.{Decimal}
 use Rattle.registers.specs.declared.rounding.Side.{Side}
 use Rattle.registers.specs.declared.rounding.Side.the-variants.{On}
@@ -22,7 +22,7 @@ use Rattle.registers.specs.declared.settings.Settings.{Settings}
 use Rattle.registers.specs.declared.settings.Values.{Values}
 use Rattle.registers.specs.declared.settings.Values.the-variants.{Bool as BoolValue, Word as WordValue, Tenths, Whole}
 use Rattle.registers.proofs.Tests.{below-at}
-use Rattle.registers.proofs.settings.Laws.{behind-is, values-is}
+use Rattle.registers.proofs.settings.Laws.{past-is, valuesIn, values-is}
 use Rattle.registers.proofs.settings.Values as values
 use Rattle.interpreter.specs.WordsParts.{wordCount}
 use Rattle.interpreter.specs.Parameter.{Word, Figure, least, greatest, asksLimits, wordsOf, limitAt, valueGiven, sideGiven, isNumber}
@@ -39,7 +39,7 @@ kinds-agree f g e b i = go (ltb i count) refl
   where
     go : (t : Bool) → ltb i count ≡ t → f (kindOf i) ≡ g (kindOf i)
     go true q = agree count (λ k. f (kindOf k)) (λ k. g (kindOf k)) e i (ltb-true i count q)
-    go false q = rw (behind-is i (ltb-false i count q)) b
+    go false q = rw (past-is i (ltb-false i count q)) b
 
 -- ---- by the sort of a row's values
 

@@ -15,10 +15,10 @@ use mir.Facts.{toZ-ofZ}
 use borrow.Author.Tests.{ltb-true, ltb-false}
 use Rattle.registers.specs.Text.{Text, if_then_else_}
 use Rattle.registers.specs.Answer.{decimal, tenths, signedText}
-use Rattle.registers.specs.Settings.{count, Kind, bool, words, number, kindOf, answerOf, valuesIn, wordText}
+use Rattle.registers.specs.Settings.{count, Kind, bool, words, number, kindOf, answerOf, wordText}
 use Rattle.registers.specs.declared.settings.Values.{Values}
 use Rattle.registers.specs.declared.settings.Values.the-variants.{Bool as BoolValue, Word, Tenths, Whole}
-use Rattle.registers.proofs.settings.Laws.{behind-is}
+use Rattle.registers.proofs.settings.Laws.{valuesIn, past-is}
 use Rattle.registers.proofs.settings.Values as values
 use Rattle.interpreter.specs.ReplyParts.{textOf, RepliesWith, ReplyTo}
 use Rattle.interpreter.specs.Parameter.{wordsOf, limitWords}
@@ -71,7 +71,7 @@ word-row i is e = go (ltb i count) refl
     go : (t : Bool) → ltb i count ≡ t → i < count
     go true q = ltb-true i count q
     go false q =
-        let k : valuesIn (kindOf i) ≡ BoolValue = rw (behind-is i (ltb-false i count q)) in
+        let k : valuesIn (kindOf i) ≡ BoolValue = rw (past-is i (ltb-false i count q)) in
         let z : _≡_ {A = ℕ} 0 1 = cc in
         absurd (omega arith)
 

@@ -1,4 +1,5 @@
--- A text over a lent tail, at its start and at any place.
+-- A text over a lent tail, at its start and at any place, by induction over both. One text laid after another is their joined text
+-- (`laid-then`), on which every writer rests.
 use mathlib.Core.Path.{_≡_, refl, sym, ap, _∙_}
 use mathlib.Core.List.{[], _∷_, _++_}
 use Prim.Native.Nat.{ℕ, zero, suc, _+_, _≤_, _<_}

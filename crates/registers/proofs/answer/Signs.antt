@@ -1,8 +1,10 @@
--- A signed number of 32 bits as its sign and its size.
+-- A signed number of 32 bits as its sign and its size, by the two cases of a signed number; the lowest has its size in 64 bits
+-- (`other-fits`).
 use mathlib.Core.Path.{_≡_, refl, sym}
 use mathlib.Core.Bool.{true, false, false≢true}
 use mathlib.Core.List.{[], _∷_, _++_}
 use Prim.Native.Nat.{ℕ, zero, suc, _^_, _≤_, _<_}
+use Prim.Native.Char.{code}
 use native.Mathlib.Omega.{arith}
 use lib.Dec.{T}
 use lib.IntN.{ℤ, pos, negsuc, negℤ, natAbs, _-ℤ_, +ℤ-idl}
@@ -28,8 +30,8 @@ from-zero : (P : ℤ → Type 0) → ((n : ℕ) → P (pos n)) → (z : ℤ) →
 from-zero P f (pos n) e = f n
 from-zero P f (negsuc n) e = absurd (false≢true (sym e))
 
-pub sign-minus : (z : ℤ) → ltZ z (pos 0) ≡ true → signText z ≡ 45 ∷ []
-sign-minus = below-zero (λ z. signText z ≡ 45 ∷ []) (λ n. refl)
+pub sign-minus : (z : ℤ) → ltZ z (pos 0) ≡ true → signText z ≡ code "-" ∷ []
+sign-minus = below-zero (λ z. signText z ≡ code "-" ∷ []) (λ n. refl)
 
 pub sign-plus : (z : ℤ) → ltZ z (pos 0) ≡ false → signText z ≡ []
 sign-plus = from-zero (λ z. signText z ≡ []) (λ n. refl)
@@ -60,7 +62,7 @@ module _ {z : ℤ} (h : SFits w32 z) where
   pub widened : toZ w64 (ofZ w64 (toZ w32 (ofZ w32 z))) ≡ z
   widened = rw (toZ-ofZ {w = w32} h) (toZ-ofZ {w = w64} (sfits-widen tt h))
 
-  -- 64 bits hold its other side of zero, that of -2147483648 too
+  -- 64 bits hold its other side of zero, that of the lowest too
   pub other-fits : SFits w64 (negℤ z)
   other-fits = let f = fits-natAbs {w = w32} {w′ = w32} tt h in neg-fits w64 z (omega arith)
 

@@ -3,6 +3,7 @@ use mathlib.Core.Path.{_≡_, refl, ap, _∙_}
 use mathlib.Core.Bool.{Bool, true, false}
 use mathlib.Core.List.{List, [], _∷_, _++_, append-assoc}
 use Prim.Native.Nat.{ℕ, zero, suc, _+_, _-_, _*_, _≤_, _<_}
+use Prim.Native.Char.{code}
 use Prim.Native.String.{String}
 use native.Mathlib.Nat.{add-zero}
 use native.Mathlib.Numerals.{add-one}
@@ -17,80 +18,78 @@ use borrow.Author.Tests.{eq-eqb, ne-eqb}
 use Rattle.registers.specs.Text.{Text, if_then_else_, bytes, every}
 use Rattle.registers.specs.Answer.{decimal, signedText}
 use Rattle.registers.specs.Error.{messages, messageIn, errorText}
-use Rattle.registers.specs.ErrorParts.{quoted, rowWidth, rowCount, messageRow, tableOf, messageRows, messageTable, messageAt, rowIn}
+use Rattle.registers.specs.ErrorParts.{quoted, messageSize, messageCount, messageRow, tableOf, messageRows, messageTable, messageAt, rowIn}
 use Rattle.registers.proofs.Tables.{table-at, cell-at, table-length}
 
 -- ---- the table
 
-rows : length messages ≡ rowCount
-unfolding messages
+rows : length messages ≡ messageCount
 rows = refl
 
-all-rows : length messageRows ≡ rowCount + 1
-unfolding messages
+all-rows : length messageRows ≡ messageCount + 1
 all-rows = refl
 
 -- the one test over all messages: each text has room in its row
-all-wide : every (λ (m : ℕ × String). eqb (length (messageRow m)) rowWidth) messageRows ≡ true
-unfolding messageRow messages bytes
+all-wide : every (λ (m : ℕ × String). eqb (length (messageRow m)) messageSize) messageRows ≡ true
+unfolding messageRow bytes
 all-wide = refl
 
-pub table-long : length messageTable ≡ (rowCount + 1) * rowWidth
+pub table-long : length messageTable ≡ (messageCount + 1) * messageSize
 unfolding messageTable tableOf
-table-long = table-length messageRow rowWidth tableOf refl (λ x xs. refl) messageRows all-wide ∙ ap (λ (n : ℕ). n * rowWidth) all-rows
+table-long = table-length messageRow messageSize tableOf refl (λ x xs. refl) messageRows all-wide ∙ ap (λ (n : ℕ). n * messageSize) all-rows
 
 front : (t zeros rest : Text) → take (length t) ((t ++ zeros) ++ rest) ≡ t
 front t zeros rest = rw (append-assoc t zeros rest) (take-append-seam t (zeros ++ rest))
 
-module _ (row : ℕ) (h : row < rowCount + 1) where
+module _ (row : ℕ) (h : row < messageCount + 1) where
   -- from where a row starts the table has its message, and then the other rows
-  row-at : drop (row * rowWidth) messageTable ≡ messageRow (messageAt row) ++ tableOf (drop (suc row) messageRows)
+  row-at : drop (row * messageSize) messageTable ≡ messageRow (messageAt row) ++ tableOf (drop (suc row) messageRows)
   unfolding messageTable messageAt tableOf
-  row-at = let l = all-rows in table-at messageRow rowWidth tableOf refl (λ x xs. refl) messageRows all-wide row (0, "") (omega arith)
+  row-at = let l = all-rows in table-at messageRow messageSize tableOf refl (λ x xs. refl) messageRows all-wide row (0, "") (omega arith)
 
-  cell : (i : ℕ) → getD messageTable (row * rowWidth + i) 0 ≡ getD (messageRow (messageAt row) ++ tableOf (drop (suc row) messageRows)) i 0
+  cell : (i : ℕ) → getD messageTable (row * messageSize + i) 0 ≡ getD (messageRow (messageAt row) ++ tableOf (drop (suc row) messageRows)) i 0
   unfolding messageTable messageAt tableOf
-  cell i = let l = all-rows in cell-at messageRow rowWidth tableOf refl (λ x xs. refl) messageRows all-wide row (0, "") (omega arith) i
+  cell i = let l = all-rows in cell-at messageRow messageSize tableOf refl (λ x xs. refl) messageRows all-wide row (0, "") (omega arith) i
 
-  pub number-cells : {table : Text} → table ≡ messageTable → getD table (row * rowWidth) 0 * 256 + getD table (row * rowWidth + 1) 0 ≡ messageAt row .0
+  pub number-cells : {table : Text} → table ≡ messageTable → getD table (row * messageSize) 0 * 256 + getD table (row * messageSize + 1) 0 ≡ messageAt row .0
   unfolding messageRow
   number-cells e =
-      let z : row * rowWidth + 0 ≡ row * rowWidth = omega arith in
+      let z : row * messageSize + 0 ≡ row * messageSize = omega arith in
       let a = rw z at (cell 0) in
       let b = cell 1 in
       rw e (omega arith)
 
-  pub length-cell : getD messageTable (row * rowWidth + 2) 0 ≡ length (quoted (messageAt row .1))
+  pub length-cell : getD messageTable (row * messageSize + 2) 0 ≡ length (quoted (messageAt row .1))
   unfolding messageRow
   length-cell = cell 2
 
-  pub text-room : row * rowWidth + 3 + length (quoted (messageAt row .1)) ≤ length messageTable
+  pub text-room : row * messageSize + 3 + length (quoted (messageAt row .1)) ≤ length messageTable
   unfolding messageRow
   text-room =
       let t = quoted (messageAt row .1) in
-      let a = length-append t (replicate (rowWidth - 3 - length t) 0) in
+      let a = length-append t (replicate (messageSize - 3 - length t) 0) in
       let b = length-append (messageRow (messageAt row)) (tableOf (drop (suc row) messageRows)) in
       let e = ap length row-at in
-      let d = length-drop (row * rowWidth) messageTable in
+      let d = length-drop (row * messageSize) messageTable in
       let l = table-long in
       omega arith
 
-  pub text-long : row * rowWidth + 3 + getD messageTable (row * rowWidth + 2) 0 - (row * rowWidth + 3) ≡ length (quoted (messageAt row .1))
+  pub text-long : row * messageSize + 3 + getD messageTable (row * messageSize + 2) 0 - (row * messageSize + 3) ≡ length (quoted (messageAt row .1))
   text-long = let n = length-cell in omega arith
 
-  pub text-part : take (length (quoted (messageAt row .1))) (drop (row * rowWidth + 3) messageTable) ≡ quoted (messageAt row .1)
+  pub text-part : take (length (quoted (messageAt row .1))) (drop (row * messageSize + 3) messageTable) ≡ quoted (messageAt row .1)
   unfolding messageRow
   text-part =
       let t = quoted (messageAt row .1) in
-      let zeros : Text = replicate (rowWidth - 3 - length t) 0 in
-      rw (← drop-drop 3 (row * rowWidth) messageTable, row-at) (front t zeros (tableOf (drop (suc row) messageRows)))
+      let zeros : Text = replicate (messageSize - 3 - length t) 0 in
+      rw (← drop-drop 3 (row * messageSize) messageTable, row-at) (front t zeros (tableOf (drop (suc row) messageRows)))
 
 -- a row's number is read from two bytes of the table
-module _ (row : ℕ) (h : row < rowCount) {table : Text} (e : table ≡ messageTable) where
-  pub high-within : row * rowWidth < length table
+module _ (row : ℕ) (h : row < messageCount) {table : Text} (e : table ≡ messageTable) where
+  pub high-within : row * messageSize < length table
   high-within = let l = table-long in rw e (omega arith)
 
-  pub low-within : row * rowWidth + 1 < length table
+  pub low-within : row * messageSize + 1 < length table
   low-within = let l = table-long in rw e (omega arith)
 
 pub byte-fits : {a : ℕ} → Fits w8 a → Fits w16 a
@@ -128,22 +127,22 @@ row-within (m ∷ ms) n = go (eqb (m .0) n) (row-within ms n)
     go false h = omega arith
 
 module _ (n : ℕ) {row : ℕ} (e : row ≡ rowIn messages n) where
-  pub found-row : row < rowCount + 1
+  pub found-row : row < messageCount + 1
   found-row = let l = rows in let w = row-within messages n in omega arith
 
-  pub found-fits : Fits w64 (row * rowWidth)
+  pub found-fits : Fits w64 (row * messageSize)
   found-fits = let h = found-row in omega arith
 
-  pub text-fits : Fits w64 (row * rowWidth + 3)
+  pub text-fits : Fits w64 (row * messageSize + 3)
   text-fits = let h = found-row in omega arith
 
-  pub cell-fits : Fits w64 (row * rowWidth + 2)
+  pub cell-fits : Fits w64 (row * messageSize + 2)
   cell-fits = let h = found-row in omega arith
 
-  pub cell-within : {table : Text} → table ≡ messageTable → row * rowWidth + 2 < length table
+  pub cell-within : {table : Text} → table ≡ messageTable → row * messageSize + 2 < length table
   cell-within t = let h = found-row in let l = table-long in rw t (omega arith)
 
-  pub end-fits : {b : ℕ} → Fits w8 b → Fits w64 (row * rowWidth + 3 + b)
+  pub end-fits : {b : ℕ} → Fits w8 b → Fits w64 (row * messageSize + 3 + b)
   end-fits k = let h = found-row in omega arith
 
   pub found-text : messageAt row .1 ≡ messageIn messages n
@@ -155,7 +154,7 @@ abbrev pub sought : ℕ → ℕ → ℕ
 sought n row = row + rowIn (drop row messages) n
 
 module _ (n row : ℕ) where
-  module _ (h : row < rowCount) where
+  module _ (h : row < messageCount) where
     in-messages : row < length messages
     in-messages = let l = rows in omega arith
 
@@ -174,7 +173,7 @@ module _ (n row : ℕ) where
         rw (drop-cons messages row (0, "") in-messages, ne-eqb (getD messages row (0, "") .0) n (rw listed at ne), add-one row)
         (omega arith)
 
-  pub search-end : rowCount ≤ row → row ≤ rowCount → sought n row ≡ rowCount
+  pub search-end : messageCount ≤ row → row ≤ messageCount → sought n row ≡ messageCount
   unfolding rowIn
   search-end h k =
       let l = rows in
@@ -186,7 +185,7 @@ module _ (n row : ℕ) where
 -- an error's number stands in the answer as a negative number
 pub error-text : (n : ℕ) → errorText n ≡ signedText decimal (negℤ (pos n)) ++ quoted (messageIn messages n)
 unfolding errorText if_then_else_
-error-text zero = append-assoc (decimal 0) (44 ∷ 34 ∷ bytes (messageIn messages 0)) (34 ∷ [])
+error-text zero = append-assoc (decimal 0) (code "," ∷ code "\"" ∷ bytes (messageIn messages 0)) (code "\"" ∷ [])
 error-text (suc n) =
     rw (ne-eqb (suc n) 0 (λ (e : suc n ≡ 0). omega arith))
-    (append-assoc (45 ∷ decimal (suc n)) (44 ∷ 34 ∷ bytes (messageIn messages (suc n))) (34 ∷ []))
+    (append-assoc (code "-" ∷ decimal (suc n)) (code "," ∷ code "\"" ∷ bytes (messageIn messages (suc n))) (code "\"" ∷ []))

@@ -11,7 +11,7 @@ use lib.ListN.{length, getD}
 use lib.Bits.{bitAnd, bitOr, bitXor, differ, or-lt, and-le-r, and-shr, or-shr, xor-shr, and-step, or-step, xor-step}
 use borrow.Author.Tests.{le-leb, leb-true}
 use Rattle.registers.specs.Text.{every}
-use Rattle.registers.specs.Group.{rises, falls, eventsAfter, conditionIs, eventRead, possibleGroup, widestGroup, noGroup}
+use Rattle.registers.specs.Group.{rises, falls, eventsAfter, conditionIs, eventRead, possibleGroup, widestGroup, groupCount, noGroup}
 use Rattle.registers.specs.declared.group.Group.{Group}
 use Rattle.registers.proofs.Tests.{and-both}
 
@@ -94,7 +94,7 @@ transition-bit k new g = simp (has-or, has-and, rises-bit, falls-bit)
 
 -- ---- no register above its width
 
-or-within : (k a b : ℕ) → a ≤ 2 ^ k - 1 → b ≤ 2 ^ k - 1 → bitOr a b ≤ 2 ^ k - 1
+pub or-within : (k a b : ℕ) → a ≤ 2 ^ k - 1 → b ≤ 2 ^ k - 1 → bitOr a b ≤ 2 ^ k - 1
 or-within k a b ha hb = let p = pow-pos k in let h = or-lt k a b (omega arith) (omega arith) in omega arith
 
 -- the five facts of the test
@@ -146,18 +146,18 @@ module _ (g : Group) (w : Widths g) where
 -- ---- the three groups
 
 -- the three by their places
-pub three : (l : List Group) → length l ≡ 3 → l ≡ getD l 0 noGroup ∷ getD l 1 noGroup ∷ getD l 2 noGroup ∷ []
+pub three : (l : List Group) → length l ≡ groupCount → l ≡ getD l 0 noGroup ∷ getD l 1 noGroup ∷ getD l 2 noGroup ∷ []
 three [] e = absurd (omega arith)
 three (a ∷ []) e = absurd (omega arith)
 three (a ∷ b ∷ []) e = absurd (omega arith)
 three (a ∷ b ∷ c ∷ []) e = refl
 three (a ∷ b ∷ c ∷ d ∷ l) e = absurd (omega arith)
 
-pub three-read : (l : List Group) → length l ≡ 3
+pub three-read : (l : List Group) → length l ≡ groupCount
     → eventRead (getD l 0 noGroup) ∷ eventRead (getD l 1 noGroup) ∷ eventRead (getD l 2 noGroup) ∷ [] ≡ map eventRead l
 three-read l e = sym (ap (map eventRead) (three l e))
 
-pub three-possible : (l : List Group) → length l ≡ 3
+pub three-possible : (l : List Group) → length l ≡ groupCount
     → (possibleGroup (getD l 0 noGroup) && possibleGroup (getD l 1 noGroup) && possibleGroup (getD l 2 noGroup)) ≡ every possibleGroup l
 three-possible [] e = absurd (omega arith)
 three-possible (a ∷ []) e = absurd (omega arith)

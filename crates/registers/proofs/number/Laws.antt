@@ -3,6 +3,7 @@ use mathlib.Core.Path.{_≡_, refl, ap, sym, _∙_}
 use mathlib.Core.Bool.{Bool, true, false}
 use mathlib.Core.List.{[], _∷_, _++_, append-nil}
 use Prim.Native.Nat.{ℕ, _+_, _-_, min, _≤_}
+use Prim.Native.Char.{code}
 use native.Mathlib.Nat.{add-zero}
 use native.Mathlib.Omega.{arith}
 use lib.Dec.{eqb}
@@ -45,13 +46,13 @@ module _ (t : Text) (at : ℕ) (w : Digits) (h : DigitsRead t at 0 w) where
   abbrev whole : Text
   whole = start digit (drop at t)
 
-  pub no-point : (first (drop (w .end) t) ≡ 46 → ⊥)
+  pub no-point : (first (drop (w .end) t) ≡ code "." → ⊥)
       → MantissaRead t at (record { value = w .value; count = w .end - at; places = 0; end = w .end })
   unfolding fractionOf afterFraction if_then_else_
   no-point ne =
-      let q : point (first (after digit (drop at t))) ≡ false = rw (sym (h .rest)) (ne-eqb (first (drop (w .end) t)) 46 ne) in
+      let q : point (first (after digit (drop at t))) ≡ false = rw (sym (h .rest)) (ne-eqb (first (drop (w .end) t)) (code ".") ne) in
       let none : fractionOf (after digit (drop at t)) ≡ [] = rw q in
-      let behind : afterFraction (after digit (drop at t)) ≡ after digit (drop at t) = rw q in
+      let rest-is : afterFraction (after digit (drop at t)) ≡ after digit (drop at t) = rw q in
       let all : mantissaOf (drop at t) ≡ whole = rw none (append-nil whole) in
       let n = h .end in
       let long : w .end - at ≡ length whole = omega arith in
@@ -59,12 +60,12 @@ module _ (t : Text) (at : ℕ) (w : Digits) (h : DigitsRead t at 0 w) where
         value = h .value ∙ ap (λ (u : Text). min held (numeral u)) (sym all);
         count = long ∙ ap length (sym all);
         places = ap length (sym none);
-        rest = h .rest ∙ sym behind;
+        rest = h .rest ∙ sym rest-is;
         within = h .within;
         short = omega arith;
       }
 
-  pub with-point : first (drop (w .end) t) ≡ 46 → (d : Digits) → DigitsRead t (w .end + 1) (w .value) d
+  pub with-point : first (drop (w .end) t) ≡ code "." → (d : Digits) → DigitsRead t (w .end + 1) (w .value) d
       → MantissaRead t at (record { value = d .value; count = d .end - at - 1; places = d .end - w .end - 1; end = d .end })
   unfolding fractionOf afterFraction if_then_else_
   with-point e d k =
@@ -72,7 +73,7 @@ module _ (t : Text) (at : ℕ) (w : Digits) (h : DigitsRead t at 0 w) where
       let q : point (first (after digit (drop at t))) ≡ true = rw (sym (h .rest), e) in
       let fraction = start digit (drop (w .end + 1) t) in
       let is : fractionOf (after digit (drop at t)) ≡ fraction = rw (q, more) in
-      let behind : afterFraction (after digit (drop at t)) ≡ after digit (drop (w .end + 1) t) = rw (q, more) in
+      let rest-is : afterFraction (after digit (drop at t)) ≡ after digit (drop (w .end + 1) t) = rw (q, more) in
       let all : mantissaOf (drop at t) ≡ whole ++ fraction = ap (λ (u : Text). whole ++ u) is in
       let n = h .end in
       let m = k .end in
@@ -88,7 +89,7 @@ module _ (t : Text) (at : ℕ) (w : Digits) (h : DigitsRead t at 0 w) where
             ∙ ap (min held) (sym (numeral-append 0 whole fraction) ∙ ap numeral (sym all));
         count = count ∙ ap length (sym all);
         places = places ∙ ap length (sym is);
-        rest = k .rest ∙ sym behind;
+        rest = k .rest ∙ sym rest-is;
         within = l;
         short = omega arith;
       }
@@ -100,11 +101,11 @@ module _ (t : Text) (at : ℕ) where
   unfolding lowering afterExponent if_then_else_ numeralFrom
   exponent-none l e = record { lowers = rw e; size = rw e; rest = rw e; within = l }
 
-  pub exponent-no : (capital (first (drop at t)) ≡ 69 → ⊥) → exponentOf (drop at t) ≡ []
+  pub exponent-no : (capital (first (drop at t)) ≡ code "E" → ⊥) → exponentOf (drop at t) ≡ []
   unfolding exponentOf if_then_else_
-  exponent-no ne = rw (ne-eqb (capital (first (drop at t))) 69 ne)
+  exponent-no ne = rw (ne-eqb (capital (first (drop at t))) (code "E") ne)
 
-  module _ (e : capital (first (drop at t)) ≡ 69) (s : ℕ) (signed : drop s t ≡ afterSign (drop (at + 1) t))
+  module _ (e : capital (first (drop at t)) ≡ code "E") (s : ℕ) (signed : drop s t ≡ afterSign (drop (at + 1) t))
       (d : Digits) (h : DigitsRead t s 0 d) where
     is-there : exponentOf (drop at t) ≡ start digit (drop s t)
     unfolding exponentOf if_then_else_
@@ -118,7 +119,7 @@ module _ (t : Text) (at : ℕ) where
         nothing (x ∷ u) f = absurd (omega arith)
 
     pub exponent-some : (d .end ≡ s → ⊥) → (b : ℕ) → b ≡ first (drop (at + 1) t)
-        → ExponentRead t at (record { lowers = eqb b 45; size = d .value; end = d .end })
+        → ExponentRead t at (record { lowers = eqb b (code "-"); size = d .value; end = d .end })
     unfolding lowering afterExponent if_then_else_
     exponent-some ne b eb =
         let n = h .end in
@@ -134,6 +135,6 @@ module _ (t : Text) (at : ℕ) where
         full [] f = absurd (f refl)
         full (x ∷ u) f = refl
 
-pub zero-capital : eqb (capital 0) 69 ≡ false
+pub zero-capital : eqb (capital 0) (code "E") ≡ false
 unfolding capital small if_then_else_
 zero-capital = refl

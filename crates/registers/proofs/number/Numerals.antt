@@ -4,6 +4,7 @@ use mathlib.Core.Path.{_≡_, refl, ap, sym, _∙_}
 use mathlib.Core.Bool.{Bool, true, false}
 use mathlib.Core.List.{[], _∷_, _++_}
 use Prim.Native.Nat.{ℕ, suc, _+_, _-_, _*_, _^_, min, _≤_, _<_}
+use Prim.Native.Char.{code}
 use native.Mathlib.Omega.{arith}
 use native.Mathlib.Nat.{pow-suc, pow-le-pow-right, mul-le-mul-right}
 use lib.Dec.{T, leb, ltb, eqb}
@@ -13,7 +14,7 @@ use mir.Val.{Fits}
 use mir.Facts.{and-yes}
 use borrow.Author.Tests.{le-leb, lt-leb, leb-true, leb-false, eqb-true, eqb-false}
 use Rattle.registers.specs.Text.{Text, if_then_else_, digit, every, start, after}
-use Rattle.registers.specs.Number.{numeralFrom}
+use Rattle.registers.specs.Number.{mostDigits, numeralFrom}
 use Rattle.registers.specs.NumberParts.{held, DigitsRead}
 use Rattle.registers.proofs.text.Laws.{start-more, end-drop, end-within, digit-bounds}
 
@@ -30,15 +31,15 @@ pub held-before : (bound n : ℕ) (ds : Text) → min bound (numeralFrom (min bo
 unfolding numeralFrom
 held-before bound n [] = omega arith
 held-before bound n (d ∷ ds) =
-    let next : min bound (min bound n * 10 + (d - 48)) ≡ min bound (n * 10 + (d - 48)) = omega arith in
-    sym (held-before bound (min bound n * 10 + (d - 48)) ds)
+    let next : min bound (min bound n * 10 + (d - code "0")) ≡ min bound (n * 10 + (d - code "0")) = omega arith in
+    sym (held-before bound (min bound n * 10 + (d - code "0")) ds)
     ∙ ap (λ (m : ℕ). min bound (numeralFrom m ds)) next
-    ∙ held-before bound (n * 10 + (d - 48)) ds
+    ∙ held-before bound (n * 10 + (d - code "0")) ds
 
 pub numeral-append : (n : ℕ) (a b : Text) → numeralFrom n (a ++ b) ≡ numeralFrom (numeralFrom n a) b
 unfolding numeralFrom
 numeral-append n [] b = refl
-numeral-append n (x ∷ a) b = numeral-append (n * 10 + (x - 48)) a b
+numeral-append n (x ∷ a) b = numeral-append (n * 10 + (x - code "0")) a b
 
 -- ---- how many digits, by the number that they make
 
@@ -54,36 +55,36 @@ numeral-bounds n [] t = (omega arith, omega arith)
 numeral-bounds n (d ∷ ds) t =
     let both = and-yes (digit d) (every digit ds) t in
     let b = digit-bounds d (both .0) in
-    let ih = numeral-bounds (n * 10 + (d - 48)) ds (both .1) in
+    let ih = numeral-bounds (n * 10 + (d - code "0")) ds (both .1) in
     rw (pow-suc 10 (length ds))
-    (one-more n (d - 48) (10 ^ length ds) (numeralFrom (n * 10 + (d - 48)) ds) (omega arith) (ih .0) (ih .1))
+    (one-more n (d - code "0") (10 ^ length ds) (numeralFrom (n * 10 + (d - code "0")) ds) (omega arith) (ih .0) (ih .1))
 
 -- "more than 12 mantissa digits after leading zeros" make a number of 10 to the power 12 or more, and twelve a lower one
-pub few-digits : (ds : Text) → T (every digit ds) → leb (length (after (eqb 48) ds)) 12 ≡ ltb (numeralFrom 0 ds) held
+pub few-digits : (ds : Text) → T (every digit ds) → leb (length (after (eqb (code "0")) ds)) mostDigits ≡ ltb (numeralFrom 0 ds) held
 unfolding numeralFrom if_then_else_
 few-digits [] t = refl
-few-digits (d ∷ ds) t = go (eqb 48 d) refl (few-digits ds (both .1))
+few-digits (d ∷ ds) t = go (eqb (code "0") d) refl (few-digits ds (both .1))
   where
     both : T (digit d) × T (every digit ds)
     both = and-yes (digit d) (every digit ds) t
 
-    few : (x : ℕ) → 1 ≤ x → x ≤ 9 → leb (suc (length ds)) 12 ≡ ltb (numeralFrom x ds) held
+    few : (x : ℕ) → 1 ≤ x → x ≤ 9 → leb (suc (length ds)) mostDigits ≡ ltb (numeralFrom x ds) held
     few x low high =
         let b = numeral-bounds x ds (both .1) in
         let p = mul-le-mul-right (10 ^ length ds) low in
         let q = mul-le-mul-right (10 ^ length ds) high in
-        same-test (suc (length ds)) 12 (suc (numeralFrom x ds)) held
-        (λ k. let z = pow-le-pow-right {n = 10} (omega arith) {i = length ds} {j = 11} (omega arith) in omega arith)
-        (λ k. let z = pow-le-pow-right {n = 10} (omega arith) {i = 12} {j = length ds} (omega arith) in omega arith)
+        same-test (suc (length ds)) mostDigits (suc (numeralFrom x ds)) held
+        (λ k. let z = pow-le-pow-right {n = 10} (omega arith) {i = length ds} {j = mostDigits - 1} (omega arith) in omega arith)
+        (λ k. let z = pow-le-pow-right {n = 10} (omega arith) {i = mostDigits} {j = length ds} (omega arith) in omega arith)
 
-    go : (e : Bool) → eqb 48 d ≡ e → leb (length (after (eqb 48) ds)) 12 ≡ ltb (numeralFrom 0 ds) held
-        → leb (length (if e then after (eqb 48) ds else d ∷ ds)) 12 ≡ ltb (numeralFrom (0 * 10 + (d - 48)) ds) held
-    go true q ih = let y = eqb-true 48 d q in let z : 0 * 10 + (d - 48) ≡ 0 = omega arith in rw z ih
+    go : (e : Bool) → eqb (code "0") d ≡ e → leb (length (after (eqb (code "0")) ds)) mostDigits ≡ ltb (numeralFrom 0 ds) held
+        → leb (length (if e then after (eqb (code "0")) ds else d ∷ ds)) mostDigits ≡ ltb (numeralFrom (0 * 10 + (d - code "0")) ds) held
+    go true q ih = let y = eqb-true (code "0") d q in let z : 0 * 10 + (d - code "0") ≡ 0 = omega arith in rw z ih
     go false q ih =
-        let ne = eqb-false 48 d q in
+        let ne = eqb-false (code "0") d q in
         let b = digit-bounds d (both .0) in
-        let z : 0 * 10 + (d - 48) ≡ d - 48 = omega arith in
-        rw z (few (d - 48) (omega arith) (omega arith))
+        let z : 0 * 10 + (d - code "0") ≡ d - code "0" = omega arith in
+        rw z (few (d - code "0") (omega arith) (omega arith))
 
 -- ---- one digit more, held
 
@@ -94,14 +95,14 @@ module _ {n v : ℕ} where
   pub next-held : held ≤ n → v ≡ held → v ≡ min held n
   next-held h e = omega arith
 
-module _ {n b : ℕ} (low : n ≤ held) (digit : (48 ≤ b) × (b ≤ 57)) where
+module _ {n b : ℕ} (low : n ≤ held) (digit : (code "0" ≤ b) × (b ≤ code "9")) where
   pub tens-fit : Fits w64 (n * 10)
   tens-fit = omega arith
 
-  pub digit-fits : Fits w64 (b - 48)
+  pub digit-fits : Fits w64 (b - code "0")
   digit-fits = omega arith
 
-  pub next-fits : Fits w64 (n * 10 + (b - 48))
+  pub next-fits : Fits w64 (n * 10 + (b - code "0"))
   next-fits = omega arith
 
 -- ---- the loop over digits, by what is left to read
@@ -113,7 +114,7 @@ pub record DigitsLeft (t : Text) (at from value i : ℕ) : Type 0 where
   pub end : i + length (start digit (drop i t)) ≡ at + length (start digit (drop at t))
 
 module _ {t : Text} {at from value i : ℕ} (g : DigitsLeft t at from value i) where
-  pub left-more : i < length t → digit (getD t i 0) ≡ true → (v : ℕ) → v ≡ min held (value * 10 + (getD t i 0 - 48))
+  pub left-more : i < length t → digit (getD t i 0) ≡ true → (v : ℕ) → v ≡ min held (value * 10 + (getD t i 0 - code "0"))
       → DigitsLeft t at from v (i + 1)
   unfolding numeralFrom
   left-more h d v e =
@@ -123,7 +124,7 @@ module _ {t : Text} {at from value i : ℕ} (g : DigitsLeft t at from value i) w
       record {
         within = omega arith;
         low = omega arith;
-        number = rw e (held-before held (value * 10 + (getD t i 0 - 48)) (start digit (drop (i + 1) t)) ∙ number);
+        number = rw e (held-before held (value * 10 + (getD t i 0 - code "0")) (start digit (drop (i + 1) t)) ∙ number);
         end = omega arith;
       }
 

@@ -4,13 +4,14 @@ use mathlib.Core.Path.{_≡_, refl, ap, sym, _∙_}
 use mathlib.Core.Bool.{Bool, true, false, not}
 use mathlib.Core.List.{[], _∷_}
 use Prim.Native.Nat.{ℕ, suc, min}
+use Prim.Native.Char.{code}
 use native.Mathlib.Omega.{arith}
 use lib.Dec.{T, leb, ltb, eqb}
 use lib.ListN.{length, drop}
 use borrow.Author.Tests.{ne-eqb, leb-true, ltb-true}
 use Rattle.registers.specs.Text.{Text, if_then_else_, every, digit, white, first, rest, empty, start, after}
 use Rattle.registers.specs.Check.{Checked, refused, passed, _>>=_, _>>_, check}
-use Rattle.registers.specs.Number.{numeral, point, afterSign, fractionOf, afterFraction, exponentOf, afterExponent, lowering, written, valueOf, decimalOf, scaled, number}
+use Rattle.registers.specs.Number.{mostDigits, mostExponent, numeral, point, afterSign, fractionOf, afterFraction, exponentOf, afterExponent, lowering, written, valueOf, decimalOf, scaled, number}
 use Rattle.registers.specs.Suffix.{remains}
 use Rattle.registers.specs.NumberParts.{held, mantissaOf, MantissaRead, ExponentRead, valueRead}
 use Rattle.registers.specs.declared.number.Decimal.{Decimal}
@@ -42,7 +43,7 @@ chain-value none (passed p) false low h = refl
 
 -- check 6 by the first two and what the reader found: the first byte, the mantissa and the exponent
 unfoldable pub verdict : Bool → Checked Power → ℕ → Mantissa → Exponent → Checked Decimal
-verdict none scale b m x = check 121 (not none) >> scale >>= λ p. valueRead (eqb b 45) m x p
+verdict none scale b m x = check 121 (not none) >> scale >>= λ p. valueRead (eqb b (code "-")) m x p
 
 no-digits : (l : Text) (n : ℕ) → n ≡ length l → empty l ≡ eqb n 0
 no-digits [] n e = rw e
@@ -77,14 +78,14 @@ module _ {t : Text} {b s : ℕ} {m : Mantissa} {x : Exponent} (byte : b ≡ firs
   abbrev power : Text
   power = exponentOf (afterFraction (after digit (afterSign t)))
 
-  behind-is : drop (m .end) t ≡ afterFraction (after digit (afterSign t))
-  behind-is = mantissa .rest ∙ ap (λ (u : Text). afterFraction (after digit u)) sign
+  after-is : drop (m .end) t ≡ afterFraction (after digit (afterSign t))
+  after-is = mantissa .rest ∙ ap (λ (u : Text). afterFraction (after digit u)) sign
 
   value-is : m .value ≡ min held (numeral all)
   value-is = mantissa .value ∙ ap (λ (u : Text). min held (numeral (mantissaOf u))) sign
 
   size-is : x .size ≡ min held (numeral power)
-  size-is = exponent .size ∙ ap (λ (u : Text). min held (numeral (exponentOf u))) behind-is
+  size-is = exponent .size ∙ ap (λ (u : Text). min held (numeral (exponentOf u))) after-is
 
   places-is : m .places ≡ length (fractionOf (after digit (afterSign t)))
   places-is = mantissa .places ∙ ap (λ (u : Text). length (fractionOf (after digit u))) sign
@@ -94,12 +95,12 @@ module _ {t : Text} {b s : ℕ} {m : Mantissa} {x : Exponent} (byte : b ≡ firs
       → number q t ≡ verdict (eqb (m .count) 0) (remains q (drop e t)) b m x
   unfolding number written valueOf chain verdict valueRead
   number-is q e rest-is =
-      let remainder = ap (after white) (sym (exponent .rest ∙ ap afterExponent behind-is)) ∙ sym rest-is in
-      let lowers = exponent .lowers ∙ ap lowering behind-is in
+      let remainder = ap (after white) (sym (exponent .rest ∙ ap afterExponent after-is)) ∙ sym rest-is in
+      let lowers = exponent .lowers ∙ ap lowering after-is in
       rw (none sign mantissa, remainder, few, low, sym byte, sym lowers, sym places-is)
       (chain-value (eqb (m .count) 0) (remains q (drop e t)) _ _ exact)
     where
-      few : leb (length (after (eqb 48) all)) 12 ≡ ltb (m .value) held
+      few : leb (length (after (eqb (code "0")) all)) mostDigits ≡ ltb (m .value) held
       few =
           let whole = start digit (afterSign t) in
           let fraction = fractionOf (after digit (afterSign t)) in
@@ -107,15 +108,15 @@ module _ {t : Text} {b s : ℕ} {m : Mantissa} {x : Exponent} (byte : b ≡ firs
           let v = value-is in
           few-digits all passing ∙ same-test (suc (numeral all)) held (suc (m .value)) held (λ k. omega arith) (λ k. omega arith)
 
-      low : leb (numeral power) 9 ≡ leb (x .size) 9
-      low = let z = size-is in same-test (numeral power) 9 (x .size) 9 (λ k. omega arith) (λ k. omega arith)
+      low : leb (numeral power) mostExponent ≡ leb (x .size) mostExponent
+      low = let z = size-is in same-test (numeral power) mostExponent (x .size) mostExponent (λ k. omega arith) (λ k. omega arith)
 
-      exact : ltb (m .value) held ≡ true → leb (x .size) 9 ≡ true
-          → decimalOf (eqb b 45) (numeral all) (m .places) (x .lowers) (numeral power)
-          ≡ decimalOf (eqb b 45) (m .value) (m .places) (x .lowers) (x .size)
+      exact : ltb (m .value) held ≡ true → leb (x .size) mostExponent ≡ true
+          → decimalOf (eqb b (code "-")) (numeral all) (m .places) (x .lowers) (numeral power)
+          ≡ decimalOf (eqb b (code "-")) (m .value) (m .places) (x .lowers) (x .size)
       exact few low =
           let l = ltb-true (m .value) held few in
-          let k = leb-true (x .size) 9 low in
+          let k = leb-true (x .size) mostExponent low in
           let v : numeral all ≡ m .value = omega (arith, value-is) in
           let z : numeral power ≡ x .size = omega (arith, size-is) in
           rw (v, z)

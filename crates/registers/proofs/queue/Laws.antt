@@ -8,11 +8,11 @@ use Prim.Native.Nat.{ℕ, suc, _+_, _-_, _≤_, _<_}
 use native.Mathlib.Numerals.{add-one}
 use native.Mathlib.Omega.{arith}
 use lib.ListN.{length, take, drop, getD, set, replicate, length-take, length-drop, drop-of-length-le}
-use lib.Seq.{drop-cons, set-at, take-suc, take-all, append-snoc, getD-take}
+use lib.Seq.{drop-cons, set-at, take-suc, take-all, append-snoc, getD-take, length-take-le}
 use borrow.Author.Tests.{eq-eqb, ne-eqb}
 use Rattle.registers.specs.Text.{every}
 use Rattle.registers.specs.Error.{numberOf}
-use Rattle.registers.specs.Queue.{among, mayBeQueued, queueable}
+use Rattle.registers.specs.Queue.{most, lastPlace, among, mayBeQueued, queueable}
 use Rattle.registers.specs.declared.error.Error.{Error}
 use Rattle.registers.specs.declared.error.Error.the-variants.{InvalidCharacter, Syntax, DataType, ParameterNotAllowed, MissingParameter, UndefinedHeader, InvalidCharacterInNumber, ExponentTooLarge, TooManyDigits, InvalidSuffix, SuffixNotAllowed, InvalidCharacterData, SettingsConflict, DataOutOfRange, InputBufferOverrun, QueryInterrupted, QueryUnterminated, QueryDeadlocked}
 use Rattle.registers.proofs.Tests.{every-skip, every-miss}
@@ -49,13 +49,10 @@ raised-queueable QueryUnterminated = refl
 raised-queueable QueryDeadlocked = refl
 
 -- the loop over the numbers that wait
-module _ (errors : List ℕ) (count i : ℕ) (long : length errors ≡ 16) (h : count ≤ 16) where
-  waiting : length (take count errors) ≡ count
-  waiting = rw length-take (omega arith)
-
+module _ (errors : List ℕ) (count i : ℕ) (long : length errors ≡ most) (h : count ≤ most) where
   module _ (k : i < count) where
     within : i < length (take count errors)
-    within = let w = waiting in omega arith
+    within = let w = length-take-le count errors (omega arith) in omega arith
 
     pub queued-one : mayBeQueued (getD errors i 0) ≡ true → every mayBeQueued (drop i (take count errors)) ≡ every mayBeQueued (drop (i + 1) (take count errors))
     queued-one e = every-skip mayBeQueued (take count errors) i within (rw (getD-take count errors i 0 k) e)
@@ -64,22 +61,22 @@ module _ (errors : List ℕ) (count i : ℕ) (long : length errors ≡ 16) (h : 
     queued-none e = every-miss mayBeQueued (take count errors) i within (rw (getD-take count errors i 0 k) e)
 
   pub queued-all : count ≤ i → every mayBeQueued (drop i (take count errors)) ≡ true
-  queued-all k = let w = waiting in let past : length (take count errors) ≤ i = omega arith in rw (drop-of-length-le (take count errors) past)
+  queued-all k = let w = length-take-le count errors (omega arith) in let past : length (take count errors) ≤ i = omega arith in rw (drop-of-length-le (take count errors) past)
 
 -- ---- the oldest removed
 
 -- a turn of the loop, and its end
-pub shift-turn : (e : List ℕ) (i : ℕ) → length e ≡ 16 → i < 15
-    → set (take i (drop 1 e) ++ replicate (16 - i) 0) i (getD e (i + 1) 0) ≡ take (i + 1) (drop 1 e) ++ replicate (16 - (i + 1)) 0
+pub shift-turn : (e : List ℕ) (i : ℕ) → length e ≡ most → i < lastPlace
+    → set (take i (drop 1 e) ++ replicate (most - i) 0) i (getD e (i + 1) 0) ≡ take (i + 1) (drop 1 e) ++ replicate (most - (i + 1)) 0
 shift-turn [] i long h = absurd (omega arith)
 shift-turn (x ∷ l) i long h =
     let hl : i < length l = omega arith in
-    let n : 16 - i ≡ suc (15 - i) = omega arith in
-    let m : 16 - suc i ≡ 15 - i = omega arith in
+    let n : most - i ≡ suc (lastPlace - i) = omega arith in
+    let m : most - suc i ≡ lastPlace - i = omega arith in
     let t : length (take i l) ≡ i = rw length-take (omega arith) in
-    rw (add-one i, n, m, set-at (take i l) 0 (replicate (15 - i) 0) (getD l i 0) i t, take-suc l i 0 hl)
-    (sym (append-snoc (take i l) (getD l i 0) (replicate (15 - i) 0)))
+    rw (add-one i, n, m, set-at (take i l) 0 (replicate (lastPlace - i) 0) (getD l i 0) i t, take-suc l i 0 hl)
+    (sym (append-snoc (take i l) (getD l i 0) (replicate (lastPlace - i) 0)))
 
-pub shift-end : (e : List ℕ) (i : ℕ) → length e ≡ 16 → i ≡ 15
-    → take i (drop 1 e) ++ replicate (16 - i) 0 ≡ drop 1 e ++ 0 ∷ []
-shift-end e i long h = rw (h, take-all 15 (drop 1 e) (rw length-drop (omega arith)))
+pub shift-end : (e : List ℕ) (i : ℕ) → length e ≡ most → i ≡ lastPlace
+    → take i (drop 1 e) ++ replicate (most - i) 0 ≡ drop 1 e ++ 0 ∷ []
+shift-end e i long h = rw (h, take-all lastPlace (drop 1 e) (rw length-drop (omega arith)))

@@ -5,12 +5,13 @@ use mathlib.Core.Bool.{Bool, true, false}
 use Prim.Native.Nat.{ℕ, zero, suc, _*_, _^_, _<_}
 use native.Mathlib.Omega.{arith}
 use lib.Dec.{ltb}
-use lib.IntN.{ℤ, pos, negsuc, negℤ, natAbs, _*ℤ_, pos-*ℤ-pos, negsuc-*ℤ-pos}
+use lib.IntN.{ℤ, pos, negsuc, natAbs, _*ℤ_, pos-*ℤ-pos, negsuc-*ℤ-pos}
 use lib.Signed.{ltZ}
 use borrow.Author.Tests.{ltb-true, ltb-false, lt-ltb}
 use Rattle.registers.specs.Rounding.{nearest, signed, sizeIn, rounded, sizeSide, turned, sideIn, exactly, wholly, Stands}
 use Rattle.registers.specs.declared.number.Decimal.{Decimal}
 use Rattle.registers.specs.declared.rounding.Side.the-variants.{On, Below, Above}
+use Rattle.registers.proofs.answer.Signs.{size-neg}
 use Rattle.registers.proofs.rounding.Laws.{nearest-only}
 use Rattle.registers.proofs.rounding.Tens.{ten-positive}
 use Rattle.registers.proofs.rounding.Sides.{side-on, side-below, side-above}
@@ -47,17 +48,13 @@ module _ {a b : ℕ} where
   more false h = lt-ltb b a h
   more true h = more-minus b a h
 
-size-minus : (n : ℕ) → natAbs (negℤ (pos n)) ≡ n
-size-minus zero = refl
-size-minus (suc n) = refl
-
 size-signed : (m : Bool) (n : ℕ) → natAbs (signed m n) ≡ n
 size-signed false n = refl
-size-signed true n = size-minus n
+size-signed true n = size-neg (pos n)
 
 size-times : (z : ℤ) (den : ℕ) → natAbs (z *ℤ pos den) ≡ natAbs z * den
 size-times (pos a) den = refl
-size-times (negsuc a) den = ap natAbs (negsuc-*ℤ-pos a den) ∙ size-minus (suc a * den)
+size-times (negsuc a) den = ap natAbs (negsuc-*ℤ-pos a den) ∙ size-neg (pos (suc a * den))
 
 -- ---- the law
 

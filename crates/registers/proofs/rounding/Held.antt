@@ -4,11 +4,11 @@ use mathlib.Core.Bool.{Bool, true, false, _&&_, and-false}
 use Prim.Native.Nat.{ℕ, zero, suc, _+_, _*_, _^_, min, _≤_}
 use native.Mathlib.Omega.{arith}
 use lib.Dec.{T, leb, eqb, leb→le}
-use lib.IntN.{ℤ, pos, negsuc, negℤ, _-ℤ_, +ℤ-idl}
+use lib.IntN.{ℤ, pos, negsuc, _-ℤ_}
 use lib.Signed.{leZ}
 use mir.Syntax.{w32, w64}
-use mir.Val.{SFits, toZ, ofZ}
-use mir.Facts.{toZ-pos, toZ-ofZ, sfits-widen, and-yes}
+use mir.Val.{SFits, toZ}
+use mir.Facts.{toZ-pos, and-yes}
 use borrow.Author.Tests.{leb-true, leb-false, lt-leb, ne-eqb}
 use Rattle.registers.specs.Check.{Checked, passed, _>>_, check}
 use Rattle.registers.specs.Rounding.{nearest, signed, sizeIn, rounded, fitted, turned, sideIn, exactly, wholly, Stands, RoundedIn}
@@ -20,7 +20,8 @@ use Rattle.registers.specs.declared.rounding.Rounded.{Rounded}
 use Rattle.registers.specs.declared.rounding.Side.{Side}
 use Rattle.registers.specs.declared.rounding.Sized.{Sized}
 use Rattle.registers.specs.declared.rounding.Stepped.{Stepped}
-use Rattle.registers.proofs.rounding.Tens.{times-tens}
+use Rattle.registers.proofs.answer.Signs.{minus-is}
+use Rattle.registers.proofs.rounding.Tens.{tens-add}
 use Rattle.registers.proofs.rounding.Exact.{tells}
 
 -- ---- a size with its sign
@@ -44,19 +45,16 @@ stepped z x = record { value = z; side = x }
 module _ (tens : ℕ) (d : Decimal) (r : Sized) (is : r ≡ heldOver (d .digits * 10 ^ (d .up + tens)) (10 ^ d .down)) where
   pub held-minus : d .minus ≡ true → stepped (signed true (r .size)) (turned true (r .side)) ≡ heldIn (10 ^ tens) d
   unfolding heldIn heldOver sizeIn sideIn
-  held-minus e = rw (is, times-tens (d .digits) (d .up) tens, e)
+  held-minus e = rw (is, tens-add (d .digits) (d .up) tens, e)
 
   pub held-plus : d .minus ≡ false → stepped (pos (r .size)) (r .side) ≡ heldIn (10 ^ tens) d
   unfolding heldIn heldOver sizeIn sideIn
-  held-plus e = rw (is, times-tens (d .digits) (d .up) tens, e)
+  held-plus e = rw (is, tens-add (d .digits) (d .up) tens, e)
 
 pub minus-bits : (n : ℕ) → n ≤ beyond → pos 0 -ℤ toZ w64 n ≡ signed true n
-minus-bits n h = rw (toZ-pos w64 {n = n} (omega arith)) (+ℤ-idl (negℤ (pos n)))
+minus-bits n h = rw (toZ-pos w64 {n = n} (omega arith)) (minus-is (pos n))
 
 -- ---- limits of 32 bits
-
-pub limit-bits : {z : ℤ} → SFits w32 z → toZ w64 (ofZ w64 (toZ w32 (ofZ w32 z))) ≡ z
-limit-bits {z} s = rw (toZ-ofZ {w = w32} {z = z} s) (toZ-ofZ {w = w64} {z = z} (sfits-widen {w = w32} {w′ = w64} tt s))
 
 abbrev pub inside : ℤ → ℤ → ℤ → Bool
 inside low high z = leZ low z && leZ z high

@@ -1,4 +1,5 @@
--- On which side of the rounded size the exact one lies: by comparison, over a common factor, and where the loop that lowers ends.
+-- On which side of the rounded size the exact one lies: by comparison, over a common factor. `Lowering` is the invariant of the loop
+-- that divides: y is x without its last digits, and `exact` says that these are all 0.
 use mathlib.Core.Path.{_≡_, refl, ap, sym, _∙_}
 use mathlib.Core.Bool.{Bool, true, false, _&&_}
 use Prim.Native.Nat.{ℕ, zero, suc, _+_, _-_, _*_, _/_, _%_, _^_, min, _≤_, _<_}
@@ -15,7 +16,7 @@ use Rattle.registers.specs.declared.rounding.Side.{Side}
 use Rattle.registers.specs.declared.rounding.Side.the-variants.{On, Below, Above}
 use Rattle.registers.specs.declared.rounding.Sized.{Sized}
 use Rattle.registers.proofs.rounding.Laws.{nearest-only}
-use Rattle.registers.proofs.rounding.Tens.{ten-positive, times-tens, nearest-up, nearest-down}
+use Rattle.registers.proofs.rounding.Tens.{ten-positive, tens-add, nearest-up, nearest-down}
 
 abbrev pub sized : ℕ → Side → Sized
 sized n x = record { size = n; side = x }
@@ -186,7 +187,7 @@ unfolding heldOver
 held-up x up down n h e =
     let near = nearest-up x up down h in
     let u : up ≡ up - down + down = omega arith in
-    let p : x * 10 ^ up ≡ x * 10 ^ (up - down) * 10 ^ down = ap (λ (m : ℕ). x * 10 ^ m) u ∙ times-tens x (up - down) down in
+    let p : x * 10 ^ up ≡ x * 10 ^ (up - down) * 10 ^ down = ap (λ (m : ℕ). x * 10 ^ m) u ∙ tens-add x (up - down) down in
     rw (near, side-on (x * 10 ^ up) (10 ^ down) (x * 10 ^ (up - down)) p, e)
 
 pub held-down : (x up down n : ℕ) (s : Sized) → up < down → s ≡ sizedOver x (10 ^ (down - up - 1 + 1)) → n ≡ min beyond (s .size)

@@ -34,13 +34,13 @@ raise-beyond y i h = let p = ten-positive i in let m = mul-le-mul-right (10 ^ i)
 
 -- ---- a power of ten over another
 
-pub times-tens : (x i j : ℕ) → x * 10 ^ (i + j) ≡ x * 10 ^ i * 10 ^ j
-times-tens x i j = rw (pow-add 10 i j) (sym (mul-assoc x (10 ^ i) (10 ^ j)))
+pub tens-add : (x i j : ℕ) → x * 10 ^ (i + j) ≡ x * 10 ^ i * 10 ^ j
+tens-add x i j = rw (pow-add 10 i j) (sym (mul-assoc x (10 ^ i) (10 ^ j)))
 
 pub nearest-up : (x up down : ℕ) → down ≤ up → nearest (x * 10 ^ up) (10 ^ down) ≡ x * 10 ^ (up - down)
 nearest-up x up down h =
     let e : up ≡ up - down + down = omega arith in
-    let p : x * 10 ^ up ≡ x * 10 ^ (up - down) * 10 ^ down = ap (λ (n : ℕ). x * 10 ^ n) e ∙ times-tens x (up - down) down in
+    let p : x * 10 ^ up ≡ x * 10 ^ (up - down) * 10 ^ down = ap (λ (n : ℕ). x * 10 ^ n) e ∙ tens-add x (up - down) down in
     let c = ten-positive down in
     rw p (nearest-only (record { low = omega arith; high = omega arith }))
 

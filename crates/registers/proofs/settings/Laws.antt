@@ -3,7 +3,7 @@
 use mathlib.Core.Path.{_≡_, refl, sym, _∙_, ap, subst}
 use mathlib.Core.Bool.{Bool, true, false, not, _&&_}
 use mathlib.Core.List.{List, [], _∷_}
-use Prim.Native.Nat.{ℕ, zero, suc, _≤_, _<_}
+use Prim.Native.Nat.{ℕ, zero, suc, _^_, _≤_, _<_}
 use native.Mathlib.Omega.{arith}
 use lib.ListN.{length, getD, List·getD-map, List·getD-eq-default}
 use lib.IntN.{ℤ, pos}
@@ -14,7 +14,7 @@ use mir.Val.{SFits, toZ, ofZ}
 use mir.Facts.{toZ-ofZ}
 use borrow.Author.Tests.{ltb-true, ltb-false}
 use Rattle.registers.specs.Text.{if_then_else_, below}
-use Rattle.registers.specs.Settings.{Kind, bool, words, number, Setting, table, row, kindOf, quantityOf, settingAt, lowestOf, highestOf, lowest, highest, wideRange, voltage, range, twelveVolts, valueAt, Sort, bools, someWords, numbers, sortOf, meantValues, valuesIn, within, conflict, stored, withValue, count, possibleSettings}
+use Rattle.registers.specs.Settings.{Kind, bool, Setting, table, row, kindOf, quantityOf, settingAt, lowestOf, highestOf, lowest, highest, wideRange, voltage, range, twelveVolts, valueAt, Sort, bools, someWords, numbers, sortOf, meantValues, within, conflict, stored, withValue, count, possibleSettings}
 use Rattle.registers.specs.SettingsParts.{lows, highs, kinds, valuesFrom, quantities, quantityFrom}
 use Rattle.registers.specs.declared.settings.Settings.{Settings}
 use Rattle.registers.specs.declared.settings.Values.{Values}
@@ -23,8 +23,8 @@ use Rattle.registers.specs.declared.suffix.Quantity.the-variants.{Nothin
 use Rattle.registers.proofs.Tests.{and-both, and-fails, below-fails, ltZ-not}
 
 -- a row's default is that of a row past the table
-abbrev behind : Setting
-behind = row [] bool Nothing (pos 0)
+abbrev past : Setting
+past = row [] bool Nothing (pos 0)
 
 pub getD-any : {A : Type 0} (l : List A) (i : ℕ) (d e : A) → i < length l → getD l i d ≡ getD l i e
 getD-any [] i d e h = absurd (omega arith)
@@ -34,26 +34,26 @@ getD-any (x ∷ l) (suc i) d e h = getD-any l i d e (omega arith)
 -- the code's tables of limits
 low-at : (i : ℕ) → getD lows i (pos 0) ≡ lowestOf (kindOf i)
 unfolding table settingAt
-low-at i = List·getD-map (λ (x : Setting). lowestOf (x .kind)) table i behind
+low-at i = List·getD-map (λ (x : Setting). lowestOf (x .kind)) table i past
 
 high-at : (i : ℕ) → i < count → getD highs i (pos 0) ≡ highestOf (kindOf i)
 unfolding table settingAt
-high-at i h = getD-any highs i (pos 0) (pos 1) h ∙ List·getD-map (λ (x : Setting). highestOf (x .kind)) table i behind
+high-at i h = getD-any highs i (pos 0) (pos 1) h ∙ List·getD-map (λ (x : Setting). highestOf (x .kind)) table i past
 
 -- the code's kinds of values
 pub kind-at : (i : ℕ) → meantValues (valuesFrom (getD kinds i 0)) ≡ sortOf (kindOf i)
 unfolding table settingAt valuesFrom if_then_else_
 kind-at i =
-    sym (List·getD-map (λ (n : ℕ). meantValues (valuesFrom n)) kinds i 0) ∙ List·getD-map (λ (x : Setting). sortOf (x .kind)) table i behind
+    sym (List·getD-map (λ (n : ℕ). meantValues (valuesFrom n)) kinds i 0) ∙ List·getD-map (λ (x : Setting). sortOf (x .kind)) table i past
 
 -- a name is told by what it means
-nameOf : Sort → Values
+abbrev nameOf : Sort → Values
 nameOf bools = BoolValue
 nameOf someWords = Word
 nameOf (numbers k) = if eqb k 10 then Tenths else Whole
 
 named : (v : Values) → v ≡ nameOf (meantValues v)
-unfolding nameOf if_then_else_
+unfolding if_then_else_
 named BoolValue = refl
 named Word = refl
 named Tenths = refl
@@ -63,47 +63,44 @@ pub values-only : (a b : Values) → meantValues a ≡ meantValues b → a ≡ b
 values-only a b e = named a ∙ ap nameOf e ∙ sym (named b)
 
 -- and is then the kind's own
+abbrev pub valuesIn : Kind → Values
+valuesIn k = nameOf (sortOf k)
+
 pub values-is : (v : Values) (k : Kind) → meantValues v ≡ sortOf k → v ≡ valuesIn k
-unfolding nameOf
-values-is v k e = named v ∙ ap nameOf e ∙ own k
-  where
-    own : (k : Kind) → nameOf (sortOf k) ≡ valuesIn k
-    own bool = refl
-    own (words ws) = refl
-    own (number n low high) = refl
+values-is v k e = named v ∙ ap nameOf e
 
 -- the code's quantities
 pub quantity-at : (i : ℕ) → quantityFrom (getD quantities i 0) ≡ quantityOf i
 unfolding table settingAt quantityFrom if_then_else_
-quantity-at i = sym (List·getD-map quantityFrom quantities i 0) ∙ List·getD-map (λ (x : Setting). x .quantity) table i behind
+quantity-at i = sym (List·getD-map quantityFrom quantities i 0) ∙ List·getD-map (λ (x : Setting). x .quantity) table i past
 
 -- a row past the table
-behind-row : (i : ℕ) → count ≤ i → settingAt i ≡ behind
+past-row : (i : ℕ) → count ≤ i → settingAt i ≡ past
 unfolding table settingAt
-behind-row i h = List·getD-eq-default table behind h
+past-row i h = List·getD-eq-default table past h
 
-pub behind-is : (i : ℕ) → count ≤ i → kindOf i ≡ bool
-behind-is i h = ap (λ (x : Setting). x .kind) (behind-row i h)
+pub past-is : (i : ℕ) → count ≤ i → kindOf i ≡ bool
+past-is i h = ap (λ (x : Setting). x .kind) (past-row i h)
 
-pub behind-measures : (i : ℕ) → count ≤ i → quantityOf i ≡ Nothing
-behind-measures i h = ap (λ (x : Setting). x .quantity) (behind-row i h)
+pub past-measures : (i : ℕ) → count ≤ i → quantityOf i ≡ Nothing
+past-measures i h = ap (λ (x : Setting). x .quantity) (past-row i h)
 
 -- what a table holds comes back from its bits
 abbrev small : List ℤ → Bool
 small [] = true
-small (z ∷ l) = ltb (mag z) 2147483648 && small l
+small (z ∷ l) = ltb (mag z) (2 ^ 31) && small l
 
 table-fits : (l : List ℤ) (i : ℕ) → small l ≡ true → SFits w32 (getD l i (pos 0))
 table-fits [] i h = record { sfits = omega arith }
-table-fits (z ∷ l) zero h = record { sfits = ltb-true (mag z) 2147483648 (and-both (ltb (mag z) 2147483648) (small l) h .0) }
-table-fits (z ∷ l) (suc i) h = table-fits l i (and-both (ltb (mag z) 2147483648) (small l) h .1)
+table-fits (z ∷ l) zero h = record { sfits = ltb-true (mag z) (2 ^ 31) (and-both (ltb (mag z) (2 ^ 31)) (small l) h .0) }
+table-fits (z ∷ l) (suc i) h = table-fits l i (and-both (ltb (mag z) (2 ^ 31)) (small l) h .1)
 
-pub low-behind : (i : ℕ) → count ≤ i → pos 0 ≡ lowest i
+pub low-past : (i : ℕ) → count ≤ i → pos 0 ≡ lowest i
 unfolding lowest
-low-behind i h = rw (behind-is i h)
+low-past i h = rw (past-is i h)
 
-pub high-behind : (i : ℕ) → count ≤ i → pos 1 ≡ highestOf (kindOf i)
-high-behind i h = rw (behind-is i h)
+pub high-past : (i : ℕ) → count ≤ i → pos 1 ≡ highestOf (kindOf i)
+high-past i h = rw (past-is i h)
 
 -- ---- the limits come back from their bits
 
@@ -117,7 +114,7 @@ high-fits i = go (ltb i count) refl
   where
     go : (t : Bool) → ltb i count ≡ t → SFits w32 (highestOf (kindOf i))
     go true e = subst (λ (x : ℤ). SFits w32 x) (high-at i (ltb-true i count e)) (table-fits highs i refl)
-    go false e = subst (λ (x : ℤ). SFits w32 x) (high-behind i (ltb-false i count e)) (record { sfits = omega arith })
+    go false e = subst (λ (x : ℤ). SFits w32 x) (high-past i (ltb-false i count e)) (record { sfits = omega arith })
 
 pub low-back : (i : ℕ) → toZ w32 (ofZ w32 (lowest i)) ≡ lowest i
 unfolding lowest

@@ -37,10 +37,10 @@ unfolding wideRange
 range-kept s i v h = ap (leZ (pos 1)) (sym (getD-set-other (s .values) i range v (pos 0) (λ e. h (sym e))))
 
 -- every voltage within a range is within the wide one
-under-wide : (w : Bool) (x : ℤ) → leZ x (if not w then twelveVolts else pos 240) ≡ true → leZ x (pos 240) ≡ true
-unfolding if_then_else_
+pub under-wide : (w : Bool) (x : ℤ) → leZ x (if not w then twelveVolts else highestOf (kindOf voltage)) ≡ true → leZ x (highestOf (kindOf voltage)) ≡ true
+unfolding settingAt table if_then_else_
 under-wide true x t = t
-under-wide false (pos n) t = let h = leb-true n 120 t in le-leb n 240 (omega arith)
+under-wide false (pos n) t = let h = leb-true n _ t in le-leb n _ (omega arith)
 under-wide false (negsuc n) t = refl
 
 at-most-zero : (v : ℤ) → leZ (pos 1) v ≡ false → leZ v (pos 0) ≡ true
@@ -50,26 +50,26 @@ at-most-zero (negsuc n) e = refl
 
 -- a new range v that makes no conflict leaves the voltage within its limits
 range-fits : (s : Settings) (v : ℤ) → conflict s range v ≡ false → within s voltage (valueAt s voltage) ≡ true
-    → leZ (valueAt s voltage) (if not (leZ (pos 1) v) then twelveVolts else pos 240) ≡ true
+    → leZ (valueAt s voltage) (if not (leZ (pos 1) v) then twelveVolts else highestOf (kindOf voltage)) ≡ true
 unfolding conflict within highest settingAt table if_then_else_
 range-fits s v c t = go (leZ (pos 1) v) refl
   where
-    go : (w : Bool) → leZ (pos 1) v ≡ w → leZ (valueAt s voltage) (if not w then twelveVolts else pos 240) ≡ true
+    go : (w : Bool) → leZ (pos 1) v ≡ w → leZ (valueAt s voltage) (if not w then twelveVolts else highestOf (kindOf voltage)) ≡ true
     go true e = under-wide (wideRange s) (valueAt s voltage) (and-both (leZ (lowest voltage) (valueAt s voltage)) _ t .1)
     go false e =
         let low : ltZ twelveVolts (valueAt s voltage) ≡ false = rw (at-most-zero v e) at c in
         not-false _ (sym (ltZ-not twelveVolts (valueAt s voltage)) ∙ low)
 
 -- each of the settings is within its limits
-pub Good : Settings → Type 0
+abbrev pub Good : Settings → Type 0
 Good s = (j : ℕ) → j < count → within s j (valueAt s j) ≡ true
 
 pub good-from : (s : Settings) → possibleSettings s ≡ true → Good s
-unfolding possibleSettings Good
+unfolding possibleSettings
 good-from s e = below-at count (λ j. within s j (valueAt s j)) e
 
 pub good-to : (s : Settings) → Good s → possibleSettings s ≡ true
-unfolding possibleSettings Good
+unfolding possibleSettings
 good-to s g = below-from count (λ j. within s j (valueAt s j)) g
 
 -- the voltage, where the range is what changes
@@ -90,7 +90,6 @@ module _ (s : Settings) (i : ℕ) (v : ℤ) (long : length (s .values) ≡ count
       apart e = omega arith
 
   there-fits : (j : ℕ) → j < count → within (withValue i v s) j (valueAt s j) ≡ true
-  unfolding Good
   there-fits j h = by-range (eqb i range) refl
     where
       by-voltage : i ≡ range → (e : Bool) → eqb j voltage ≡ e → within (withValue i v s) j (valueAt s j) ≡ true
@@ -106,7 +105,6 @@ module _ (s : Settings) (i : ℕ) (v : ℤ) (long : length (s .values) ≡ count
           within-same s (withValue i v s) j (valueAt s j) (highest-same s (withValue i v s) j (λ r. range-kept s i v (eqb-false i range q))) (good j h)
 
   pub value-good : i < count → Good (withValue i v s)
-  unfolding Good
   value-good k j h = go (eqb j i) refl
     where
       go : (e : Bool) → eqb j i ≡ e → within (withValue i v s) j (valueAt (withValue i v s) j) ≡ true

@@ -1,26 +1,26 @@
 -- The status record by cases: an error raised, the oldest removed, a condition reported, a register set, the status byte, and
 -- refusal 4.
-use mathlib.Core.Path.{_≡_, refl, sym}
+use mathlib.Core.Path.{_≡_, refl}
 use mathlib.Core.Bool.{Bool, true, false, not, _&&_}
 use mathlib.Core.List.{List, [], _∷_, _++_}
 use Prim.Native.Nat.{ℕ, zero, suc, _+_, _-_, _*_, _^_, _≤_, _<_}
 use native.Mathlib.Omega.{arith}
 use lib.Bits.{bitOr}
 use lib.Dec.{leb, eqb}
-use lib.ListN.{length, take, drop, getD, set, length-take}
+use lib.ListN.{length, take, drop, getD, set}
 use mir.Syntax.{w64}
 use mir.Val.{Fits}
 use borrow.Author.Tests.{lt-ltb, le-ltb, le-leb, lt-leb, eq-eqb, ne-eqb}
-use Rattle.registers.specs.Text.{if_then_else_, first, empty, every}
+use Rattle.registers.specs.Text.{if_then_else_, first, every}
 use Rattle.registers.specs.Error.{eventBit, overflow}
-use Rattle.registers.specs.Queue.{mayBeQueued, most}
-use Rattle.registers.specs.Group.{meet, widestGroup, noGroup}
-use Rattle.registers.specs.Status.{registersOf, troubleOf, raisedIn, oldestReadIn, reportedIn, registerSet, storedIn, withTrouble, withRegisters, setReported, setBits, placeOf, widest, bitIf, summary, statusByte, possibleRegisters, possibleTrouble, possibleStatus}
+use Rattle.registers.specs.Queue.{mayBeQueued, most, lastPlace}
+use Rattle.registers.specs.Group.{meet, widestGroup}
+use Rattle.registers.specs.Status.{Registers, registersOf, troubleOf, groupIn, raisedIn, oldestReadIn, reportedIn, registerSet, storedIn, withTrouble, withRegisters, setReported, setBits, summedUp, bitOf, widestByte, widest, bitIf, summary, statusByte, possibleRegisters, possibleTrouble, possibleStatus}
 use Rattle.registers.specs.declared.status.Register.{Register}
 use Rattle.registers.specs.declared.status.RegisterSet.{RegisterSet}
 use Rattle.registers.specs.declared.status.RegisterSet.the-variants.{Operation, Lock, Warning}
-use Rattle.registers.specs.declared.group.Group.{Group}
 use Rattle.registers.specs.declared.status.Status.{Status}
+use Rattle.registers.proofs.Tests.{front-empty, front-within}
 
 -- ---- an error raised, by the room in the queue
 
@@ -28,8 +28,8 @@ module _ {n : ℕ} (h : n < most) where
   pub place-fits : Fits w64 (n * 2)
   place-fits = omega arith
 
-  pub behind-fits : Fits w64 (n + 1)
-  behind-fits = omega arith
+  pub next-fits : Fits w64 (n + 1)
+  next-fits = omega arith
 
 module _ (n : ℕ) (s : Status) where
   pub raised-more : s .queued < most
@@ -38,7 +38,7 @@ module _ (n : ℕ) (s : Status) where
   raised-more h = rw (lt-ltb (s .queued) most h)
 
   pub raised-full : most ≤ s .queued
-      → raisedIn n s ≡ withTrouble (bitOr (bitOr (s .events) (eventBit n)) (eventBit overflow)) (s .queued) (set (s .errors) 15 overflow) s
+      → raisedIn n s ≡ withTrouble (bitOr (bitOr (s .events) (eventBit n)) (eventBit overflow)) (s .queued) (set (s .errors) lastPlace overflow) s
   unfolding raisedIn if_then_else_
   raised-full h = rw (le-ltb (s .queued) most h)
 
@@ -85,31 +85,23 @@ unfolding if_then_else_
 bit-is true k = refl
 bit-is false k = refl
 
-queue-empty : (l : List ℕ) (q : ℕ) → 0 < length l → empty (take q l) ≡ eqb q 0
-queue-empty [] q h = absurd (omega arith)
-queue-empty (x ∷ l) zero h = refl
-queue-empty (x ∷ l) (suc q) h = sym (ne-eqb (suc q) 0 (λ e. omega arith))
-
-module _ (s : Status) (answers : Bool) (long : length (s .errors) ≡ 16) where
+module _ (s : Status) (answers : Bool) (long : length (s .errors) ≡ most) where
   pub summary-is :
       setBits (s .groups)
-      + (if meet (s .events) (s .ese) then 32 else 0)
-      + (if answers then 16 else 0)
-      + (if not (eqb (s .queued) 0) then 4 else 0)
+      + (if meet (s .events) (s .ese) then 2 ^ 5 else 0)
+      + (if answers then 2 ^ 4 else 0)
+      + (if not (eqb (s .queued) 0) then 2 ^ 2 else 0)
       ≡ summary (registersOf s) (troubleOf s) answers
   unfolding summary
   summary-is =
-      rw (queue-empty (s .errors) (s .queued) (omega arith), bit-is (meet (s .events) (s .ese)) 5, bit-is answers 4, bit-is (not (eqb (s .queued) 0)) 2)
+      rw (front-empty (s .errors) (s .queued) (omega arith), bit-is (meet (s .events) (s .ese)) 5, bit-is answers 4, bit-is (not (eqb (s .queued) 0)) 2)
 
   pub byte-is : (n : ℕ) → n ≡ summary (registersOf s) (troubleOf s) answers
-      → n + (if meet n (s .sre) then 64 else 0) ≡ statusByte (registersOf s) (troubleOf s) answers
+      → n + (if meet n (s .sre) then 2 ^ 6 else 0) ≡ statusByte (registersOf s) (troubleOf s) answers
   unfolding statusByte
   byte-is n e = rw (e, bit-is (meet (summary (registersOf s) (troubleOf s) answers) (s .sre)) 6)
 
 -- ---- refusal 4 on the status
-
-front-short : (l : List ℕ) (q : ℕ) → q ≤ most → leb (length (take q l)) most ≡ true
-front-short l q h = le-leb (length (take q l)) most (rw length-take (omega arith))
 
 module _ (s : Status) where
   pub queue-above : most < s .queued → false ≡ possibleStatus s
@@ -117,20 +109,18 @@ module _ (s : Status) where
   queue-above h = rw (lt-leb (s .queued) most h)
 
   pub queue-within : s .queued ≤ most
-      → possibleRegisters (registersOf s) && (leb (s .events) 255 && every mayBeQueued (take (s .queued) (s .errors))) ≡ possibleStatus s
+      → possibleRegisters (registersOf s) && (leb (s .events) widestByte && every mayBeQueued (take (s .queued) (s .errors))) ≡ possibleStatus s
   unfolding possibleStatus possibleTrouble
-  queue-within h = rw (le-leb (s .queued) most h, front-short (s .errors) (s .queued) h)
+  queue-within h = rw (le-leb (s .queued) most h, front-within (s .errors) (s .queued) most h)
 
 -- ---- the three groups
 
--- a set's place is one of the three
-pub place-within : (x : RegisterSet) → placeOf x < 3
-place-within Operation = omega arith
-place-within Lock = omega arith
-place-within Warning = omega arith
+-- the weight of a set's bit
+weight-is : (x : RegisterSet) (r : Registers) → (if meet (groupIn x r .event) (groupIn x r .enable) then 2 ^ bitOf x else 0) ≡ summedUp x (r .groups)
+weight-is x r = bit-is (meet (groupIn x r .event) (groupIn x r .enable)) (bitOf x)
 
 -- the weights of the three bits
-pub bits-are : (l : List Group) → let bit : ℕ → ℕ → ℕ = λ i w. if meet (getD l i noGroup .event) (getD l i noGroup .enable) then w else 0 in
-    bit 0 128 + bit 1 1 + bit 2 2 ≡ setBits l
+pub bits-are : (r : Registers) → let bit : RegisterSet → ℕ = λ x. if meet (groupIn x r .event) (groupIn x r .enable) then 2 ^ bitOf x else 0 in
+    bit Operation + bit Lock + bit Warning ≡ setBits (r .groups)
 unfolding setBits
-bits-are l = rw (bit-is (meet (getD l 0 noGroup .event) (getD l 0 noGroup .enable)) 7, bit-is (meet (getD l 1 noGroup .event) (getD l 1 noGroup .enable)) 0, bit-is (meet (getD l 2 noGroup .event) (getD l 2 noGroup .enable)) 1)
+bits-are r = rw (weight-is Operation r, weight-is Lock r, weight-is Warning r)

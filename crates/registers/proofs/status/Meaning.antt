@@ -13,7 +13,7 @@ use borrow.Author.Tests.{lt-ltb, le-ltb, ltb-true, ltb-false, eqb-true, eqb-fals
 use Rattle.registers.specs.Text.{if_then_else_, rest}
 use Rattle.registers.specs.Error.{overflow}
 use Rattle.registers.specs.Status.{registersOf, troubleOf, raised, noTrouble, completed, eventsRead, oldestRead, allRead, raisedIn, clearedIn, eventsIn, oldestReadIn}
-use Rattle.registers.specs.Queue.{most}
+use Rattle.registers.specs.Queue.{most, lastPlace}
 use Rattle.registers.specs.declared.status.Status.{Status}
 use Rattle.registers.proofs.status.Laws.{raised-more, raised-full, oldest-none, oldest-some}
 
@@ -23,10 +23,10 @@ module _ (l : List ℕ) (q : ℕ) (long : length l ≡ most) where
   front-more : (x : ℕ) → q < most → take (q + 1) (set l q x) ≡ take q l ++ x ∷ []
   front-more x h = rw add-one (take-suc-set l q x (omega arith))
 
-  full-last : (x : ℕ) → most ≤ q → take q (set l 15 x) ≡ take 15 (take q l) ++ x ∷ []
+  full-last : (x : ℕ) → most ≤ q → take q (set l lastPlace x) ≡ take lastPlace (take q l) ++ x ∷ []
   full-last x h =
-      rw (take-take 15 q l (omega arith), take-all q (set l 15 x) (rw length-set (omega arith)))
-      (sym (take-all 16 (set l 15 x) (rw length-set (omega arith))) ∙ take-suc-set l 15 x (omega arith))
+      rw (take-take lastPlace q l (omega arith), take-all q (set l lastPlace x) (rw length-set (omega arith)))
+      (sym (take-all most (set l lastPlace x) (rw length-set (omega arith))) ∙ take-suc-set l lastPlace x (omega arith))
 
 moved-up : (l : List ℕ) (q : ℕ) → length l ≡ most → q < most → take q (drop 1 l ++ 0 ∷ []) ≡ rest (take (suc q) l)
 moved-up [] q long h = absurd (omega arith)

@@ -4,6 +4,7 @@ use mathlib.Core.Path.{_≡_, refl, ap, sym, _∙_}
 use mathlib.Core.Bool.{Bool, true, false, false≢true}
 use mathlib.Core.List.{[], _∷_}
 use Prim.Native.Nat.{ℕ, zero, suc, _+_, _≤_, _<_}
+use Prim.Native.Char.{code}
 use native.Mathlib.Numerals.{add-one}
 use native.Mathlib.Omega.{arith}
 use lib.Dec.{T, leb, ltb, leb→le, leb·zero, leb·suc-zero, leb·suc-suc}
@@ -115,6 +116,6 @@ module _ (p : ℕ → Bool) (l : Text) (at i : ℕ) (w : OnWay p l at i) where
 
 -- ---- digits
 
-pub digit-bounds : (b : ℕ) → T (digit b) → (48 ≤ b) × (b ≤ 57)
+pub digit-bounds : (b : ℕ) → T (digit b) → (code "0" ≤ b) × (b ≤ code "9")
 unfolding digit
-digit-bounds b t = let h = and-yes (leb 48 b) (leb b 57) t in (leb→le 48 b (h .0), leb→le b 57 (h .1))
+digit-bounds b t = let h = and-yes (leb (code "0") b) (leb b (code "9")) t in (leb→le (code "0") b (h .0), leb→le b (code "9") (h .1))

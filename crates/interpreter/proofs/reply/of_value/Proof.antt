@@ -1,7 +1,7 @@
 -- By what the setting's values are (`named`): a word by its place, tenths, or a whole number (reply/Values).
 use mathlib.Core.Path.{_≡_, refl}
-use Rattle.registers.specs.Settings.{kindOf, valuesIn}
-use Rattle.registers.proofs.settings.Laws.{values-is}
+use Rattle.registers.specs.Settings.{kindOf}
+use Rattle.registers.proofs.settings.Laws.{valuesIn, values-is}
 use Rattle.interpreter.specs.ReplyParts.{textOf}
 use Rattle.interpreter.proofs.reply.Values.{told-value, told-whole, word-row}
 use Rattle.interpreter.proofs.reply.of_value.Statement.{statement}

@@ -5,7 +5,7 @@ use native.Mathlib.Omega.{arith}
 use borrow.Fn.Kinds.{In}
 use borrow.Fn.PlainCycle.{Measures, is, falls, and}
 use Rattle.registers.proofs.answer.Laws.{laid-one, laid-then}
-use Rattle.registers.proofs.answer.Decimals.{decimal-one, decimal-more, behind-fits}
+use Rattle.registers.proofs.answer.Decimals.{decimal-one, decimal-more, after-fits}
 use Rattle.registers.proofs.answer.put.Reads as put-reads
 use Rattle.registers.proofs.answer.decimal_at.Reads as reads
 use Rattle.registers.proofs.answer.decimal_at.Kinds as kinds
@@ -62,7 +62,7 @@ module _ (t : ℕ) where
   add-result-2 c =
       let d = c .before .before .before .before .before .before in
       let s = d .before .before .before .before in
-      behind-fits (s .args .n / 10) (d .decimal-at .ensures .end) (s .pre .1)
+      after-fits (s .args .n / 10) (d .decimal-at .ensures .end) (s .pre .1)
 
   same-length-2 : lts.Need-same-length-2 (calls t) (here t) reads.Post
   same-length-2 c =

@@ -1,6 +1,6 @@
 use mathlib.Core.Path.{_∙_}
 use Rattle.registers.proofs.answer.Laws.{laid-one, laid-then}
-use Rattle.registers.proofs.answer.Decimals.{behind-fits, behind-low}
+use Rattle.registers.proofs.answer.Decimals.{after-fits, after-low}
 use Rattle.registers.specs.Answer.{tenths}
 use Prim.Native.Nat.{_/_}
 use native.Mathlib.Omega.{arith}
@@ -17,13 +17,13 @@ add-decimal-at : tie.Need-add-decimal-at
 add-decimal-at c =
     let whole = c .before .before .before .before .before .before .before in
     let s = whole .before .before .before in
-    behind-fits (s .args .n / 10) (whole .decimal-at .ensures .end) (omega arith)
+    after-fits (s .args .n / 10) (whole .decimal-at .ensures .end) (omega arith)
 
 decimal-at-requires-2 : tie.Need-decimal-at-requires-2
 decimal-at-requires-2 c κs =
     let whole = c .before .before .before .before .before .before .before in
     let s = whole .before .before .before in
-    behind-low (s .args .n / 10) (whole .decimal-at .ensures .end) (s .pre)
+    after-low (s .args .n / 10) (whole .decimal-at .ensures .end) (s .pre)
 
 same-length : tie.Need-same-length
 same-length c =

@@ -1,7 +1,7 @@
 -- The row that `row_of` finds stands within the table, so its length and its text do: the part of the table that is written is the
 -- quoted message of that row (`text-part`), and that row's message is the number's (`found-text`).
 use Prim.Native.Nat.{_+_, _*_}
-use Rattle.registers.specs.ErrorParts.{rowWidth}
+use Rattle.registers.specs.ErrorParts.{messageSize}
 use Rattle.registers.proofs.error.Texts.{byte-wide, found-row, found-fits, text-fits, cell-fits, cell-within, end-fits, found-text, length-cell, text-room, text-long, text-part}
 use native.Mathlib.Omega.{arith}
 use Rattle.registers.proofs.error.quoted_at.Statement.{statement}
@@ -23,10 +23,10 @@ shared-slice-read-end : tie.Need-shared-slice-read-end
 shared-slice-read-end c = cell-within _ (c .before .row-of .ensures) (c .before .before .before .before .pre .0)
 
 cast-end : tie.Need-cast-end
-cast-end c = byte-wide (c .shared-slice-known2 .given (c .before .row-of .result * rowWidth + 2))
+cast-end c = byte-wide (c .shared-slice-known2 .given (c .before .row-of .result * messageSize + 2))
 
 add-end-2 : tie.Need-add-end-2
-add-end-2 c = end-fits _ (c .before .row-of .ensures) (c .shared-slice-known2 .given (c .before .row-of .result * rowWidth + 2))
+add-end-2 c = end-fits _ (c .before .row-of .ensures) (c .shared-slice-known2 .given (c .before .row-of .result * messageSize + 2))
 
 sub-text-at : tie.Need-sub-text-at
 sub-text-at c = omega arith

@@ -4,17 +4,17 @@ use mathlib.Core.Path.{_≡_, sym, _∙_}
 use Prim.Native.Nat.{_+_, _*_, _-_, _≤_}
 use native.Mathlib.Nat.{zero-add}
 use Rattle.registers.specs.Error.{messages}
-use Rattle.registers.specs.ErrorParts.{rowWidth, rowCount, rowIn}
+use Rattle.registers.specs.ErrorParts.{messageSize, messageCount, rowIn}
 use Rattle.registers.proofs.error.Texts.{number-cells, high-within, low-within, byte-fits, high-fits, both-fit, sought, search-hit, search-more, search-end}
 use native.Mathlib.Omega.{arith}
 use Rattle.registers.proofs.error.row_of.Statement.{statement}
 use Rattle.registers.proofs.error.row_of.Tie as tie
 
 abbrev Inv-loop : tie.InvT-loop
-Inv-loop table number row₀ row = (row ≤ rowCount) × (rowIn messages number ≡ sought number row)
+Inv-loop table number row₀ row = (row ≤ messageCount) × (rowIn messages number ≡ sought number row)
 
 abbrev μ-loop : tie.MeasureT-loop
-μ-loop table number row₀ row = rowCount - row
+μ-loop table number row₀ row = messageCount - row
 
 loop-holds : tie.Need-loop-holds Inv-loop μ-loop
 loop-holds c = (omega arith, sym (zero-add _))
@@ -23,20 +23,20 @@ shared-slice-read-if1 : tie.Need-shared-slice-read-if1 Inv-loop μ-loop
 shared-slice-read-if1 c = let o = c .before .before in high-within (o .loop .row) (c .before .loop-test .taken) (o .before .pre)
 
 cast-if1 : tie.Need-cast-if1 Inv-loop μ-loop
-cast-if1 c = byte-fits (c .shared-slice-known .given (c .before .before .loop .row * rowWidth))
+cast-if1 c = byte-fits (c .shared-slice-known .given (c .before .before .loop .row * messageSize))
 
 mul-if1 : tie.Need-mul-if1 Inv-loop μ-loop
-mul-if1 c = high-fits (c .shared-slice-known .given (c .before .before .loop .row * rowWidth))
+mul-if1 c = high-fits (c .shared-slice-known .given (c .before .before .loop .row * messageSize))
 
 shared-slice-read-if1-2 : tie.Need-shared-slice-read-if1-2 Inv-loop μ-loop
 shared-slice-read-if1-2 c = let o = c .before .before .before in low-within (o .loop .row) (c .before .before .loop-test .taken) (o .before .pre)
 
 cast-if1-2 : tie.Need-cast-if1-2 Inv-loop μ-loop
-cast-if1-2 c = byte-fits (c .shared-slice-known2 .given (c .before .before .before .loop .row * rowWidth + 1))
+cast-if1-2 c = byte-fits (c .shared-slice-known2 .given (c .before .before .before .loop .row * messageSize + 1))
 
 add-if1-2 : tie.Need-add-if1-2 Inv-loop μ-loop
 add-if1-2 c =
-    let at = c .before .before .before .loop .row * rowWidth in
+    let at = c .before .before .before .loop .row * messageSize in
     both-fit (c .shared-slice-known2 .given at) (c .shared-slice-known2 .given (at + 1))
 
 returns : tie.Need-returns Inv-loop μ-loop

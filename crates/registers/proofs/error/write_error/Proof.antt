@@ -1,7 +1,6 @@
 use mathlib.Core.Path.{refl, _∙_}
 use lib.IntN.{pos, negℤ}
-use Rattle.registers.specs.Answer.{decimal}
-use Rattle.registers.specs.Error.{messages}
+use Rattle.registers.specs.Answer.{mostPlaces, decimal}
 use Rattle.registers.specs.Text.{bytes}
 use Rattle.registers.specs.ErrorParts.{messageTable, tableOf, messageRow}
 use Rattle.registers.proofs.answer.Laws.{laid-at, laid-then, laid-whole}
@@ -23,12 +22,12 @@ write-whole-requires c κs = tt
 
 -- the table of the code is the messages' table: all its bytes are compared here
 quoted-at-requires : tie.Need-quoted-at-requires
-unfolding messageTable tableOf messageRow messages bytes
+unfolding messageTable tableOf messageRow bytes
 quoted-at-requires c κs =
     let s = c .before .before .before .before in
     let n = s .before .before .before .before .args .number in
     let e = rw (minus-made n (omega arith)) at (s .write-whole .ensures .long) in
-    (refl, omega (arith, signed-length decimal 20 decimal-length (negℤ (pos n)), e))
+    (refl, omega (arith, signed-length decimal mostPlaces decimal-length (negℤ (pos n)), e))
 
 same-length : tie.Need-same-length
 same-length c =

@@ -72,14 +72,14 @@ returns-2 : tie.Need-returns-2
 unfolding verdict check _>>=_ _>>_
 returns-2 c = sym (says (c .before .before .before) ∙ rw (c .before .scale .given .1))
 
-valued-requires : tie.Need-valued-requires
-valued-requires c κs =
+value-of-requires : tie.Need-value-of-requires
+value-of-requires c κs =
     let m = c .before .before .before .before .before .before .before .before in
     omega (arith, m .read-mantissa .ensures .short, m .before .before .before .good .0 .1)
 
 returns-3 : tie.Need-returns-3
 unfolding verdict check _>>=_ _>>_
-returns-3 c = c .valued .ensures ∙ sym (says (c .before .before .before .before) ∙ rw (c .before .before .scale2 .given .1))
+returns-3 c = c .value-of .ensures ∙ sym (says (c .before .before .before .before) ∙ rw (c .before .before .scale2 .given .1))
 
 pub read-spec : {M : Type 1} → statement M
 read-spec =
@@ -95,5 +95,5 @@ read-spec =
     (λ c. c .match .keys1)
     returns-2
     (λ c. c .match .keys2)
-    valued-requires
+    value-of-requires
     returns-3)

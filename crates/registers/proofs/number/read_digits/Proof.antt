@@ -4,6 +4,7 @@ use mathlib.Core.Path.{_≡_, refl, sym, _∙_}
 use mathlib.Core.Bool.{true}
 use mathlib.Core.Logic.{⊎-elim}
 use Prim.Native.Nat.{ℕ, _-_, _≤_}
+use Prim.Native.Char.{code}
 use native.Mathlib.Omega.{arith}
 use lib.ListN.{length, getD}
 use borrow.Author.Tests.{not-true, not-false}
@@ -36,7 +37,7 @@ byte c = getD (c .before .before .before .before .before .before .args .text .no
 passes : (c : tie.Else1 Inv-loop μ-loop) → digit (byte c) ≡ true
 passes c = sym (c .before .is-digit .ensures) ∙ not-false _ (c .if1 .left)
 
-bounds : (c : tie.Else1 Inv-loop μ-loop) → (48 ≤ byte c) × (byte c ≤ 57)
+bounds : (c : tie.Else1 Inv-loop μ-loop) → (code "0" ≤ byte c) × (byte c ≤ code "9")
 bounds c = digit-bounds (byte c) (rw (passes c) tt)
 
 low : (c : tie.Else1 Inv-loop μ-loop) → c .before .before .before .before .loop .value ≤ held

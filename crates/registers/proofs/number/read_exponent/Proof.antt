@@ -4,6 +4,7 @@ use mathlib.Core.Path.{_≡_, sym, ap, _∙_}
 use native.Mathlib.Omega.{arith}
 use lib.Dec.{eqb}
 use Prim.Native.Nat.{_+_, _≤_}
+use Prim.Native.Char.{code}
 use lib.ListN.{length, drop}
 use mir.Val.{boolByte}
 use borrow.Author.Tests.{eq-eqb}
@@ -14,7 +15,7 @@ use Rattle.registers.proofs.text.Laws.{first-within}
 use Rattle.registers.proofs.number.read_exponent.Statement.{statement}
 use Rattle.registers.proofs.number.read_exponent.Tie as tie
 
-letter-e : (c : tie.Else1) → let a = c .before .before .before .before .args in capital (first (drop (a .at) (a .text .now))) ≡ 69
+letter-e : (c : tie.Else1) → let a = c .before .before .before .before .args in capital (first (drop (a .at) (a .text .now))) ≡ code "E"
 letter-e c = sym (c .before .in-capitals .ensures ∙ ap capital (c .before .before .byte-at .ensures)) ∙ c .if1 .left
 
 returns : tie.Need-returns
@@ -30,8 +31,8 @@ start-is : (c : tie.After-byte-at2)
     (drop s (a .text .now) ≡ afterSign (drop (a .at + 1) (a .text .now))) × (s ≤ length (a .text .now))
 start-is c =
     let a = c .before .before .before .before .before .args in
-    let is = eq-eqb (capital (first (drop (a .at) (a .text .now)))) 69 (letter-e (c .before)) in
-    let l = first-within (λ b. eqb (capital b) 69) (a .text .now) (a .at) zero-capital is in
+    let is = eq-eqb (capital (first (drop (a .at) (a .text .now)))) (code "E") (letter-e (c .before)) in
+    let l = first-within (λ b. eqb (capital b) (code "E")) (a .text .now) (a .at) zero-capital is in
     sign-end (a .text .now) (a .at + 1) (c .byte-at2 .result) (c .byte-at2 .ensures) (omega arith)
 
 add-s-2 : tie.Need-add-s-2

@@ -1,5 +1,6 @@
 -- Two cases, by the byte after the whole digits: without a point these are the mantissa (`no-point`); with one, the digits after it
 -- go on from the same number (`with-point`), and the point, being there, is within the text.
+use Prim.Native.Char.{code}
 use mathlib.Core.Path.{refl, sym, _∙_}
 use native.Mathlib.Omega.{arith}
 use lib.ListN.{drop}
@@ -21,7 +22,7 @@ read-digits-requires-2 : tie.Need-read-digits-requires-2
 read-digits-requires-2 c κs =
     let w = c .before .before .read-digits in
     let t = c .before .before .before .before .args .text .now in
-    let is = eq-eqb (first (drop (w .result .end) t)) 46 (sym (c .before .byte-at .ensures) ∙ c .if1 .left) in
+    let is = eq-eqb (first (drop (w .result .end) t)) (code ".") (sym (c .before .byte-at .ensures) ∙ c .if1 .left) in
     let l = first-within point t (w .result .end) refl is in
     (omega arith, omega (arith, w .ensures .value))
 

@@ -4,15 +4,16 @@ use mathlib.Core.List.{_++_}
 use Prim.Native.Nat.{_≤_, _-_}
 use native.Mathlib.Omega.{arith}
 use lib.ListN.{replicate, take, drop}
+use Rattle.registers.specs.Queue.{most, lastPlace}
 use Rattle.registers.proofs.queue.Laws.{shift-turn, shift-end}
 use Rattle.registers.proofs.queue.shifted.Statement.{statement}
 use Rattle.registers.proofs.queue.shifted.Tie as tie
 
 abbrev Inv-loop : tie.InvT-loop
-Inv-loop errors next₀ i₀ next i = (i ≤ 15) × (next ≡ take i (drop 1 errors) ++ replicate (16 - i) 0)
+Inv-loop errors next₀ i₀ next i = (i ≤ lastPlace) × (next ≡ take i (drop 1 errors) ++ replicate (most - i) 0)
 
 abbrev μ-loop : tie.MeasureT-loop
-μ-loop errors next₀ i₀ next i = 15 - i
+μ-loop errors next₀ i₀ next i = lastPlace - i
 
 loop-holds : tie.Need-loop-holds Inv-loop μ-loop
 loop-holds c = (omega arith, refl)

@@ -6,7 +6,8 @@ use Prim.Native.Nat.{_^_}
 use mir.Facts.{toZ-ofZ, sfits-widen}
 use mir.Syntax.{w32, w64}
 use mir.Val.{toZ, ofZ, SFits}
-use Rattle.registers.proofs.rounding.Held.{held-fits, limit-bits, inside, inside-fits, fit-yes, fit-no}
+use Rattle.registers.proofs.answer.Signs.{widened}
+use Rattle.registers.proofs.rounding.Held.{held-fits, inside, inside-fits, fit-yes, fit-no}
 use Rattle.registers.proofs.rounding.round_in.Statement.{statement}
 use Rattle.registers.proofs.rounding.round_in.Tie as tie
 
@@ -19,7 +20,7 @@ bits c =
 test : (c : tie.Then1) → let a = c .before .before .before .args in inside (a .low) (a .high) (c .before .before .steps .result .value) ≡ true
 test c =
     let f = c .before .before .before .fits in
-    rw (limit-bits (f .low), limit-bits (f .high), bits (c .before .before)) at (c .if1 .taken)
+    rw (widened (f .low), widened (f .high), bits (c .before .before)) at (c .if1 .taken)
 
 within : (c : tie.Then1) → SFits w32 (c .before .before .steps .result .value)
 within c =
@@ -56,7 +57,7 @@ returns-2 c =
     let a = c .before .before .before .args in
     let f = c .before .before .before .fits in
     let v = c .before .before .steps in
-    let other = rw (limit-bits (f .low), limit-bits (f .high), bits (c .before .before)) at (c .if1 .left) in
+    let other = rw (widened (f .low), widened (f .high), bits (c .before .before)) at (c .if1 .left) in
     fit-no (10 ^ a .tens) (a .d) (a .low) (a .high) (f .low) (f .high) (v .result) (v .ensures) other
 
 pub round-in-spec : {M : Type 1} → statement M

@@ -9,14 +9,14 @@ use Rattle.registers.proofs.rounding.size_of.Tie as tie
 returns : tie.Need-returns
 returns c =
     let a = c .before .before .args in
-    held-up (a .x) (a .up) (a .down) (c .raised .result) (omega arith) (c .raised .ensures)
+    held-up (a .x) (a .up) (a .down) (c .times-tens .result) (omega arith) (c .times-tens .ensures)
 
 returns-2 : tie.Need-returns-2
 returns-2 c =
     let a = c .before .before .before .args in
-    let l = c .before .lowered in
+    let l = c .before .over-tens in
     let same : l .result .size * 10 ^ 0 ≡ l .result .size = omega arith in
-    held-down (a .x) (a .up) (a .down) (c .raised2 .result) (l .result) (omega arith) (l .ensures) (c .raised2 .ensures ∙ ap (min beyond) same)
+    held-down (a .x) (a .up) (a .down) (c .times-tens2 .result) (l .result) (omega arith) (l .ensures) (c .times-tens2 .ensures ∙ ap (min beyond) same)
 
 pub size-of-spec : {M : Type 1} → statement M
 size-of-spec =

@@ -11,10 +11,10 @@ use Rattle.registers.proofs.suffix.scale_of.Tie as tie
 
 -- hertz: what the tests before left
 no-hz : (e : tie.Else1) → alike (e .before .before .before .before .args .letters) 2 (code "H") (code "Z") 0 ≡ false
-no-hz e = sym (e .before .spell .ensures) ∙ e .if1 .left
+no-hz e = sym (e .before .spells .ensures) ∙ e .if1 .left
 
 no-khz : (e : tie.Else2) → alike (e .before .before .before .before .before .before .args .letters) 3 (code "K") (code "H") (code "Z") ≡ false
-no-khz e = sym (e .before .spell2 .ensures) ∙ e .if2 .left
+no-khz e = sym (e .before .spells2 .ensures) ∙ e .if2 .left
 
 returns : tie.Need-returns
 unfolding scaleTo powerBy suffixes noSuffix
@@ -30,35 +30,35 @@ returns-3 c = rw (c .before .enum-told3 .given .1) (c .with-milli2 .ensures)
 
 returns-4 : tie.Need-returns-4
 unfolding scaleTo powerBy suffixes noSuffix bytes if_then_else_
-returns-4 c = rw (c .before .before .enum-told4 .given .1, sym (c .before .spell .ensures) ∙ c .if1 .taken)
+returns-4 c = rw (c .before .before .enum-told4 .given .1, sym (c .before .spells .ensures) ∙ c .if1 .taken)
 
 returns-5 : tie.Need-returns-5
 unfolding scaleTo powerBy suffixes noSuffix bytes if_then_else_
 returns-5 c =
     let e = c .before .before in
-    rw (e .before .before .enum-told4 .given .1, no-hz e, sym (c .before .spell2 .ensures) ∙ c .if2 .taken)
+    rw (e .before .before .enum-told4 .given .1, no-hz e, sym (c .before .spells2 .ensures) ∙ c .if2 .taken)
 
 returns-6 : tie.Need-returns-6
 unfolding scaleTo powerBy suffixes noSuffix bytes if_then_else_
 returns-6 c =
     let k = c .before .before in
     let e = k .before .before in
-    rw (e .before .before .enum-told4 .given .1, no-hz e, no-khz k, sym (c .before .spell3 .ensures) ∙ c .if3 .taken)
+    rw (e .before .before .enum-told4 .given .1, no-hz e, no-khz k, sym (c .before .spells3 .ensures) ∙ c .if3 .taken)
 
 returns-7 : tie.Need-returns-7
 unfolding scaleTo powerBy suffixes noSuffix bytes if_then_else_
 returns-7 c =
     let k = c .before .before in
     let e = k .before .before in
-    rw (e .before .before .enum-told4 .given .1, no-hz e, no-khz k, sym (c .before .spell3 .ensures) ∙ c .if3 .left)
+    rw (e .before .before .enum-told4 .given .1, no-hz e, no-khz k, sym (c .before .spells3 .ensures) ∙ c .if3 .left)
 
 returns-8 : tie.Need-returns-8
 unfolding scaleTo powerBy suffixes noSuffix bytes if_then_else_
-returns-8 c = rw (c .before .before .enum-told5 .given .1, sym (c .before .spell4 .ensures) ∙ c .if4 .taken)
+returns-8 c = rw (c .before .before .enum-told5 .given .1, sym (c .before .spells4 .ensures) ∙ c .if4 .taken)
 
 returns-9 : tie.Need-returns-9
 unfolding scaleTo powerBy suffixes noSuffix bytes if_then_else_
-returns-9 c = rw (c .before .before .enum-told5 .given .1, sym (c .before .spell4 .ensures) ∙ c .if4 .left)
+returns-9 c = rw (c .before .before .enum-told5 .given .1, sym (c .before .spells4 .ensures) ∙ c .if4 .left)
 
 pub scale-of-spec : {M : Type 1} → statement M
 scale-of-spec =

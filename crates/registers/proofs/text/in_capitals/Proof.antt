@@ -1,3 +1,4 @@
+use Prim.Native.Char.{code}
 use native.Mathlib.Omega.{arith}
 use lib.Dec.{leb, leb→le}
 use mir.Facts.{and-yes}
@@ -8,7 +9,7 @@ use Rattle.registers.proofs.text.in_capitals.Tie as tie
 sub-result : tie.Need-sub-result
 sub-result c =
     let b = c .before .args .b in
-    let low = leb→le 97 b (and-yes (leb 97 b) (leb b 122) (rw (c .if1 .taken) tt) .0) in
+    let low = leb→le (code "a") b (and-yes (leb (code "a") b) (leb b (code "z")) (rw (c .if1 .taken) tt) .0) in
     omega arith
 
 returns : tie.Need-returns

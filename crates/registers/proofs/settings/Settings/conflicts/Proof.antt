@@ -4,7 +4,7 @@ use lib.IntN.{pos}
 use lib.Dec.{eqb}
 use mir.Syntax.{w32}
 use mir.Facts.{toZ-ofZ}
-use Rattle.registers.specs.Settings.{conflict}
+use Rattle.registers.specs.Settings.{voltage, range, conflict}
 use Rattle.registers.proofs.Tests.{and-assoc}
 use Rattle.registers.proofs.settings.Settings.conflicts.Statement.{statement}
 use Rattle.registers.proofs.settings.Settings.conflicts.Tie as tie
@@ -16,8 +16,8 @@ returns : tie.Need-returns
 unfolding conflict
 returns c =
     let s = c .before .args .t1 in
-    rw (toZ-ofZ {w = w32} {z = c .before .args .value} (c .before .fits .value), toZ-ofZ {w = w32} {z = getD (s .values) 4 (pos 0)} (record { sfits = c .volts .given }))
-    (and-assoc (eqb (c .before .args .row) 5) _ _)
+    rw (toZ-ofZ {w = w32} {z = c .before .args .value} (c .before .fits .value), toZ-ofZ {w = w32} {z = getD (s .values) voltage (pos 0)} (record { sfits = c .volts .given }))
+    (and-assoc (eqb (c .before .args .row) range) _ _)
 
 pub conflicts-spec : {M : Type 1} → statement M
 conflicts-spec = tie.close (tie.spec element-copy-out-volts returns)

@@ -4,8 +4,8 @@ use lib.ListN.{getD}
 use lib.IntN.{pos}
 use mir.Syntax.{w32}
 use mir.Facts.{toZ-ofZ}
-use Rattle.registers.specs.Settings.{table}
-use Rattle.registers.proofs.settings.Laws.{high-read, high-behind, high-narrow, high-other}
+use Rattle.registers.specs.Settings.{table, range}
+use Rattle.registers.proofs.settings.Laws.{high-read, high-past, high-narrow, high-other}
 use Rattle.registers.proofs.settings.Settings.highest.Statement.{statement}
 use Rattle.registers.proofs.settings.Settings.highest.Tie as tie
 
@@ -15,7 +15,7 @@ element-copy-out-range c = omega arith
 returns : tie.Need-returns
 returns c =
     let s = c .before .before .args .t1 in
-    let b = toZ-ofZ {w = w32} {z = getD (s .values) 5 (pos 0)} (record { sfits = c .before .range .given }) in
+    let b = toZ-ofZ {w = w32} {z = getD (s .values) range (pos 0)} (record { sfits = c .before .range .given }) in
     high-narrow s (c .before .before .args .row) (rw b at (c .if1 .taken))
 
 mul-result : tie.Need-mul-result
@@ -28,14 +28,14 @@ returns-2 : tie.Need-returns-2
 unfolding table
 returns-2 c =
     let s = c .before .before .before .before .args .t1 in
-    let b = toZ-ofZ {w = w32} {z = getD (s .values) 5 (pos 0)} (record { sfits = c .before .before .before .range .given }) in
+    let b = toZ-ofZ {w = w32} {z = getD (s .values) range (pos 0)} (record { sfits = c .before .before .before .range .given }) in
     high-read (c .before .before .before .before .args .row) (c .before .if2 .taken) ∙ high-other s (c .before .before .before .before .args .row) (rw b at (c .before .before .if1 .left))
 
 returns-3 : tie.Need-returns-3
 returns-3 c =
     let s = c .before .before .before .args .t1 in
-    let b = toZ-ofZ {w = w32} {z = getD (s .values) 5 (pos 0)} (record { sfits = c .before .before .range .given }) in
-    high-behind (c .before .before .before .args .row) (c .if2 .left) ∙ high-other s (c .before .before .before .args .row) (rw b at (c .before .if1 .left))
+    let b = toZ-ofZ {w = w32} {z = getD (s .values) range (pos 0)} (record { sfits = c .before .before .range .given }) in
+    high-past (c .before .before .before .args .row) (c .if2 .left) ∙ high-other s (c .before .before .before .args .row) (rw b at (c .before .if1 .left))
 
 pub highest-spec : {M : Type 1} → statement M
 highest-spec =

@@ -1,6 +1,6 @@
 use native.Mathlib.Omega.{arith}
 use Rattle.registers.specs.Settings.{table}
-use Rattle.registers.proofs.settings.Laws.{low-read, low-behind}
+use Rattle.registers.proofs.settings.Laws.{low-read, low-past}
 use Rattle.registers.proofs.settings.Settings.lowest.Statement.{statement}
 use Rattle.registers.proofs.settings.Settings.lowest.Tie as tie
 
@@ -15,7 +15,7 @@ unfolding table
 returns c = low-read (c .before .before .args .row)
 
 returns-2 : tie.Need-returns-2
-returns-2 c = low-behind (c .before .args .row) (c .if1 .left)
+returns-2 c = low-past (c .before .args .row) (c .if1 .left)
 
 pub lowest-spec : {M : Type 1} → statement M
 lowest-spec = tie.close (tie.spec mul-result array-copy-out-result returns returns-2)

@@ -4,12 +4,12 @@ use borrow.Author.Tests.{ne-eqb}
 use Rattle.registers.specs.Text.{if_then_else_}
 use Rattle.registers.specs.Settings.{table}
 use Rattle.registers.specs.SettingsParts.{quantityFrom}
-use Rattle.registers.proofs.settings.Laws.{quantity-at, behind-measures}
+use Rattle.registers.proofs.settings.Laws.{quantity-at, past-measures}
 use Rattle.registers.proofs.settings.Settings.quantity_of.Statement.{statement}
 use Rattle.registers.proofs.settings.Settings.quantity_of.Tie as tie
 
 returns : tie.Need-returns
-returns c = sym (behind-measures (c .before .args .row) (c .if1 .taken))
+returns c = sym (past-measures (c .before .args .row) (c .if1 .taken))
 
 array-read-quantity : tie.Need-array-read-quantity
 array-read-quantity c = omega arith

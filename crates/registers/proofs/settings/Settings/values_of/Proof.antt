@@ -3,12 +3,12 @@ use borrow.Author.Tests.{ne-eqb}
 use Rattle.registers.specs.Text.{if_then_else_}
 use Rattle.registers.specs.Settings.{table}
 use Rattle.registers.specs.SettingsParts.{valuesFrom}
-use Rattle.registers.proofs.settings.Laws.{kind-at, behind-is}
+use Rattle.registers.proofs.settings.Laws.{kind-at, past-is}
 use Rattle.registers.proofs.settings.Settings.values_of.Statement.{statement}
 use Rattle.registers.proofs.settings.Settings.values_of.Tie as tie
 
 returns : tie.Need-returns
-returns c = rw (behind-is (c .before .args .row) (c .if1 .taken))
+returns c = rw (past-is (c .before .args .row) (c .if1 .taken))
 
 array-read-kind : tie.Need-array-read-kind
 array-read-kind c = omega arith

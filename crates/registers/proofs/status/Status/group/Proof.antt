@@ -1,19 +1,12 @@
-use Rattle.registers.proofs.status.Laws.{place-within}
 use native.Mathlib.Omega.{arith}
 use Rattle.registers.proofs.status.Status.group.Statement.{statement}
 use Rattle.registers.proofs.status.Status.group.Tie as tie
 
-place-requires : tie.Need-place-requires
-place-requires c κs = tt
-
 mul-result : tie.Need-mul-result
-mul-result c = omega (arith, c .before .place .ensures, place-within (c .before .before .args .set))
-
-array-copy-out-result : tie.Need-array-copy-out-result
-array-copy-out-result c = omega (arith, c .before .place .ensures, place-within (c .before .before .args .set))
+mul-result c = let h = c .before .place .ensures .1 in omega arith
 
 returns : tie.Need-returns
-returns c = rw (c .before .before .place .ensures)
+returns c = rw (c .before .before .place .ensures .0)
 
 pub group-spec : {M : Type 1} → statement M
-group-spec = tie.close (tie.spec place-requires mul-result array-copy-out-result returns)
+group-spec = tie.close (tie.spec (λ c κs. tt) mul-result (λ c. c .before .place .ensures .1) returns)

@@ -1,6 +1,6 @@
 use lib.Dec.{lit<}
 use mathlib.Core.Path.{sym}
-use Rattle.registers.proofs.status.Laws.{place-fits, behind-fits, raised-more, raised-full}
+use Rattle.registers.proofs.status.Laws.{place-fits, next-fits, raised-more, raised-full}
 use Rattle.registers.proofs.status.Status.raise.Statement.{statement}
 use Rattle.registers.proofs.status.Status.raise.Tie as tie
 
@@ -17,7 +17,7 @@ element-write-self : tie.Need-element-write-self
 element-write-self c = c .if1 .taken
 
 add-self : tie.Need-add-self
-add-self c = behind-fits (c .if1 .taken)
+add-self c = next-fits (c .if1 .taken)
 
 element-write-self-2 : tie.Need-element-write-self-2
 element-write-self-2 c = lit< tt

@@ -1,18 +1,20 @@
+use native.Mathlib.Omega.{arith}
 use Rattle.registers.proofs.status.Status.read_event.Statement.{statement}
 use Rattle.registers.proofs.status.Status.read_event.Tie as tie
 
-group-requires : tie.Need-group-requires
-group-requires c κs = tt
-
-read-event-requires : tie.Need-read-event-requires
-read-event-requires c κs = tt
-
-with-group-requires : tie.Need-with-group-requires
-with-group-requires c κs = tt
+mul-group : tie.Need-mul-group
+mul-group c = let h = c .before .before .place .ensures .1 in omega arith
 
 returns : tie.Need-returns
-returns c = let r = c .before in rw (c .with-group .ensures, r .read-event .ensures, r .before .group .ensures)
+returns c = rw (c .read-event .ensures, c .before .group .ensures, c .before .before .place .ensures .0)
 
 pub read-event-spec : {M : Type 1} → statement M
 read-event-spec =
-    tie.close (tie.spec group-requires read-event-requires with-group-requires returns)
+    tie.close
+    (tie.spec
+    (λ c κs. tt)
+    (λ c κs. tt)
+    (λ c κs. tt)
+    mul-group
+    (λ c. c .before .before .place .ensures .1)
+    returns)

@@ -6,11 +6,11 @@ use native.Mathlib.Omega.{arith}
 use borrow.Author.Needs.{needs}
 use borrow.Author.Tests.{lt-leb, le-leb, lt-ltb, le-ltb}
 use Rattle.registers.specs.Check.{passed, check, _>>_}
-use Rattle.registers.specs.Number.{decimalOf, scaled}
+use Rattle.registers.specs.Number.{mostExponent, decimalOf, scaled}
 use Rattle.registers.specs.NumberParts.{held, valueRead}
 use Rattle.registers.specs.Text.{if_then_else_}
-use Rattle.registers.proofs.number.valued.Statement.{statement}
-use Rattle.registers.proofs.number.valued.Tie as tie
+use Rattle.registers.proofs.number.value_of.Statement.{statement}
+use Rattle.registers.proofs.number.value_of.Tie as tie
 
 -- neither the digits nor the exponent are refused
 within : (c : tie.Else2)
@@ -21,7 +21,7 @@ within : (c : tie.Else2)
 unfolding valueRead check _>>_
 within c =
     let a = c .before .before .args in
-    rw (lt-ltb (a .mantissa .value) held (c .before .if1 .left), le-leb (a .exponent .size) 9 (c .if2 .left))
+    rw (lt-ltb (a .mantissa .value) held (c .before .if1 .left), le-leb (a .exponent .size) mostExponent (c .if2 .left))
 
 returns : tie.Need-returns
 unfolding valueRead check _>>_
@@ -31,7 +31,7 @@ returns-2 : tie.Need-returns-2
 unfolding valueRead check _>>_
 returns-2 c =
     let a = c .before .before .args in
-    rw (lt-ltb (a .mantissa .value) held (c .before .if1 .left), lt-leb (a .exponent .size) 9 (c .if2 .taken))
+    rw (lt-ltb (a .mantissa .value) held (c .before .if1 .left), lt-leb (a .exponent .size) mostExponent (c .if2 .taken))
 
 returns-3 : tie.Need-returns-3
 unfolding decimalOf scaled if_then_else_
@@ -48,8 +48,8 @@ returns-4 c =
     let e = c .before .before in
     rw (within (e .before .before .before), e .if3 .left, c .before .above .ensures, c .above2 .ensures)
 
-pub valued-spec : {M : Type 1} → statement M
-valued-spec =
+pub value-of-spec : {M : Type 1} → statement M
+value-of-spec =
     tie.close
     (tie.spec
     returns

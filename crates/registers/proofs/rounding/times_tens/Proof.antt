@@ -6,8 +6,8 @@ use borrow.Author.Tests.{ltb-true}
 use Rattle.registers.specs.RoundingParts.{beyond}
 use Rattle.registers.proofs.Tests.{and-both}
 use Rattle.registers.proofs.rounding.Tens.{raise-turn, raise-end, raise-beyond}
-use Rattle.registers.proofs.rounding.raised.Statement.{statement}
-use Rattle.registers.proofs.rounding.raised.Tie as tie
+use Rattle.registers.proofs.rounding.times_tens.Statement.{statement}
+use Rattle.registers.proofs.rounding.times_tens.Tie as tie
 
 abbrev Inv-loop : tie.InvT-loop
 Inv-loop x n y₀ i₀ y i = y * 10 ^ i ≡ x * 10 ^ n
@@ -47,7 +47,7 @@ returns-2 c =
     let at = c .before .before .loop in
     raise-beyond (at .y) (at .i) (c .if1 .left) ∙ ap (min beyond) (at .inv)
 
-pub raised-spec : {M : Type 1} → statement M
-raised-spec =
+pub times-tens-spec : {M : Type 1} → statement M
+times-tens-spec =
     tie.close
     (tie.spec Inv-loop μ-loop loop-holds mul-y sub-i loop-less loop-again returns returns-2)

@@ -1,7 +1,7 @@
 use native.Mathlib.Omega.{arith}
 use Rattle.registers.proofs.rounding.Sides.{Lowering, lower-start, lower-turn, lower-small, lower-up, lower-on, lower-above}
-use Rattle.registers.proofs.rounding.lowered.Statement.{statement}
-use Rattle.registers.proofs.rounding.lowered.Tie as tie
+use Rattle.registers.proofs.rounding.over_tens.Statement.{statement}
+use Rattle.registers.proofs.rounding.over_tens.Tie as tie
 
 abbrev Inv-loop : tie.InvT-loop
 Inv-loop x n y₀ i₀ exact₀ y i exact = Lowering x n y i exact
@@ -33,8 +33,8 @@ returns-2 c = lower-on (c .before .before .before .loop .inv) (omega arith) (ome
 returns-3 : tie.Need-returns-3 Inv-loop μ-loop
 returns-3 c = lower-above (c .before .before .before .loop .inv) (omega arith) (omega arith) (c .if2 .left)
 
-pub lowered-spec : {M : Type 1} → statement M
-lowered-spec =
+pub over-tens-spec : {M : Type 1} → statement M
+over-tens-spec =
     tie.close
     (tie.spec
     Inv-loop
