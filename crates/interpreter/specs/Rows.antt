@@ -1,9 +1,9 @@
 -- The seventeen settings and "Registers and queue": every header that the box knows, with what it is for; and check 3.
-use mathlib.Core.Bool.{Bool, true, false, not, _&&_}
+use mathlib.Core.Bool.{Bool, true, false, _&&_}
 use mathlib.Core.List.{List, [], _∷_, _++_}
 use Prim.Native.Nat.{ℕ, suc}
 use Prim.Native.String.{String}
-use Rattle.registers.specs.Text.{Text, if_then_else_}
+use Rattle.registers.specs.Text.{Text, if_then_else_, sameBool}
 use Rattle.registers.specs.Check.{Checked, refused, passed}
 use Rattle.registers.specs.Words.{Node, must, may}
 use Rattle.registers.specs.Settings.{Setting, table}
@@ -64,10 +64,6 @@ otherRows =
 
 unfoldable pub rows : List Row
 rows = settingRows 0 table ++ otherRows
-
-abbrev pub sameBool : Bool → Bool → Bool
-sameBool true b = b
-sameBool false b = not b
 
 -- a query of settings and registers, or one of *ESR?, *STB? and SYSTem:ERRor?
 abbrev pub isQuery : Deed → Bool

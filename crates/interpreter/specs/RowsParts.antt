@@ -7,11 +7,11 @@ use Prim.Native.String.{String}
 use lib.Dec.{ltb, eqb}
 use lib.Bits.{bitAnd}
 use lib.ListN.{length, getD, drop}
-use Rattle.registers.specs.Text.{Text, if_then_else_, empty}
+use Rattle.registers.specs.Text.{Text, if_then_else_, empty, sameBool}
 use Rattle.registers.specs.Words.{Node, must, may, shortForm, longForm}
 use Rattle.interpreter.specs.NameParts.{keyOf}
 use Rattle.interpreter.specs.TableParts.{rowSize, optional, markCount, nodeAt, rowTable, firstFit, markOf}
-use Rattle.interpreter.specs.Rows.{Row, rows, sameBool, hasForm, fitsRow}
+use Rattle.interpreter.specs.Rows.{Row, rows, hasForm, fitsRow}
 use Rattle.interpreter.specs.declared.rows.Walk.{Walk}
 use Rattle.interpreter.specs.declared.rows.Walk.the-variants.{To, Missed}
 

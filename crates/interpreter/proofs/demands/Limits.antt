@@ -1,33 +1,28 @@
 -- Demand 2: settings never leave their limits, and the voltage never its range.
 use mathlib.Core.Path.{_≡_, refl, _∙_, ap}
 use mathlib.Core.Bool.{Bool, true, false, not, _&&_}
-use Prim.Native.Nat.{ℕ, _<_}
+use Prim.Native.Nat.{ℕ}
 use native.Mathlib.Omega.{arith}
 use lib.Dec.{eqb}
 use lib.IntN.{ℤ, pos, negsuc}
 use lib.Signed.{leZ, ltZ}
 use borrow.Author.Tests.{leb-true, lt-leb, eqb-true}
 use Rattle.registers.specs.Text.{if_then_else_}
-use Rattle.registers.specs.Settings.{count, voltage, range, conflict, twelveVolts, wideRange, lowest, highest, valueAt, within, possibleSettings}
+use Rattle.registers.specs.Settings.{voltage, range, conflict, twelveVolts, wideRange, lowest, highest, valueAt, within}
 use Rattle.registers.specs.declared.settings.Settings.{Settings}
-use Rattle.registers.proofs.Tests.{and-both, below-at, ltZ-not}
-use Rattle.registers.proofs.settings.Possible.{Good, good-to}
+use Rattle.registers.proofs.Tests.{and-both, ltZ-not}
+use Rattle.registers.proofs.settings.Possible.{Good}
 use Rattle.interpreter.specs.Demand2.{WithinLimits, WithinRange}
 use Rattle.interpreter.proofs.Possible.{history-fit, own-fit}
 
--- each of the settings, by its place
-pub good-at : (s : Settings) → Good s → (i : ℕ) → i < count → within s i (valueAt s i) ≡ true
-unfolding possibleSettings
-good-at s g i h = below-at count (λ j. within s j (valueAt s j)) (good-to s g) i h
-
 pub within-limits : WithinLimits
-within-limits b own es i h = good-at _ (history-fit b es (own-fit b own) .core .settings) i h
+within-limits b own es i h = history-fit b es (own-fit b own) .core .settings i h
 
 -- the voltage in the lower range
 pub narrow-voltage : (s : Settings) → Good s → wideRange s ≡ false → leZ (valueAt s voltage) twelveVolts ≡ true
 unfolding within highest if_then_else_
 narrow-voltage s g narrow =
-    rw narrow at (and-both (leZ (lowest voltage) (valueAt s voltage)) _ (good-at s g voltage (omega arith)) .1)
+    rw narrow at (and-both (leZ (lowest voltage) (valueAt s voltage)) _ (g voltage (omega arith)) .1)
 
 -- the range as it is never conflicts with the voltage
 low-range : (v : ℤ) → leZ v (pos 0) ≡ true → leZ (pos 1) v ≡ false

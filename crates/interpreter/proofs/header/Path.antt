@@ -8,7 +8,7 @@ use native.Mathlib.Omega.{arith}
 use lib.ListN.{length, take, drop, length-append, length-take, length-map}
 use lib.Seq.{length-take-le, take-all, take-take, take-append-seam, drop-append-seam}
 use Rattle.registers.specs.Text.{Text, if_then_else_, every}
-use Rattle.registers.proofs.Tests.{and-both, and-true}
+use Rattle.registers.proofs.Tests.{and-both, and-true, every-append}
 use Rattle.interpreter.specs.Cuts.{front}
 use Rattle.interpreter.specs.Header.{name}
 use Rattle.interpreter.specs.NameParts.{keyOf}
@@ -17,10 +17,6 @@ use Rattle.interpreter.specs.RowsParts.{rowOf, rowOfKeys}
 use Rattle.interpreter.specs.TableParts.{orZero}
 use Rattle.interpreter.specs.HeaderParts.{mostNames, Holds}
 use Rattle.interpreter.proofs.rows.Numbers.{row-same, held-same, found-few}
-
-every-join {ℓ} : {A : Type ℓ} (p : A → Bool) (l m : List A) → every p l ≡ true → every p m ≡ true → every p (l ++ m) ≡ true
-every-join p [] m e f = f
-every-join p (x ∷ l) m e f = let q = and-both (p x) (every p l) e in and-true (q .0) (every-join p l m (q .1) f)
 
 every-front {ℓ} : {A : Type ℓ} (p : A → Bool) (l : List A) → every p l ≡ true → every p (front l) ≡ true
 unfolding if_then_else_
@@ -52,7 +48,7 @@ module _ (path names : List Text) (known : every name path ≡ true) (good : eve
   full = path ++ names
 
   full-good : every name full ≡ true
-  full-good = every-join name path names known good
+  full-good = every-append name path names known good
 
   all-held : take count keys ≡ take mostNames (map keyOf full)
   all-held = held ∙ ap (take mostNames) (sym (map-append keyOf path names))

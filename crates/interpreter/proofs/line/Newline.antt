@@ -3,14 +3,14 @@
 use mathlib.Core.Path.{_≡_, refl, sym, _∙_}
 use mathlib.Core.Bool.{Bool, true, false}
 use mathlib.Core.List.{[], _∷_}
-use Prim.Native.Nat.{ℕ, zero, suc, _+_, _<_}
+use Prim.Native.Nat.{ℕ, suc, _+_, _<_}
 use native.Mathlib.Omega.{arith}
 use native.Mathlib.Numerals.{add-one}
 use lib.Dec.{eqb, eqb·suc-suc}
 use lib.ListN.{length, take, set}
 use lib.Seq.{take-suc-set}
 use borrow.Author.Tests.{eq-eqb, ne-eqb}
-use Rattle.registers.specs.Text.{Text, if_then_else_, start, white, every, empty}
+use Rattle.registers.specs.Text.{Text, if_then_else_, start, white, every}
 use Rattle.registers.specs.declared.error.Error.the-variants.{InputBufferOverrun}
 use Rattle.interpreter.specs.Box.{box, mostAnswer}
 use Rattle.interpreter.specs.Line.{runUnits, finished, unitsOf, runLine, endLine}
@@ -19,14 +19,10 @@ use Rattle.interpreter.specs.PresentParts.{boxAt, Discarded}
 use Rattle.interpreter.specs.LineParts.{boxHolding, UnitsRan}
 use Rattle.interpreter.specs.declared.present.Present.{Present}
 use Rattle.registers.specs.Queue.{most}
+use Rattle.registers.proofs.Tests.{front-empty}
 use Rattle.interpreter.proofs.present.Laws.{raised-box}
 
 -- ---- a line
-
-full-answer : (out : Text) (n : ℕ) → (n ≡ 0 → ⊥) → n < length out → empty (take n out) ≡ false
-full-answer out zero h l = absurd (h refl)
-full-answer [] (suc n) h l = absurd (omega arith)
-full-answer (x ∷ out) (suc n) h l = refl
 
 -- the white space at its start is all of it exactly where every byte is white
 whole-start : (p : ℕ → Bool) (l : Text) → eqb (length (start p l)) (length l) ≡ every p l
@@ -67,7 +63,7 @@ module _ (p : Present) (line : Text) (o : Bool) where
     unfolding runLine unitsOf finished if_then_else_
     line-some h long =
         let room = ran .room in
-        rw (e, visible, ← ran .box, full-answer out (r .answered) h (omega arith), add-one (r .answered), take-suc-set out (r .answered) 10 (omega arith))
+        rw (e, visible, ← ran .box, front-empty out (r .answered) (omega arith) ∙ ne-eqb (r .answered) 0 h, add-one (r .answered), take-suc-set out (r .answered) 10 (omega arith))
 
 -- ---- the newline
 

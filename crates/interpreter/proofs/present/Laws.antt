@@ -1,17 +1,16 @@
 -- Laws of an error: what one that is raised leaves of the box, what a refused unit leaves, and what is left of an answer that waits.
-use mathlib.Core.Path.{_≡_, refl, sym}
-use mathlib.Core.List.{[], _∷_}
-use Prim.Native.Nat.{ℕ, zero, suc, _≤_, _<_}
-use native.Mathlib.Omega.{arith}
-use lib.Dec.{eqb}
+use mathlib.Core.Path.{_≡_}
+use mathlib.Core.List.{[]}
+use Prim.Native.Nat.{_≤_, _<_}
 use lib.ListN.{length, take}
 use borrow.Author.Tests.{eq-eqb, ne-eqb}
-use Rattle.registers.specs.Text.{Text, if_then_else_, empty}
+use Rattle.registers.specs.Text.{Text, if_then_else_}
 use Rattle.registers.specs.Error.{numberOf}
 use Rattle.registers.specs.declared.error.Error.{Error}
 use Rattle.registers.specs.declared.error.Error.the-variants.{QueryInterrupted}
 use Rattle.registers.proofs.status.Meaning.{raised-trouble, raised-registers, raised-queued}
 use Rattle.registers.specs.Queue.{most}
+use Rattle.registers.proofs.Tests.{front-empty}
 use Rattle.interpreter.specs.Box.{raise}
 use Rattle.interpreter.specs.Line.{refuse, interrupted}
 use Rattle.interpreter.specs.PresentParts.{boxIn, boxAt, raisedWith}
@@ -37,12 +36,6 @@ module _ (e : Error) (p : Present) (long : length (p .status .errors) ≡ most) 
 
 -- ---- an answer that waits
 
--- an answer waits exactly where its length isn't 0
-pub waits : (out : Text) (n : ℕ) → 0 < length out → empty (take n out) ≡ eqb n 0
-waits [] n h = absurd (omega arith)
-waits (x ∷ out) zero h = refl
-waits (x ∷ out) (suc n) h = sym (ne-eqb (suc n) 0 (λ e. omega arith))
-
 module _ (p : Present) (out : Text) where
   pub none-waits : p .answered ≡ 0 → boxIn p [] ≡ interrupted (boxAt p out)
   unfolding interrupted if_then_else_
@@ -51,4 +44,4 @@ module _ (p : Present) (out : Text) where
   pub one-waits : length (p .status .errors) ≡ most → 0 < length out → (p .answered ≡ 0 → ⊥)
       → boxIn (raisedWith QueryInterrupted p) [] ≡ interrupted (boxAt p out)
   unfolding interrupted if_then_else_
-  one-waits long room ne = rw (waits out (p .answered) room, ne-eqb (p .answered) 0 ne, raised-box QueryInterrupted p long [])
+  one-waits long room ne = rw (front-empty out (p .answered) room, ne-eqb (p .answered) 0 ne, raised-box QueryInterrupted p long [])

@@ -1,18 +1,19 @@
 -- A deed that answers does what the definition says of it, if check 9 lets it: the reply is written after the answers so far, and what
 -- the code leaves of settings and status is what the definition leaves of the box.
-use mathlib.Core.Path.{_≡_, refl, sym, ap}
+use mathlib.Core.Path.{_≡_, refl, ap}
 use mathlib.Core.Bool.{true, not}
-use mathlib.Core.List.{[], _∷_}
-use Prim.Native.Nat.{ℕ, zero, suc, _≤_, _<_}
+use mathlib.Core.List.{[]}
+use Prim.Native.Nat.{ℕ, _≤_, _<_}
 use native.Mathlib.Omega.{arith}
 use lib.Dec.{eqb}
 use lib.ListN.{length, take, length-take}
-use borrow.Author.Tests.{ne-eqb, lt-ltb, le-ltb}
+use borrow.Author.Tests.{lt-ltb, le-ltb}
 use Rattle.registers.specs.Text.{Text, if_then_else_, empty}
 use Rattle.registers.specs.Check.{refused, passed, _>>=_, _>>_, check}
 use Rattle.registers.specs.Status.{Registers, registersOf, troubleOf}
 use Rattle.registers.specs.declared.error.Error.the-variants.{QueryDeadlocked}
 use Rattle.registers.specs.declared.settings.Settings.{Settings}
+use Rattle.registers.proofs.Tests.{front-empty}
 use Rattle.interpreter.specs.Box.{Core, Box, box, withAnswer, mostAnswer}
 use Rattle.interpreter.specs.Perform.{changed, afterQuery, perform}
 use Rattle.interpreter.specs.Reply.{replyTo, inquiryReply, joined, fitsAnswer, reply}
@@ -64,12 +65,6 @@ unfolding inquiryReply
 inquiry-same StandardEvents p a = refl
 inquiry-same StatusByte p a = refl
 inquiry-same NextError p a = refl
-
--- the answers so far have bytes unless none was written
-some-answer : (out : Text) (n : ℕ) → n < length out → empty (take n out) ≡ eqb n 0
-some-answer out zero h = refl
-some-answer [] (suc n) h = absurd (omega arith)
-some-answer (x ∷ out) (suc n) h = sym (ne-eqb (suc n) 0 (λ e. omega arith))
 
 -- ---- check 9 on a reply that says something
 
@@ -133,7 +128,7 @@ module _ (d : Deed) (p : Present) {r : Reply} {out left-of : Text} {end : ℕ} (
   so-far = take (p .answered) out
 
   replies : ReplyTo d p (not (empty so-far)) r
-  replies = rw (some-answer out (p .answered) (omega arith)) says
+  replies = rw (front-empty out (p .answered) (omega arith)) says
 
   pub told-until : end < mostAnswer → Answered d p out (Until end) left-of
   told-until h =

@@ -8,11 +8,11 @@ use lib.Dec.{leb}
 use lib.ListN.{length, take, length-take}
 use lib.Seq.{take-all}
 use borrow.Author.Tests.{leb-true, leb-false}
-use Rattle.registers.specs.Text.{Text, if_then_else_, every}
+use Rattle.registers.specs.Text.{Text, if_then_else_, every, sameBool}
 use Rattle.registers.specs.Words.{Node, must, may}
 use Rattle.registers.proofs.Tests.{and-both}
 use Rattle.interpreter.specs.Header.{name}
-use Rattle.interpreter.specs.Rows.{Row, rows, hasForm, sameBool, fitsRow}
+use Rattle.interpreter.specs.Rows.{Row, rows, hasForm, fitsRow}
 use Rattle.interpreter.specs.NameParts.{keyOf}
 use Rattle.interpreter.specs.DeedParts.{rowCount}
 use Rattle.interpreter.specs.TableParts.{firstFit, mostNodes}

@@ -11,11 +11,11 @@ use lib.Dec.{ltb, leb, eqb}
 use lib.ListN.{length, getD, drop, length-append, length-map, replicate, List·getD-append}
 use lib.Seq.{drop-cons}
 use borrow.Author.Tests.{eq-eqb, ne-eqb, ltb-true, leb-true}
-use Rattle.registers.specs.Text.{Text, if_then_else_, every, bytes, same}
+use Rattle.registers.specs.Text.{Text, if_then_else_, every, bytes, same, sameBool}
 use Rattle.registers.specs.Words.{Node, must}
 use Rattle.registers.specs.Settings.{table}
 use Rattle.registers.proofs.Tests.{and-assoc}
-use Rattle.interpreter.specs.Rows.{Row, plain, rows, settingRows, otherRows, hasForm, sameBool}
+use Rattle.interpreter.specs.Rows.{Row, plain, rows, settingRows, otherRows, hasForm}
 use Rattle.interpreter.specs.DeedParts.{rowCount}
 use Rattle.interpreter.specs.TableParts.{nodeCount, nodeList, nodeAt, nodeByte, formByte, rowRow, rowTableOf, rowTable, mostNodes, rowSize}
 use Rattle.interpreter.specs.RowsParts.{greedy, fitsKeys, nodeOf, wordIn, rowCell, formBit, formed}

@@ -12,11 +12,11 @@ use lib.ListN.{length, getD, drop, drop-of-length-le}
 use lib.Seq.{drop-cons}
 use borrow.Author.Tests.{eq-eqb, eqb-true}
 use mir.Val.{boolByte}
-use Rattle.registers.specs.Text.{if_then_else_, letter, small, digit, wordByte, every, first, bytes, capital}
+use Rattle.registers.specs.Text.{if_then_else_, letter, small, digit, wordByte, every, first, bytes, capital, sameBool}
 use Rattle.registers.specs.Words.{Node, must, may, shortForm, longForm}
 use Rattle.registers.specs.Settings.{table}
 use Rattle.registers.proofs.Tests.{and-both}
-use Rattle.interpreter.specs.Rows.{Row, rows, settingRows, otherRows, hasForm, sameBool}
+use Rattle.interpreter.specs.Rows.{Row, rows, settingRows, otherRows, hasForm}
 use Rattle.interpreter.specs.NameParts.{codeOf, withCode, keyFrom, keyOf, codeCount}
 use Rattle.interpreter.specs.DeedParts.{rowCount}
 use Rattle.interpreter.specs.TableParts.{firstFit, withLetter, markFrom, markOf, canMark, startOf, markCount}

@@ -18,8 +18,7 @@ use Rattle.interpreter.specs.FlowParts.{flowBox, FlowFits, firstLine, Fl
 use Rattle.interpreter.specs.Server.{linesOf, Service, service, servedLine, serves}
 use Rattle.interpreter.specs.ServerParts.{serviceAt, FlowServed}
 use Rattle.interpreter.specs.declared.flow.Flow.{Flow}
-use Rattle.registers.proofs.Tests.{and-both}
-use Rattle.interpreter.proofs.present.Laws.{waits}
+use Rattle.registers.proofs.Tests.{and-both, front-empty}
 use Rattle.interpreter.proofs.flow.Laws.{first-some, first-within}
 
 -- ---- the first line
@@ -64,7 +63,7 @@ module _ (f r : Flow) (line out bytes lines left : Text) (w : FlowFed f line out
       within = let k = w .fits .waiting in omega arith
 
       is : empty (take (r .present .answered) left) ≡ eqb (r .present .answered) 0
-      is = waits left (r .present .answered) (omega arith)
+      is = front-empty left (r .present .answered) (omega arith)
 
       go : (t : Bool) → eqb (r .present .answered) 0 ≡ t → servedLine (service (flowBox f line out) read answers rest) bytes
           ≡ service (flowBox (taken-from r) lines left) (read + length bytes) (answers ++ take (r .present .answered) left) (drop (r .present .answered) rest)

@@ -26,7 +26,7 @@ use Rattle.interpreter.specs.FlowParts.{FlowFed}
 use Rattle.interpreter.specs.declared.state.State.{State}
 use Rattle.interpreter.specs.declared.flow.Flow.{Flow}
 use Rattle.registers.specs.Queue.{most}
-use Rattle.interpreter.proofs.present.Laws.{waits}
+use Rattle.registers.proofs.Tests.{front-empty}
 use Rattle.interpreter.proofs.state.Records.{Short, short-from, could, could-not, happens-so}
 
 -- an event that is no power-up
@@ -60,28 +60,28 @@ module _ (s : State) (room : 0 < length (s .answer)) where
       → happened (result 2 0 buffer) (boxOf (withStatus t s)) ≡ happens (boxOf s) (takes buffer)
   unfolding happens taken if_then_else_
   take-none buffer t long is e =
-      rw (waits (s .answer) (s .waiting) room, e, is, raised-trouble 420 (s .status) long, raised-registers 420 (s .status) long)
+      rw (front-empty (s .answer) (s .waiting) room, e, is, raised-trouble 420 (s .status) long, raised-registers 420 (s .status) long)
 
   pub take-short : (buffer : Text) → (s .waiting ≡ 0 → ⊥) → s .waiting ≤ length (s .answer) → length buffer < s .waiting
       → happened (result 1 (s .waiting) buffer) (boxOf s) ≡ happens (boxOf s) (takes buffer)
   unfolding happens taken if_then_else_
   take-short buffer ne w h =
       let n : length (take (s .waiting) (s .answer)) ≡ s .waiting = rw length-take (omega arith) in
-      rw (waits (s .answer) (s .waiting) room, ne-eqb (s .waiting) 0 ne, n, lt-leb (s .waiting) (length buffer) h)
+      rw (front-empty (s .answer) (s .waiting) room, ne-eqb (s .waiting) 0 ne, n, lt-leb (s .waiting) (length buffer) h)
 
   pub take-all : (buffer : Text) → (s .waiting ≡ 0 → ⊥) → s .waiting ≤ length (s .answer) → s .waiting ≤ length buffer
       → happened (result 0 (s .waiting) (take (s .waiting) (s .answer) ++ drop (s .waiting) buffer)) (boxOf (withoutAnswer s)) ≡ happens (boxOf s) (takes buffer)
   unfolding happens taken if_then_else_
   take-all buffer ne w h =
       let n : length (take (s .waiting) (s .answer)) ≡ s .waiting = rw length-take (omega arith) in
-      rw (waits (s .answer) (s .waiting) room, ne-eqb (s .waiting) 0 ne, n, le-leb (s .waiting) (length buffer) h)
+      rw (front-empty (s .answer) (s .waiting) room, ne-eqb (s .waiting) 0 ne, n, le-leb (s .waiting) (length buffer) h)
 
   -- ---- look
 
   pub look-byte : (n : ℕ) → n ≡ statusByte (registersOf (s .status)) (troubleOf (s .status)) (not (eqb (s .waiting) 0))
       → happened (result 0 n []) (boxOf s) ≡ happens (boxOf s) look
   unfolding happens
-  look-byte n is = rw (is, waits (s .answer) (s .waiting) room)
+  look-byte n is = rw (is, front-empty (s .answer) (s .waiting) room)
 
 -- ---- condition
 

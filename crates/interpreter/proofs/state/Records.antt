@@ -1,17 +1,15 @@
 -- Refusal 4 on the record against refusal 4 on the box that it means: the same, beside the record's own three lengths.
 use mathlib.Core.Path.{_≡_}
 use mathlib.Core.Bool.{Bool, true, false, not}
-use mathlib.Core.List.{List}
-use Prim.Native.Nat.{ℕ, _≤_, zero-le}
-use native.Mathlib.Omega.{arith}
+use Prim.Native.Nat.{_≤_, zero-le}
 use lib.Dec.{leb}
-use lib.ListN.{length, take, length-take}
+use lib.ListN.{length}
 use borrow.Author.Tests.{leb-true, le-leb, not-true, not-false}
 use Rattle.registers.specs.Text.{Text}
 use Rattle.registers.specs.Settings.{possibleSettings, count}
 use Rattle.registers.specs.Status.{registersOf, troubleOf, possibleStatus, possibleRegisters, possibleTrouble}
 use Rattle.registers.specs.Queue.{most}
-use Rattle.registers.proofs.Tests.{and-both}
+use Rattle.registers.proofs.Tests.{and-both, front-within}
 use Rattle.interpreter.specs.Box.{mostLine, mostAnswer}
 use Rattle.interpreter.specs.Events.{Event, possible, possibleCore, happened, Result, happens}
 use Rattle.interpreter.specs.State.{boxOf, possibleParts, possibleState}
@@ -26,9 +24,6 @@ pub record Short (s : State) : Type 0 where
   pub queued : s .status .queued ≤ most
   pub filled : s .filled ≤ mostLine
   pub waiting : s .waiting ≤ mostAnswer
-
-front-within : (l : List ℕ) (n k : ℕ) → n ≤ k → leb (length (take n l)) k ≡ true
-front-within l n k h = le-leb (length (take n l)) k (rw length-take (omega arith))
 
 module _ (s : State) where
   pub short-from : possibleState s ≡ true → Short s

@@ -2,7 +2,7 @@
 -- For tenths that is a law, for all other settings one computed test over every value.
 use mathlib.Core.Path.{_≡_, refl, ap}
 use mathlib.Core.Bool.{Bool, true, false, not, _&&_, false≢true}
-use Prim.Native.Nat.{ℕ, suc, _+_, _≤_, _<_}
+use Prim.Native.Nat.{ℕ, suc, _+_, _≤_, _<_, _^_}
 use Prim.Native.Char.{code}
 use native.Mathlib.Omega.{arith}
 use lib.Dec.{leb, ltb, eqb}
@@ -13,9 +13,8 @@ use borrow.Author.Tests.{ltb-true, leb-true, le-leb, eqb-true, ne-eqb}
 use Rattle.registers.specs.Text.{Text, if_then_else_, bytes, same, white, printable, digit, letter, wordByte, small, capital, every, empty, below}
 use Rattle.registers.specs.Check.{Checked, refused, passed, check, _>>=_, _>>_}
 use Rattle.registers.specs.Words.{shortForm, longForm, matches}
-use Rattle.registers.specs.Number.{afterSign, fractionOf, afterFraction, exponentOf, afterExponent, lowering, written, numeralFrom, decimalOf, valueOf, scaled, number as readNumber}
+use Rattle.registers.specs.Number.{afterSign, fractionOf, afterFraction, exponentOf, afterExponent, lowering, written, numeralFrom, decimalOf, valueOf, scaled, number as readNumber, mostDigits}
 use Rattle.registers.specs.Suffix.{suffixes, noSuffix, powerIn, remains}
-use Rattle.registers.specs.NumberParts.{held}
 use Rattle.registers.specs.Rounding.{switchedOn, nearest, sizeIn, rounded, sizeSide, sideIn}
 use Rattle.registers.specs.Answer.{inPlaces, decimal, tenths, signedText}
 use Rattle.registers.specs.Settings.{count, Kind, bool, words, number, table, settingAt, kindOf, quantityOf, lowestOf, highestOf, voltage, twelveVolts, wideRange, lowest, highest, within, answerOf, onStep, accepted}
@@ -29,6 +28,7 @@ use Rattle.registers.proofs.answer.Decimals.{tenths-length, signed-length}
 use Rattle.interpreter.specs.Parameter.{Given, Word, Figure, findWord, parameter, limitWords, wordsOf, takesNumbers, valueGiven, settingDeed, sideGiven}
 use Rattle.interpreter.specs.declared.deed.Deed.the-variants.{Change}
 use Rattle.interpreter.specs.declared.deed.Change.the-variants.{Put}
+use Rattle.registers.proofs.settings.Possible.{under-wide}
 use Rattle.interpreter.proofs.Choices.{if-elim}
 use Rattle.interpreter.proofs.demands.trip.Tenths.{tenths-rounded, tenths-on, tenths-read, tenths-some, tenths-bytes}
 
@@ -76,7 +76,7 @@ tested q k = nonNeg (lowestOf k) && below (suc (sizeOf k)) (λ n. readsBack q k 
 unfoldable covered : Quantity → Kind → Bool
 covered q bool = tested q bool
 covered q (words ws) = tested q (words ws)
-covered q (number k low high) = if eqb k 10 then ltb (sizeOf (number k low high)) held else tested q (number k low high)
+covered q (number k low high) = if eqb k 10 then ltb (sizeOf (number k low high)) (10 ^ mostDigits) else tested q (number k low high)
 
 all-covered : below count (λ i. covered (quantityOf i) (kindOf i)) ≡ true
 unfolding covered tested readsBack plainText readTo gives sameZ if_then_else_ bytes same printable white digit letter wordByte small capital
@@ -160,7 +160,7 @@ module _ (q : Quantity) (k : Kind) (v : ℤ) (t : inTable k v ≡ true) where
       let l = size-is in
       rw e at (below-at (suc (sizeOf k)) (λ n. readsBack q k (pos n)) (p .1) (natAbs v) (omega arith))
 
-module _ (v : ℤ) (h : natAbs v < held) where
+module _ (v : ℤ) (h : natAbs v < 10 ^ mostDigits) where
   tenths-plain : plainText (signedText tenths v) ≡ true
   unfolding plainText printable
   tenths-plain =
@@ -178,7 +178,7 @@ reads-back q (words ws) c v t = by-test q (words ws) v t c
 reads-back q (number k low high) c v t =
     let row = number k low high in
     if-elim (λ (b : Bool). b ≡ true → readsBack q row v ≡ true) (eqb k 10)
-    (λ e c. let l = size-is q row v t in let h = ltb-true (sizeOf row) held c in rw (eqb-true k 10 e) (by-law v (omega arith) q low high))
+    (λ e c. let l = size-is q row v t in let h = ltb-true (sizeOf row) (10 ^ mostDigits) c in rw (eqb-true k 10 e) (by-law v (omega arith) q low high))
     (λ _ c. by-test q row v t c) c
 
 read-deed : (s : Settings) (i : ℕ) (v : ℤ) (m : Checked Given) → readTo (kindOf i) v m ≡ true → within s i v ≡ true
@@ -192,10 +192,6 @@ read-deed s i v (refused n) t w = absurd (false≢true t)
 read-deed s i v (passed g) t w = rw (gives-value s i (kindOf i) v g t, gives-side (kindOf i) v g t, w)
 
 -- a voltage within any range is in the table
-wider : (v : ℤ) → leZ v twelveVolts ≡ true → leZ v (pos 240) ≡ true
-wider (pos n) t = let h = leb-true n 120 t in le-leb n 240 (omega arith)
-wider (negsuc n) t = refl
-
 under-table : (s : Settings) (i : ℕ) (v : ℤ) → within s i v ≡ true → inTable (kindOf i) v ≡ true
 unfolding within inTable lowest highest settingAt table if_then_else_
 under-table s i v w =
@@ -204,7 +200,7 @@ under-table s i v w =
   where
     go : (t : Bool) → (eqb i voltage && not (wideRange s)) ≡ t → leZ v (if t then twelveVolts else highestOf (kindOf i)) ≡ true
         → leZ v (highestOf (kindOf i)) ≡ true
-    go true q l = let e = eqb-true i voltage (and-both (eqb i voltage) _ q .0) in rw e (wider v l)
+    go true q l = let e = eqb-true i voltage (and-both (eqb i voltage) _ q .0) in rw e (under-wide false v l)
     go false q l = l
 
 -- a setting's answer, sent as its parameter, sets the value that was answered

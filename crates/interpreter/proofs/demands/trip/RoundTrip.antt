@@ -36,7 +36,7 @@ use Rattle.interpreter.proofs.Possible.{history-fit, own-fit}
 use Rattle.interpreter.proofs.unit.Allowed.{read-allowed}
 use Rattle.interpreter.proofs.demands.histories.Pieces.{after-append, newline-after, recut-state}
 use Rattle.interpreter.proofs.Lists.{is-empty}
-use Rattle.interpreter.proofs.demands.Limits.{good-at, no-conflict}
+use Rattle.interpreter.proofs.demands.Limits.{no-conflict}
 use Rattle.interpreter.proofs.demands.trip.ReadBack.{plainByte, plainText, answer-sets, answer-plain}
 use Rattle.interpreter.proofs.demands.trip.SentUnit as sent
 use Rattle.interpreter.proofs.demands.trip.AnswerWaits.{Left, waits, gone, left-none, Quiet, quiet, Emptied, emptied}
@@ -72,7 +72,7 @@ module _ (i : ℕ) (b : Box) (fit : Fit mostAnswer b) (q : Asks i b) where
 
   plain : plainText a ≡ true
   unfolding answer-of
-  plain = answer-plain s i there (valueAt s i) (good-at s (fit .core .settings) i there)
+  plain = answer-plain s i there (valueAt s i) (fit .core .settings i there)
 
   query-line : endLine b ≡ box (withAnswer (a ++ 10 ∷ []) (withLine [] false (b .core))) (atNewline b .trouble)
   unfolding endLine runLine plainText answer-of if_then_else_
@@ -136,7 +136,7 @@ module _ (i : ℕ) (b : Box) (fit : Fit mostAnswer b) (h : i < count) (a : Text)
         gapWhite = q .gapWhite;
         gapThere = q .gapThere;
         rightWhite = q .rightWhite;
-        plain = rw is (answer-plain (b .core .settings) i h (valueAt (b .core .settings) i) (good-at (b .core .settings) (fit .core .settings) i h));
+        plain = rw is (answer-plain (b .core .settings) i h (valueAt (b .core .settings) i) (fit .core .settings i h));
       }
 
   back-line : (endLine b ≡ box c (b .trouble)) × (lineRefusal b ≡ 0)
@@ -144,7 +144,7 @@ module _ (i : ℕ) (b : Box) (fit : Fit mostAnswer b) (h : i < count) (a : Text)
   back-line =
       let s = b .core .settings in
       let n : atNewline b ≡ box c (b .trouble) = none-interrupted c (b .trouble) none in
-      let w = good-at s (fit .core .settings) i h in
+      let w = fit .core .settings i h in
       let d = answer-sets s i h (valueAt s i) w in
       let clear = no-conflict s (fit .core .settings) i in
       let r = sent.reads-line i (q .left) (q .header) (q .gap) a (q .right) parts s (Change (Put i (valueAt s i) On)) (rw is d) in

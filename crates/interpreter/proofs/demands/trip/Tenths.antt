@@ -13,9 +13,8 @@ use lib.Signed.{nonNeg}
 use borrow.Author.Tests.{ltb-true, lt-ltb, le-leb, lt-leb, ne-eqb}
 use Rattle.registers.specs.Text.{Text, if_then_else_, digit, small, letter, capital, every, empty, first, start, after}
 use Rattle.registers.specs.Check.{passed, check, _>>=_, _>>_}
-use Rattle.registers.specs.Number.{sign, point, afterSign, fractionOf, afterFraction, exponentOf, afterExponent, lowering, written, numeralFrom, numeral, decimalOf, valueOf, scaled, number}
+use Rattle.registers.specs.Number.{sign, point, afterSign, fractionOf, afterFraction, exponentOf, afterExponent, lowering, written, numeralFrom, numeral, decimalOf, valueOf, scaled, number, mostDigits}
 use Rattle.registers.specs.Suffix.{remains}
-use Rattle.registers.specs.NumberParts.{held}
 use Rattle.registers.specs.Rounding.{nearest, sizeIn, rounded, sideIn}
 use Rattle.registers.specs.Answer.{inPlaces, decimal, tenths, signedText}
 use Rattle.registers.specs.declared.number.Decimal.{Decimal}
@@ -66,7 +65,7 @@ tenths-is : (n : ℕ) → tenths n ≡ decimal (n / 10) ++ 46 ∷ (48 + n % 10) 
 unfolding tenths
 tenths-is n = rw (decimal-one (n % 10) (omega arith))
 
-whole : (n : ℕ) → n < held → Makes (n / 10) (decimal (n / 10))
+whole : (n : ℕ) → n < 10 ^ mostDigits → Makes (n / 10) (decimal (n / 10))
 unfolding decimal
 whole n h = makes-places 20 (n / 10) (omega arith)
 
@@ -80,7 +79,7 @@ to-point (d ∷ ds) r h =
     (rw (p .0, ih .0), rw (p .0, ih .1))
 
 -- check 6
-number-tenths : (q : Quantity) (t : Text) (n : ℕ) → n < held → afterSign t ≡ tenths n
+number-tenths : (q : Quantity) (t : Text) (n : ℕ) → n < 10 ^ mostDigits → afterSign t ≡ tenths n
     → number q t ≡ passed (record { minus = eqb (first t) 45; digits = n; up = 0; down = 1 })
 unfolding number written valueOf decimalOf scaled remains fractionOf afterFraction exponentOf afterExponent lowering numeralFrom
     check _>>=_ _>>_ if_then_else_ letter small capital
@@ -91,7 +90,7 @@ number-tenths q t n h e =
     let m = makes-more n (n % 10) (omega arith) (omega arith) w in
     let split = to-point ds (d ∷ []) (w .all) in
     let few = few-digits (ds ++ d ∷ []) (holds (m .all)) in
-    rw (e, tenths-is n, split .0, split .1, figure (n % 10) (omega arith), some-behind ds d [], few, m .value, lt-ltb n held h)
+    rw (e, tenths-is n, split .0, split .1, figure (n % 10) (omega arith), some-behind ds d [], few, m .value, lt-ltb n (10 ^ mostDigits) h)
 
 -- what a text starts with that is a number and has no sign
 record Starts (b : ℕ) : Type 0 where
@@ -119,7 +118,7 @@ abbrev pub asTenths : ℤ → Decimal
 asTenths v = record { minus = not (nonNeg v); digits = natAbs v; up = 0; down = 1 }
 
 -- checks 5 and 6
-pub tenths-read : (ws : List String) (q : Quantity) (v : ℤ) → natAbs v < held → parameter ws true q (signedText tenths v) ≡ passed (Figure (asTenths v))
+pub tenths-read : (ws : List String) (q : Quantity) (v : ℤ) → natAbs v < 10 ^ mostDigits → parameter ws true q (signedText tenths v) ≡ passed (Figure (asTenths v))
 unfolding parameter afterSign digit letter small if_then_else_ check _>>_ _>>=_
 tenths-read ws q (pos n) h =
     let s : Starts (first (tenths n)) = rw (tenths-is n) (starts (decimal (n / 10)) _ (whole n h .all)) in
@@ -150,12 +149,12 @@ tenths-some (pos n) = rw (tenths-is n) (some-behind (decimal (n / 10)) 46 _)
 tenths-some (negsuc n) = refl
 
 module _ (p : ℕ → Bool) (minus : p 45 ≡ true) (dot : p 46 ≡ true) (figures : (b : ℕ) → digit b ≡ true → p b ≡ true) where
-  unsigned : (n : ℕ) → n < held → every p (tenths n) ≡ true
+  unsigned : (n : ℕ) → n < 10 ^ mostDigits → every p (tenths n) ≡ true
   unsigned n h =
       let ds = decimal (n / 10) in
       let last = figures (48 + n % 10) (figure (n % 10) (omega arith)) in
       rw (tenths-is n) (every-append p ds _ (every-map digit p figures ds (whole n h .all)) (and-true dot (and-true last refl)))
 
-  pub tenths-bytes : (v : ℤ) → natAbs v < held → every p (signedText tenths v) ≡ true
+  pub tenths-bytes : (v : ℤ) → natAbs v < 10 ^ mostDigits → every p (signedText tenths v) ≡ true
   tenths-bytes (pos n) h = unsigned n h
   tenths-bytes (negsuc n) h = and-true minus (unsigned (suc n) h)
