@@ -69,7 +69,7 @@ class Program:
 
 class Bench(Program):
     """bench24 from power-up: lines only, and each answer is taken at once."""
-    # asked behind each line, so that it is known when the line is done; it changes nothing
+    # asked after each line, so that it is known when the line is done; it changes nothing
     DONE = (b'*OPC?;*TST?;*OPC?;*TST?\n', '1;0;1;0')
 
     def __init__(self):

@@ -32,7 +32,7 @@ impl Answer {
         self.length = 0;
     }
 
-    /// 01, check 9: adds one unit's answer behind a separator, if the final newline still fits.
+    /// 01, check 9: adds one unit's answer after a separator, if the final newline still fits.
     #[inline]
     pub(crate) fn add(&mut self, text: &[u8]) -> Result<(), Error> {
         let start = self.length + usize::from(self.has_bytes());
@@ -48,7 +48,7 @@ impl Answer {
         Ok(())
     }
 
-    /// Puts the newline behind the answers of a line, if there are any; check 9 kept its place.
+    /// Puts the newline after the answers of a line, if there are any; check 9 kept its place.
     pub(crate) fn end(&mut self) {
         if self.has_bytes() {
             self.bytes[self.length] = NEWLINE;

@@ -224,7 +224,7 @@ fn read_exponent(text: &[u8]) -> (Exponent, &[u8]) {
     (Exponent { negative, size }, &digits[length..])
 }
 
-/// The power of ten that all of the text behind a number stands for.
+/// The power of ten that all of the text after a number stands for.
 fn read_suffix(text: &[u8], quantity: Option<Quantity>) -> Result<i64, Error> {
     match (text.first(), quantity) {
         (None, _) => Ok(0),

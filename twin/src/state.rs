@@ -115,7 +115,7 @@ impl State {
         }
     }
 
-    /// A newline, behind these last bytes of the line.
+    /// A newline, after these last bytes of the line.
     fn end_line(&mut self, last: &[u8]) {
         self.discard_waiting_answer();
         if self.line.is_whole(last) {

@@ -116,17 +116,17 @@ module _ (before during : List Event) (line : ALine before during) where
         (sym (recut-results isTake (λ xs. refl) powerUp h (sent ++ later) is ∙ results-append isTake powerUp sent later))
         (sym (recut-results isTake (λ xs. refl) powerUp h′ (short-sent ++ later) is′ ∙ results-append isTake powerUp short-sent later
         ∙ ap (λ (rs : List Result). rs ++ answers (after powerUp short-sent) later) (sym (same-results isTake (λ xs. refl)))))
-        (behind (watch (after powerUp sent) later) (answers powerUp sent) _ _ (after-agree later .1))
+        (answers-after (watch (after powerUp sent) later) (answers powerUp sent) _ _ (after-agree later .1))
       where
-        behind : (w : Watch) (x a b : List Result) → AgreeAnswers w a b → AgreeAnswers w (x ++ a) (x ++ b)
-        behind neither x a b e = ap (λ (rs : List Result). x ++ rs) e
-        behind asked x a b e = tt
-        behind cleared x a b e = ap (λ (rs : List Result). x ++ rs) e
+        answers-after : (w : Watch) (x a b : List Result) → AgreeAnswers w a b → AgreeAnswers w (x ++ a) (x ++ b)
+        answers-after neither x a b e = ap (λ (rs : List Result). x ++ rs) e
+        answers-after asked x a b e = tt
+        answers-after cleared x a b e = ap (λ (rs : List Result). x ++ rs) e
 
 -- the results of a history in any pieces, after those of a first part
-behind-first : (h first onward : List Event) (n : ℕ) → Recut h (first ++ onward) → others first ≡ n
+after-first-at : (h first onward : List Event) (n : ℕ) → Recut h (first ++ onward) → others first ≡ n
     → drop n (replies powerUp h) ≡ replies (after powerUp first) onward
-behind-first h first onward n e m =
+after-first-at h first onward n e m =
     ap (drop n) (recut-results noPiece (λ xs. refl) powerUp h (first ++ onward) e ∙ results-append noPiece powerUp first onward)
     ∙ drop-at (replies powerUp first) (replies (after powerUp first) onward) n (results-length noPiece powerUp first ∙ m)
 
@@ -150,9 +150,9 @@ module _ (before during : List Event) (line : ALine before during) (h h′ meanw
       rw w at (after-agree before during line meanwhile .0) in
       let same : after powerUp (sent ++ meanwhile) ≡ after powerUp (short ++ meanwhile) =
       after-append powerUp sent meanwhile ∙ a ∙ sym (after-append powerUp short meanwhile) in
-      behind-first h (sent ++ meanwhile) onward n is (others-line before during meanwhile during refl)
+      after-first-at h (sent ++ meanwhile) onward n is (others-line before during meanwhile during refl)
       ∙ ap (λ (b : Box). replies b onward) same
-      ∙ sym (behind-first h′ (short ++ meanwhile) onward n is′ (others-line before during meanwhile (keep k during) (others-keep k during)))
+      ∙ sym (after-first-at h′ (short ++ meanwhile) onward n is′ (others-line before during meanwhile (keep k during) (others-keep k during)))
 
 pub demand3 : Statement
 demand3 before during later h h′ line is is′ =

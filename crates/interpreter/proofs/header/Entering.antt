@@ -150,14 +150,14 @@ module _ {joined : Bool} {t : Text} {at : ℕ} {path keys : List ℕ} {count i :
     is-good : name w ≡ true
     is-good = is-name (drop i t) lettered
 
-    behind : drop (length w) (drop i t) ≡ z
-    behind = drop-drop (length w) i t ∙ rw (is .end)
+    after-name : drop (length w) (drop i t) ≡ z
+    after-name = drop-drop (length w) i t ∙ rw (is .end)
 
     split : drop i t ≡ w ++ z
-    split = name-split (drop i t) lettered ∙ rw behind
+    split = name-split (drop i t) lettered ∙ rw after-name
 
     ends : wordByte (first z) ≡ false
-    ends = rw behind at (name-ends (drop i t) lettered)
+    ends = rw after-name at (name-ends (drop i t) lettered)
 
     module _ {more : ℕ} {left : List ℕ} (h : Entered keys count (x .key) more left) (same : length left ≡ length keys) where
       -- it is joined to another

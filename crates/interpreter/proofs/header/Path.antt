@@ -73,8 +73,8 @@ module _ (path names : List Text) (known : every name path ≡ true) (good : eve
 module _ (before : List ℕ) (used : ℕ) (room : used < mostNames) (was : length before ≡ mostNames) (n : Text)
     (keys : List ℕ) (long : length keys ≡ mostNames) (count : ℕ) (few : count ≤ mostNames)
     (held : take count keys ≡ take mostNames (take used before ++ keyOf n ∷ [])) where
-  behind : take count keys ≡ take used before ++ keyOf n ∷ []
-  behind =
+  entered-after : take count keys ≡ take used before ++ keyOf n ∷ []
+  entered-after =
       let l = length-take used before in
       let a = length-append (take used before) (keyOf n ∷ []) in
       held ∙ take-all mostNames (take used before ++ keyOf n ∷ []) (omega arith)
@@ -83,13 +83,13 @@ module _ (before : List ℕ) (used : ℕ) (room : used < mostNames) (was : lengt
   counted =
       let l = length-take used before in
       let a = length-append (take used before) (keyOf n ∷ []) in
-      let c = sym (length-take-le count keys (omega arith)) ∙ ap length behind in
+      let c = sym (length-take-le count keys (omega arith)) ∙ ap length entered-after in
       omega arith
 
   pub star-row : name n ≡ true → (asked : Bool) → rowOfKeys true (drop used (take count keys)) asked ≡ rowOf true (n ∷ []) asked
   star-row e asked =
       let d : drop used (take count keys) ≡ keyOf n ∷ [] =
-      rw behind (subst (λ (k : ℕ). drop k (take used before ++ keyOf n ∷ []) ≡ keyOf n ∷ []) (length-take-le used before (omega arith)) (drop-append-seam (take used before) (keyOf n ∷ []))) in
+      rw entered-after (subst (λ (k : ℕ). drop k (take used before ++ keyOf n ∷ []) ≡ keyOf n ∷ []) (length-take-le used before (omega arith)) (drop-append-seam (take used before) (keyOf n ∷ []))) in
       rw d (row-same true (n ∷ []) asked (rw e))
 
   pub star-left : (path : List Text) → Holds path before used → Holds path keys (count - 1)
@@ -98,5 +98,5 @@ module _ (before : List ℕ) (used : ℕ) (room : used < mostNames) (was : lengt
       let u : count - 1 ≡ used = omega arith in
       let k : take used keys ≡ take used before =
       sym (take-take used count keys (omega arith))
-      ∙ rw behind (subst (λ (k : ℕ). take k (take used before ++ keyOf n ∷ []) ≡ take used before) (length-take-le used before (omega arith)) (take-append-seam (take used before) (keyOf n ∷ []))) in
+      ∙ rw entered-after (subst (λ (k : ℕ). take k (take used before ++ keyOf n ∷ []) ≡ take used before) (length-take-le used before (omega arith)) (take-append-seam (take used before) (keyOf n ∷ []))) in
       rw u (record { all = p .all; is = k ∙ p .is; few = p .few })

@@ -38,9 +38,9 @@ module _ (t : Text) (at b : ℕ) (is : b ≡ first (drop at t)) where
           omega arith
       go false q = omega arith
 
-  behind : drop (at + boolByte (eqb b (code "?"))) t ≡ unasked (drop at t)
+  after-mark : drop (at + boolByte (eqb b (code "?"))) t ≡ unasked (drop at t)
   unfolding unasked if_then_else_
-  behind = rw (sym is) (go (eqb b (code "?")))
+  after-mark = rw (sym is) (go (eqb b (code "?")))
     where
       go : (q : Bool) → drop (at + boolByte q) t ≡ (if q then rest (drop at t) else drop at t)
       go true = sym (rest-at t at)
@@ -50,7 +50,7 @@ module _ (t : Text) (at b : ℕ) (is : b ≡ first (drop at t)) where
     read : (g : Bool) → g ≡ empty (start visible (drop e t)) → TailRead t at held (record { good = g; asked = eqb b (code "?"); end = e; count = held })
     read g k =
         record {
-          good = k ∙ ap (λ (u : Text). empty (start visible u)) (ap (λ (n : ℕ). drop n t) to ∙ behind);
+          good = k ∙ ap (λ (u : Text). empty (start visible u)) (ap (λ (n : ℕ). drop n t) to ∙ after-mark);
           asked = ap (λ (x : ℕ). eqb x (code "?")) is;
           end = to ∙ ap (λ (x : ℕ). at + boolByte (eqb x (code "?"))) is;
           count = refl;

@@ -52,8 +52,8 @@ joined-more (x ∷ a) t h = refl
 -- ---- a text that was written into the tail that was lent, seen from the whole buffer
 
 module _ (out tail t : Text) (k : ℕ) (bytes : take (length t) tail ≡ t) (long : length t ≤ length tail) where
-  behind : (p l : Text) (m : ℕ) → length p ≡ m → take (m + length t) (p ++ (tail ++ l)) ≡ p ++ t
-  behind p l m e =
+  after-front : (p l : Text) (m : ℕ) → length p ≡ m → take (m + length t) (p ++ (tail ++ l)) ≡ p ++ t
+  after-front p l m e =
       rw (← e)
       (take-append-add p (tail ++ l) (length t)
       ∙ ap (λ (y : Text). p ++ y) (take-append-le (length t) tail l long ∙ bytes))
@@ -61,13 +61,13 @@ module _ (out tail t : Text) (k : ℕ) (bytes : take (length t) tail ≡ t) (lon
   -- the separator is written first: the text of the first answer stands over it
   stands : (n : ℕ) → n < length out → take (start n + length t) (putMid (start n) k (set out n (code ";")) tail) ≡ joined (take n out) t
   unfolding joined if_then_else_
-  stands zero h = behind [] (drop k (set out 0 (code ";"))) 0 refl
+  stands zero h = after-front [] (drop k (set out 0 (code ";"))) 0 refl
   stands (suc n) h =
       let p : Text = take (suc n) out ++ code ";" ∷ [] in
       let some : 0 < length (take (suc n) out) = rw length-take (omega arith) in
       let size : length p ≡ suc n + 1 = simp (length-append, length-take) (omega arith) in
       let front : take (suc n + 1) (set out (suc n) (code ";")) ≡ p = rw (add-one (suc n)) (take-suc-set out (suc n) (code ";") h) in
-      rw (start-more n, front, behind p (drop k (drop (suc n + 1) (set out (suc n) (code ";")))) (suc n + 1) size, joined-more (take (suc n) out) t some)
+      rw (start-more n, front, after-front p (drop k (drop (suc n + 1) (set out (suc n) (code ";")))) (suc n + 1) size, joined-more (take (suc n) out) t some)
       (append-snoc (take (suc n) out) (code ";") t)
 
 -- ---- check 9

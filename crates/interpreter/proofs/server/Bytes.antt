@@ -79,14 +79,14 @@ lines-part (x ∷ xs) (d ∷ ds) rest e = go (eqb x 10) refl (linesOf xs) refl (
         let m = more (u ∷ ds) (is ∙ ap (λ (ks : List Text). u ∷ ks) (tail-eq-of-cons-eq both)) in
         rw (← head-eq-of-cons-eq both, n, q, m)
 
-lines-behind : (done rest : List Text) (t : Text) → linesOf t ≡ done ++ rest → linesOf (drop (total done) t) ≡ rest
+lines-after : (done rest : List Text) (t : Text) → linesOf t ≡ done ++ rest → linesOf (drop (total done) t) ≡ rest
 unfolding linesOf
-lines-behind [] rest t e = e
-lines-behind (d ∷ done) rest [] e = absurd (nil≢cons e)
-lines-behind (d ∷ done) rest (x ∷ xs) e =
+lines-after [] rest t e = e
+lines-after (d ∷ done) rest [] e = absurd (nil≢cons e)
+lines-after (d ∷ done) rest (x ∷ xs) e =
     let t = x ∷ xs in
     let both = sym (lines-first t (omega arith)) ∙ e in
-    let more = lines-behind done rest (drop (length (firstLine t)) t) (tail-eq-of-cons-eq both) in
+    let more = lines-after done rest (drop (length (firstLine t)) t) (tail-eq-of-cons-eq both) in
     rw (← head-eq-of-cons-eq both, ← drop-drop (total done) (length (firstLine t)) t) more
 
 -- a first part of the lines: how many bytes it has, which they are, and that it ends where a line does
@@ -100,7 +100,7 @@ module _ (t : Text) (done rest : List Text) (e : linesOf t ≡ done ++ rest) whe
   first-lines = lines-part t done rest e
 
   pub first-whole : WholeLines (total done) t
-  first-whole = rw (first-lines, lines-behind done rest t e) e
+  first-whole = rw (first-lines, lines-after done rest t e) e
 
 -- whole lines, and then whole lines of what is left
 pub whole-further : (t : Text) (n m : ℕ) → n + m ≤ length t → WholeLines n t → WholeLines m (drop n t)

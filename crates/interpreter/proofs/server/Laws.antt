@@ -124,7 +124,7 @@ module _ (begun : Service) (room : ℕ) (input line out output : Text) (f : Flow
           let m = first-within (drop (f .read) input) in
           let long = length-paste output written out′ (r .present .answered) (omega arith) (omega arith) in
           let rest = lines-first (drop (f .read) input) (omega arith) in
-          let behind : drop (length first) (drop (f .read) input) ≡ drop (r .read) input = rw (is, drop-drop) in
+          let left-over : drop (length first) (drop (f .read) input) ≡ drop (r .read) input = rw (is, drop-drop) in
           let one = served-one f r line out first line′ out′ w outs (f .read) (take written output) (drop written output) (omega arith) in
           let now : serviceAt (taken-from r) end line′ out′ output′ ≡ servedLine (serviceAt f written line out output) first =
           rw (is, e, u, take-paste output written out′ (r .present .answered) (omega arith) (omega arith), drop-paste output written out′ (r .present .answered) (omega arith) (omega arith), ← drop-drop (r .present .answered) written output)
@@ -136,7 +136,7 @@ module _ (begun : Service) (room : ℕ) (input line out output : Text) (f : Flow
             wrote = rw (u, long) (omega arith);
             left =
                 rw now
-                (sym (serves-on (serviceAt f written line out output) _ (linesOf (drop (r .read) input)) (omega arith)) ∙ (rw (rest, behind) at (g .left)));
+                (sym (serves-on (serviceAt f written line out output) _ (linesOf (drop (r .read) input)) (omega arith)) ∙ (rw (rest, left-over) at (g .left)));
           }
 
   pub serve-end : (f₀ : Flow) (line₀ out₀ output₀ : Text) → begun ≡ service (flowBox f₀ line₀ out₀) 0 [] output₀

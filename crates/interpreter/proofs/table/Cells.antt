@@ -28,9 +28,9 @@ pub word-byte : (w i : ℕ) → w < wordCount → i < wordSize → getD commandT
 unfolding commandTable wordCell
 word-byte w i h k = let l = words-long in List·getD-append wordTable searchTable 0 (w * wordSize + i) (omega arith)
 
-behind-words : (i : ℕ) → getD commandTable (wordBytes + i) 0 ≡ getD searchTable i 0
+after-words : (i : ℕ) → getD commandTable (wordBytes + i) 0 ≡ getD searchTable i 0
 unfolding commandTable
-behind-words i =
+after-words i =
     let l = words-long in
     let e : wordBytes + i ≡ length wordTable + i = omega arith in
     rw e (getD-append-add wordTable searchTable i 0)
@@ -40,17 +40,17 @@ unfolding searchTable rowCell
 row-byte r i h k =
     let l = rows-long in
     let e : wordBytes + r * rowSize + i ≡ wordBytes + (r * rowSize + i) = omega arith in
-    rw e (behind-words (r * rowSize + i) ∙ List·getD-append rowTable (keyTable ++ lists) 0 (r * rowSize + i) (omega arith))
+    rw e (after-words (r * rowSize + i) ∙ List·getD-append rowTable (keyTable ++ lists) 0 (r * rowSize + i) (omega arith))
 
 -- a byte of what comes after the numbers
-behind-keys : (i : ℕ) → getD commandTable (firstCode + i) 0 ≡ getD lists i 0
+after-keys : (i : ℕ) → getD commandTable (firstCode + i) 0 ≡ getD lists i 0
 unfolding searchTable
-behind-keys i =
+after-keys i =
     let r = rows-long in
     let k = keys-long in
     let e : firstCode + i ≡ wordBytes + (length rowTable + (length keyTable + i)) = omega arith in
     rw e
-    (behind-words (length rowTable + (length keyTable + i))
+    (after-words (length rowTable + (length keyTable + i))
     ∙ getD-append-add rowTable (keyTable ++ lists) (length keyTable + i) 0
     ∙ getD-append-add keyTable lists i 0)
 
@@ -59,7 +59,7 @@ unfolding codeTable
 code-byte b h =
     let c = codes-long in
     let z : 0 + b ≡ b = omega arith in
-    behind-keys b ∙ List·getD-append codeTable startTable 0 b (omega arith) ∙ list-at codeOf 0 byteCount b h ∙ ap codeOf z
+    after-keys b ∙ List·getD-append codeTable startTable 0 b (omega arith) ∙ list-at codeOf 0 byteCount b h ∙ ap codeOf z
 
 pub start-byte : (x : ℕ) → x < markCount → getD commandTable (firstStart + x) 0 ≡ startOf x
 unfolding startTable
@@ -67,7 +67,7 @@ start-byte x h =
     let c = codes-long in
     let e : firstStart + x ≡ firstCode + (length codeTable + x) = omega arith in
     let z : 0 + x ≡ x = omega arith in
-    rw e (behind-keys (length codeTable + x) ∙ getD-append-add codeTable startTable x 0) ∙ list-at startOf 0 markCount x h ∙ ap startOf z
+    rw e (after-keys (length codeTable + x) ∙ getD-append-add codeTable startTable x 0) ∙ list-at startOf 0 markCount x h ∙ ap startOf z
 
 -- ---- the numbers of a node's word
 

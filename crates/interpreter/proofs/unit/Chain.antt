@@ -31,7 +31,7 @@ use Rattle.interpreter.specs.declared.parameter.Decision.the-variants.{R
 use Rattle.interpreter.proofs.Lists.{rest-is}
 use Rattle.interpreter.proofs.header.Laws.{found-most}
 use Rattle.interpreter.proofs.Checks.{apart, first-check}
-use Rattle.interpreter.proofs.unit.HeaderAllowed.{allowed-behind}
+use Rattle.interpreter.proofs.unit.HeaderAllowed.{allowed-after}
 use Rattle.interpreter.proofs.unit.Found.{role-found}
 
 -- ---- the header starts at s, and the parameters' text comes after it
@@ -119,7 +119,7 @@ module _ (s : Settings) (path : List Text) (u : Text) where
       let k : Deed → Checked Read = λ d. passed (record { deed = d; path = pathAfter (h .place) path (h .names) }) in
       let role = role-found (isCommon (h .place)) (fullNames (h .place) path (h .names)) (h .query) in
       let e : readUnit s path u ≡ (check 101 (every allowed t) >> checksWith s asked (parameters t) (roleFound row) k) =
-      rw (allowed-behind u h is, is, f .query, f .at, role) in
+      rw (allowed-after u h is, is, f .query, f .at, role) in
       e ∙ ap (λ (m : Checked Read). check 101 (every allowed t) >> m) (sym (decided-then s row asked t k))
       ∙ sym (first-check (check 101 (every allowed t)) (decided s row asked t) k)
 

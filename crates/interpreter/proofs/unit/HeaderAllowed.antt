@@ -84,8 +84,8 @@ header-allowed t h e = body-allowed t (every-map solid allowed solid-allowed (bo
 
 -- ---- the unit
 
-pub allowed-behind : (u : Text) (h : Header) → header (headerText u) ≡ passed h → every allowed u ≡ every allowed (parameterText u)
+pub allowed-after : (u : Text) (h : Header) → header (headerText u) ≡ passed h → every allowed u ≡ every allowed (parameterText u)
 unfolding trim
-allowed-behind u h e =
+allowed-after u h e =
     let v = after white u in
     skip-white u ∙ parts v ∙ rw (header-allowed (start visible v) h e) (skip-white (after visible v) ∙ sym (trim-white (after white (after visible v))))

@@ -17,14 +17,14 @@ unfolding trimEnd if_then_else_
 white-more [] x h = rw h
 white-more (y ∷ l) x h = rw (white-more l x h)
 
-pub some-behind : (l : Text) (x : ℕ) (r : Text) → empty (l ++ x ∷ r) ≡ false
-some-behind [] x r = refl
-some-behind (y ∷ l) x r = refl
+pub some-after : (l : Text) (x : ℕ) (r : Text) → empty (l ++ x ∷ r) ≡ false
+some-after [] x r = refl
+some-after (y ∷ l) x r = refl
 
 visible-more : (l : Text) (x : ℕ) → white x ≡ false → trimEnd (l ++ x ∷ []) ≡ l ++ x ∷ []
 unfolding trimEnd if_then_else_
 visible-more [] x h = rw h
-visible-more (y ∷ l) x h = rw (visible-more l x h, and-fails (white y) (empty (l ++ x ∷ [])) (some-behind l x []))
+visible-more (y ∷ l) x h = rw (visible-more l x h, and-fails (white y) (empty (l ++ x ∷ [])) (some-after l x []))
 
 -- what a text up to a place keeps, by the byte before that place
 module _ (l : Text) (e : ℕ) (pos : 0 < e) (h : e ≤ length l) where

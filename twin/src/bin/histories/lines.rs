@@ -215,7 +215,7 @@ impl Lines {
         }
     }
 
-    /// The faulty unit alone, or behind or before a good line.
+    /// The faulty unit alone, or after or before a good line.
     fn line_with(&self, dice: &mut Dice, fault: &str) -> Vec<u8> {
         match dice.below(4) {
             // An empty unit needs another beside it, or the line is blank.

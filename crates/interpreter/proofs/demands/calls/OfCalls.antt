@@ -73,10 +73,10 @@ answered s t i before h rs ran e asks =
     ∙ demand2 .answered (boxOf s) (own s t h rs ran) i before asks
 
 -- the take that comes after these events, in a history in any pieces
-take-behind : (b : Box) (h first late : List Event) (buffer : Text) → Recut h (first ++ take buffer ∷ late)
+take-after : (b : Box) (h first late : List Event) (buffer : Text) → Recut h (first ++ take buffer ∷ late)
     → drop (howMany isTake first) (resultsOf isTake b h) ≡ happens (after b first) (take buffer) .result ∷ resultsOf isTake (happens (after b first) (take buffer) .box) late
 unfolding resultsOf if_then_else_
-take-behind b h first late buffer e =
+take-after b h first late buffer e =
     ap (drop (howMany isTake first)) (recut-results isTake (λ xs. refl) b h (first ++ take buffer ∷ late) e ∙ results-append isTake b first (take buffer ∷ late))
     ∙ drop-at (resultsOf isTake b first) (resultsOf isTake (after b first) (take buffer ∷ late)) (howMany isTake first) (results-length isTake b first)
 
@@ -86,7 +86,7 @@ round-trip s t i a buffer before early late h rs more r ran e told p =
     let first = queried before ++ early in
     let f : Recut h (first ++ take buffer ∷ (late ++ newline ∷ [])) = rw (append-assoc first (take buffer ∷ late) (newline ∷ [])) at e in
     let is : r ≡ takenFrom b before early buffer =
-    head-eq-of-cons-eq (sym told ∙ ap (drop (howMany isTake first)) (chosen-is s t h rs ran isTake) ∙ take-behind b h first (late ++ newline ∷ []) buffer f) in
+    head-eq-of-cons-eq (sym told ∙ ap (drop (howMany isTake first)) (chosen-is s t h rs ran isTake) ∙ take-after b h first (late ++ newline ∷ []) buffer f) in
     rw (history s t h rs ran .box) (demand2 .roundTrip b i a buffer before early late h (rw is at p) e)
 
 pub demand2-of-calls : Demand2OfCalls

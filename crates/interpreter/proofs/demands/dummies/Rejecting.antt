@@ -94,17 +94,17 @@ line s = received (bytes s ++ 10 ∷ [])
 abbrev takes : Event
 takes = take (replicate 8 0)
 
-abbrev taken-behind : List Event → Result
-taken-behind es = happens (after powerUp es) takes .result
+abbrev taken-after : List Event → Result
+taken-after es = happens (after powerUp es) takes .result
 
 record Computed : Type 0 where
-  none : taken-behind [] .number ≡ 2
-  set : taken-behind (line "VOLT 5" ∷ []) .number ≡ 2
-  asked : taken-behind (line "VOLT 5" ∷ line "VOLT?" ∷ []) .number ≡ 0
-  volts : taken-behind (line "VOLT?" ∷ []) .number ≡ 0
-  hertz : taken-behind (line "FREQ?" ∷ []) .number ≡ 0
-  four : length (L.take (taken-behind (line "VOLT?" ∷ []) .value) (taken-behind (line "VOLT?" ∷ []) .buffer)) ≡ 4
-  five : length (L.take (taken-behind (line "FREQ?" ∷ []) .value) (taken-behind (line "FREQ?" ∷ []) .buffer)) ≡ 5
+  none : taken-after [] .number ≡ 2
+  set : taken-after (line "VOLT 5" ∷ []) .number ≡ 2
+  asked : taken-after (line "VOLT 5" ∷ line "VOLT?" ∷ []) .number ≡ 0
+  volts : taken-after (line "VOLT?" ∷ []) .number ≡ 0
+  hertz : taken-after (line "FREQ?" ∷ []) .number ≡ 0
+  four : length (L.take (taken-after (line "VOLT?" ∷ []) .value) (taken-after (line "VOLT?" ∷ []) .buffer)) ≡ 4
+  five : length (L.take (taken-after (line "FREQ?" ∷ []) .value) (taken-after (line "FREQ?" ∷ []) .buffer)) ≡ 5
 
 computed : Computed
 unfolding if_then_else_ bytes same white printable digit letter wordByte small capital _>>=_ _>>_ check shortForm longForm matches
@@ -120,10 +120,10 @@ computed = record { none = refl; set = refl; asked = refl; volts = refl; hertz =
 -- ---- none of the five meets the definition
 
 module _ (p : Program) (m : Meets p) where
-  takes-next : (es : List Event) → tellsNext p es takes ≡ taken-behind es
+  takes-next : (es : List Event) → tellsNext p es takes ≡ taken-after es
   takes-next es = next-is p m es takes
 
-  number-next : (es : List Event) → tellsNext p es takes .number ≡ taken-behind es .number
+  number-next : (es : List Event) → tellsNext p es takes .number ≡ taken-after es .number
   number-next es = ap (λ (r : Result). r .number) (takes-next es)
 
   no-refuser : RefusesUnits p → ⊥
@@ -141,7 +141,7 @@ module _ (p : Program) (m : Meets p) where
 
   no-answerer : (a : Text) → AnswersAlike a p → ⊥
   no-answerer a h =
-      let is : (es : List Event) → taken-behind es .number ≡ 0 → L.take (taken-behind es .value) (taken-behind es .buffer) ≡ a =
+      let is : (es : List Event) → taken-after es .number ≡ 0 → L.take (taken-after es .value) (taken-after es .buffer) ≡ a =
       λ es n. sym (ap (λ (r : Result). L.take (r .value) (r .buffer)) (takes-next es)) ∙ h es (replicate 8 0) (number-next es ∙ n) in
       let v = ap length (is (line "VOLT?" ∷ []) (computed .volts)) in
       let w = ap length (is (line "FREQ?" ∷ []) (computed .hertz)) in

@@ -182,9 +182,9 @@ module _ (b : Box) (own : Own b) (i : ℕ) (a buffer : Text) (before early late 
   fit es = history-fit b es (own-fit b own)
 
   -- after the query's newline
-  behind : after b (queried before)
+  queried-is : after b (queried before)
       ≡ box (withAnswer (answer-of (asking .core .settings) i ++ 10 ∷ []) (withLine [] false (asking .core))) (atNewline asking .trouble)
-  behind = newline-after b before ∙ query-line i asking (fit before) asks
+  queried-is = newline-after b before ∙ query-line i asking (fit before) asks
 
   early-quiet : Quiet (after b (queried before)) taking
   early-quiet = rw (after-append b (queried before) early) (quiet (after b (queried before)) early in-early)
@@ -196,7 +196,7 @@ module _ (b : Box) (own : Own b) (i : ℕ) (a buffer : Text) (before early late 
   -- the answer taken is the setting's
   answer-is : a ≡ answer-of (asking .core .settings) i
   answer-is =
-      let w = still (takes .some) (early-quiet .answer) ∙ ap (λ (c : Box). c .core .answer) behind in
+      let w = still (takes .some) (early-quiet .answer) ∙ ap (λ (c : Box). c .core .answer) queried-is in
       sym (front-of a 10) ∙ ap front (sym (took .bytes) ∙ takes .bytes ∙ w) ∙ front-of (answer-of (asking .core .settings) i) 10
 
   late-quiet : Quiet (happens taking (take buffer) .box) sending
@@ -205,7 +205,7 @@ module _ (b : Box) (own : Own b) (i : ℕ) (a buffer : Text) (before early late 
 
   same-settings : sending .core .settings ≡ asking .core .settings
   same-settings =
-      late-quiet .settings ∙ takes .settings ∙ early-quiet .settings ∙ ap (λ (c : Box). c .core .settings) behind
+      late-quiet .settings ∙ takes .settings ∙ early-quiet .settings ∙ ap (λ (c : Box). c .core .settings) queried-is
 
   none : sending .core .answer ≡ []
   none = left-none (subst (λ (x : Text). Left x (sending .core .answer)) (takes .none) (late-quiet .answer))

@@ -27,7 +27,7 @@ use Rattle.registers.proofs.answer.Decimals.{decimal-one}
 use Rattle.registers.proofs.rounding.Sides.{side-on}
 use Rattle.interpreter.specs.Parameter.{Figure, parameter}
 use Rattle.interpreter.proofs.Choices.{if-elim}
-use Rattle.interpreter.proofs.unit.Trims.{some-behind}
+use Rattle.interpreter.proofs.unit.Trims.{some-after}
 use Rattle.interpreter.proofs.Lists.{every-map}
 
 -- ---- a number in decimal
@@ -90,7 +90,7 @@ number-tenths q t n h e =
     let m = makes-more n (n % 10) (omega arith) (omega arith) w in
     let split = to-point ds (d ∷ []) (w .all) in
     let few = few-digits (ds ++ d ∷ []) (holds (m .all)) in
-    rw (e, tenths-is n, split .0, split .1, figure (n % 10) (omega arith), some-behind ds d [], few, m .value, lt-ltb n (10 ^ mostDigits) h)
+    rw (e, tenths-is n, split .0, split .1, figure (n % 10) (omega arith), some-after ds d [], few, m .value, lt-ltb n (10 ^ mostDigits) h)
 
 -- what a text starts with that is a number and has no sign
 record Starts (b : ℕ) : Type 0 where
@@ -145,7 +145,7 @@ tenths-on (negsuc n) = rw (in-steps (suc n), side-on (suc n * 1 * 10) 10 (suc n)
 -- ---- its bytes are digits, a point and a minus
 
 pub tenths-some : (v : ℤ) → empty (signedText tenths v) ≡ false
-tenths-some (pos n) = rw (tenths-is n) (some-behind (decimal (n / 10)) 46 _)
+tenths-some (pos n) = rw (tenths-is n) (some-after (decimal (n / 10)) 46 _)
 tenths-some (negsuc n) = refl
 
 module _ (p : ℕ → Bool) (minus : p 45 ≡ true) (dot : p 46 ≡ true) (figures : (b : ℕ) → digit b ≡ true → p b ≡ true) where
