@@ -4,7 +4,7 @@ use mathlib.Core.Bool.{true, false}
 use Prim.Native.Nat.{ℕ}
 use lib.IntN.{ℤ}
 use Rattle.registers.specs.Text.{Text}
-use Rattle.registers.specs.Check.{Checked, passed, _>>=_, _>>_, check}
+use Rattle.registers.specs.Check.{Checked, refused, passed, _>>=_, _>>_, check}
 use Rattle.registers.specs.Settings.{kindOf, quantityOf, within, examined}
 use Rattle.registers.specs.declared.rounding.Side.{Side}
 use Rattle.registers.specs.declared.rounding.Side.the-variants.{On}
@@ -22,9 +22,12 @@ roundedDeed s i t =
     check 222 (within s i v) >> passed (Change (Put i v (sideGiven (kindOf i) g)))
 
 pub record ExamMode (s : Settings) (i : ℕ) (t : Text) : Type 0 where
-  -- while it is on, only what is on the step is set
-  pub strict : examined s ≡ true → (v : ℤ) (x : Side) → settingDeed s i t ≡ passed (Change (Put i v x)) → x ≡ On
+  -- while it is on, what is off the step is -222
+  pub offStep : examined s ≡ true → (v : ℤ) (x : Side) → (x ≡ On → ⊥) → roundedDeed s i t ≡ passed (Change (Put i v x)) → settingDeed s i t ≡ refused 222
+  -- what is on the step is set as it was, and what was refused is refused as it was
+  pub onStep : (v : ℤ) → roundedDeed s i t ≡ passed (Change (Put i v On)) → settingDeed s i t ≡ roundedDeed s i t
+  pub refusedToo : (n : ℕ) → roundedDeed s i t ≡ refused n → settingDeed s i t ≡ refused n
   -- while it is off, every number is rounded
-  pub lenient : examined s ≡ false → settingDeed s i t ≡ roundedDeed s i t
+  pub off : examined s ≡ false → settingDeed s i t ≡ roundedDeed s i t
   -- and so it always is for a row without a step: "SYSTem:EXAM itself still rounds"
   pub stepless : isNumber (kindOf i) ≡ false → settingDeed s i t ≡ roundedDeed s i t
