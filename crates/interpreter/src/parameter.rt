@@ -88,8 +88,7 @@ pub(crate) fn count(text: &[u8]) -> Counted
     }
 }
 
-// Tells what a setting takes. The words of rows that take no numbers stand first in the table, so where a row's words begin tells
-// that too.
+// Tells what a setting takes; where its words begin in the table tells whether it takes numbers.
 fn setting_takes(row: usize) -> Takes
     requires { ⌜ row < count ⌝ }
     ensures { λ r. ⌜ TakesOf (wordsOf (kindOf row)) (takesNumbers (kindOf row)) (quantityOf row) r ⌝ }

@@ -1,5 +1,4 @@
-// The status record: event status, enables, the three register groups, and the queue of error numbers
-// (without their minus).
+// The status record: event status, enables, the three register groups, and the queue of error numbers, without their minus.
 use crate::error;
 use crate::error::Error;
 use crate::group;
