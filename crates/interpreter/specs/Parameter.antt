@@ -71,14 +71,20 @@ unfoldable pub findWord : ℕ → List String → Text → Checked Given
 findWord i [] t = refused 141
 findWord i (w ∷ ws) t = if matches w t then passed (Word i) else findWord (suc i) ws t
 
+-- "a word; -141 if it has other bytes than letters, digits, underscore, or isn't a word of that row"
+unfoldable pub readWord : List String → Text → Checked Given
+readWord ws t = check 141 (every wordByte t) >> findWord 0 ws t
+
+-- a number, by check 6
+unfoldable pub readFigure : Quantity → Text → Checked Given
+readFigure q t = readNumber q t >>= λ d. passed (Figure d)
+
 -- "First byte a letter: a word .. Digit, sign or point: a number; -104 if the row takes words only, or in any query. Any
 -- other first byte: -104"
 unfoldable pub parameter : List String → Bool → Quantity → Text → Checked Given
 parameter ws numbers q t =
-    if letter (first t) then check 141 (every wordByte t) >> findWord 0 ws t
-    else (if digit (first t) || sign (first t) || point (first t)
-    then (check 104 numbers >> readNumber q t >>= λ d. passed (Figure d))
-    else refused 104)
+    if letter (first t) then readWord ws t
+    else (if digit (first t) || sign (first t) || point (first t) then (check 104 numbers >> readFigure q t) else refused 104)
 
 -- "Number rows also take MINimum and MAXimum, in the query too"
 abbrev pub limitWords : List String
@@ -147,11 +153,12 @@ abbrev pub registerSide : Given → Side
 registerSide (Word n) = On
 registerSide (Figure d) = sideIn 1 d
 
+-- check 7 on a register
+unfoldable pub storeGiven : Register → ℤ → Side → Checked Deed
+storeGiven r v x = check 222 (leZ (pos 0) v && leZ v (pos (widest r))) >> passed (Change (Store r (natAbs v) x))
+
 unfoldable pub registerDeed : Register → Text → Checked Deed
-registerDeed r t =
-    parameter [] true Nothing t >>= λ g.
-    let v = registerGiven g in
-    check 222 (leZ (pos 0) v && leZ v (pos (widest r))) >> passed (Change (Store r (natAbs v) (registerSide g)))
+registerDeed r t = parameter [] true Nothing t >>= λ g. storeGiven r (registerGiven g) (registerSide g)
 
 -- checks 5 to 7; a parameter is there where check 4 asked for one
 unfoldable pub deedOf : Settings → Role → Bool → List Text → Checked Deed

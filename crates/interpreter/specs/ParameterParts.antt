@@ -1,18 +1,15 @@
 -- What the parameter reader's own functions say. Nothing of 01 is defined here: see Parameter.antt.
 use mathlib.Core.Path.{_≡_}
-use mathlib.Core.Bool.{Bool, true, false, _&&_}
+use mathlib.Core.Bool.{Bool, true, false}
 use mathlib.Core.List.{List, [], _∷_}
 use Prim.Native.Nat.{ℕ, _+_, _≤_}
 use Prim.Native.String.{String}
 use lib.ListN.{length}
-use lib.IntN.{ℤ, pos, natAbs}
-use lib.Signed.{leZ}
-use Rattle.registers.specs.Text.{Text, if_then_else_, wordByte, every, empty}
-use Rattle.registers.specs.Check.{Checked, refused, passed, _>>=_, _>>_, check}
+use lib.IntN.{ℤ}
+use Rattle.registers.specs.Text.{Text, if_then_else_, empty}
+use Rattle.registers.specs.Check.{Checked, refused, passed, _>>_, check}
 use Rattle.registers.specs.Error.{numberOf}
-use Rattle.registers.specs.Number.{number as readNumber}
 use Rattle.registers.specs.Settings.{words, within, accepted}
-use Rattle.registers.specs.Status.{widest}
 use Rattle.registers.specs.declared.rounding.Fit.{Fit}
 use Rattle.registers.specs.declared.rounding.Fit.the-variants.{Within, Outside}
 use Rattle.registers.specs.declared.rounding.Rounded.{Rounded}
@@ -21,10 +18,10 @@ use Rattle.registers.specs.declared.settings.Settings.{Settings}
 use Rattle.registers.specs.declared.status.Register.{Register}
 use Rattle.registers.specs.declared.suffix.Quantity.{Quantity}
 use Rattle.interpreter.specs.WordsParts.{wordCount, wordsIn}
-use Rattle.interpreter.specs.Parameter.{Given, Word, Figure, parameters, noneEmpty, findWord, registerDeed}
+use Rattle.interpreter.specs.Parameter.{Given, Word, Figure, parameters, noneEmpty, registerDeed}
 use Rattle.interpreter.specs.declared.deed.Deed.{Deed}
 use Rattle.interpreter.specs.declared.deed.Deed.the-variants.{Change, Query}
-use Rattle.interpreter.specs.declared.deed.Change.the-variants.{Put, Store}
+use Rattle.interpreter.specs.declared.deed.Change.the-variants.{Put}
 use Rattle.interpreter.specs.declared.deed.Query.the-variants.{Limit, Stored}
 use Rattle.interpreter.specs.declared.parameter.Parameter.{Parameter}
 use Rattle.interpreter.specs.declared.parameter.Parameter.the-variants.{Refused as noParameter, Word as wordGiven, Figure as figureGiven}
@@ -53,13 +50,6 @@ pub record TakesOf (ws : List String) (also : Bool) (q : Quantity) (r : Takes) :
   pub quantity : r .quantity ≡ q
   pub room : r .words .first + r .words .count ≤ wordCount
 
--- check 5 on a word, and check 6
-unfoldable pub aWord : List String → Text → Checked Given
-aWord ws t = check 141 (every wordByte t) >> findWord 0 ws t
-
-unfoldable pub aFigure : Quantity → Text → Checked Given
-aFigure q t = readNumber q t >>= λ d. passed (Figure d)
-
 -- a value, where it is within the limits, and what was rounded off
 unfoldable pub fitIn : Settings → ℕ → ℤ → Fit
 fitIn s i v = if within s i v then Within v else Outside
@@ -72,10 +62,6 @@ unfoldable pub putFit : Settings → ℕ → Bool → Fit → Side → Checked D
 putFit s i asked Outside x = refused 222
 putFit s i true (Within v) x = passed (Query (Limit i v))
 putFit s i false (Within v) x = check 222 (accepted s x) >> passed (Change (Put i v x))
-
--- check 7 on a number for a register
-unfoldable pub storeTo : Register → ℤ → Side → Checked Deed
-storeTo x v side = check 222 (leZ (pos 0) v && leZ v (pos (widest x))) >> passed (Change (Store x (natAbs v) side))
 
 -- the parameters of a text that has none, or one
 abbrev pub partsOf : Text → List Text

@@ -27,9 +27,9 @@ ghost use lib.ListN.{length};
 ghost use Rattle.registers.specs.Rounding.{rounded, sideIn};
 ghost use Rattle.registers.specs.Settings.{count, kindOf, quantityOf};
 ghost use Rattle.interpreter.specs.TableParts.{commandTable};
-ghost use Rattle.interpreter.specs.Parameter.{Word, Figure, parameter, wordsOf, takesNumbers, least, greatest, valueGiven, sideGiven, deedOf, isNumber};
+ghost use Rattle.interpreter.specs.Parameter.{Word, Figure, parameter, wordsOf, takesNumbers, least, greatest, valueGiven, sideGiven, deedOf, isNumber, readWord, storeGiven};
 ghost use Rattle.interpreter.specs.WordsParts.{wordCount, wordsIn};
-ghost use Rattle.interpreter.specs.ParameterParts.{meantGiven, meantDeed, CountedIn, TakesOf, aWord, roundedTo, putFit, storeTo, registerTo, partsOf};
+ghost use Rattle.interpreter.specs.ParameterParts.{meantGiven, meantDeed, CountedIn, TakesOf, roundedTo, putFit, registerTo, partsOf};
 
 // Checks 5 and 6 on a parameter: a word of the row by its place in the row's list, or a number.
 pub(crate) enum Parameter {
@@ -105,7 +105,7 @@ fn setting_takes(row: usize) -> Takes
 // underscore is none of the table, so the search refuses it by the same number.
 fn find_word(table: &[u8], words: Words, text: &[u8]) -> Parameter
     requires { ⌜ (now table ≡ commandTable) × (words .first + words .count ≤ wordCount) ⌝ }
-    ensures { λ r. ⌜ meantGiven r ≡ aWord (wordsIn words) (now (text .entry)) ⌝ }
+    ensures { λ r. ⌜ meantGiven r ≡ readWord (wordsIn words) (now (text .entry)) ⌝ }
 {
     let mut n: usize = 0;
     while n < words.count {
@@ -227,7 +227,7 @@ fn decide_value(settings: Settings, heading: Heading, rounded: Rounded) -> Decis
 
 // Decides on a number for a register, by check 7.
 fn decide_figure(register: Register, d: Decimal) -> Decision
-    ensures { λ r. ⌜ meantDeed r ≡ storeTo register (rounded 1 d) (sideIn 1 d) ⌝ }
+    ensures { λ r. ⌜ meantDeed r ≡ storeGiven register (rounded 1 d) (sideIn 1 d) ⌝ }
 {
     let rounded = rounding::round_in(d, 0, 0, register.widest() as i32);
     let fit = rounded.fit;

@@ -31,8 +31,8 @@ use Rattle.registers.specs.declared.status.Register.{Register}
 use Rattle.registers.specs.declared.status.Register.the-variants.{Ese, Sre, Enable, Ntr, Ptr}
 use Rattle.registers.proofs.rounding.Laws.{rounded-once}
 use Rattle.registers.proofs.rounding.Meaning.{fit-is, side-is}
-use Rattle.interpreter.specs.Parameter.{Given, Word, Figure, parameter, wordsOf, takesNumbers, asksLimits, limitWords, limitAt, limitGiven, valueGiven, sideGiven, least, greatest, settingDeed, limitDeed, registerDeed, deedOf}
-use Rattle.interpreter.specs.ParameterParts.{meantGiven, fitIn, roundedTo, putFit, storeTo, registerTo, partsOf}
+use Rattle.interpreter.specs.Parameter.{Given, Word, Figure, parameter, wordsOf, takesNumbers, asksLimits, limitWords, limitAt, limitGiven, valueGiven, sideGiven, least, greatest, settingDeed, limitDeed, registerDeed, deedOf, storeGiven}
+use Rattle.interpreter.specs.ParameterParts.{meantGiven, fitIn, roundedTo, putFit, registerTo, partsOf}
 use Rattle.interpreter.specs.declared.deed.Deed.the-variants.{Change, Query}
 use Rattle.interpreter.specs.declared.deed.Change.the-variants.{Put, Store}
 use Rattle.interpreter.specs.declared.deed.Query.the-variants.{Limit, Value}
@@ -108,14 +108,14 @@ module _ (x : Register) (d : Decimal) {f : Fit} (is : meantFit f ≡ fitted 1 (p
       let h = rounded-once 1 (pos 0) (pos (widest x)) d .within z (sym is ∙ ap meantFit told) in
       small-natural x z (h .1) (h .2)
 
-  pub store-within : (z : ℤ) → f ≡ Within z → (side : Side) → passed (Change (Store x (natAbs z) side)) ≡ storeTo x (rounded 1 d) side
-  unfolding storeTo check _>>_
+  pub store-within : (z : ℤ) → f ≡ Within z → (side : Side) → passed (Change (Store x (natAbs z) side)) ≡ storeGiven x (rounded 1 d) side
+  unfolding storeGiven check _>>_
   store-within z told side =
       let h = rounded-once 1 (pos 0) (pos (widest x)) d .within z (sym is ∙ ap meantFit told) in
       rw (← h .0, h .1, h .2)
 
-  pub store-outside : f ≡ Outside → (side : Side) → refused 222 ≡ storeTo x (rounded 1 d) side
-  unfolding storeTo check _>>_
+  pub store-outside : f ≡ Outside → (side : Side) → refused 222 ≡ storeGiven x (rounded 1 d) side
+  unfolding storeGiven check _>>_
   store-outside told side = rw (rounded-once 1 (pos 0) (pos (widest x)) d .outside (sym is ∙ ap meantFit told))
 
 -- ---- checks 5 to 7 on a setting
@@ -162,11 +162,11 @@ setting-is s i h true t one = kinded (kindOf i) one
 
 module _ (x : Register) (t : Text) where
   pub register-refused : {n : ℕ} → parameter [] true Nothing t ≡ refused n → refused n ≡ registerTo x false t
-  unfolding registerTo registerDeed _>>=_
+  unfolding registerTo registerDeed storeGiven _>>=_
   register-refused e = rw e
 
-  pub register-figure : {d : Decimal} → parameter [] true Nothing t ≡ passed (Figure d) → storeTo x (rounded 1 d) (sideIn 1 d) ≡ registerTo x false t
-  unfolding registerTo registerDeed storeTo _>>=_
+  pub register-figure : {d : Decimal} → parameter [] true Nothing t ≡ passed (Figure d) → storeGiven x (rounded 1 d) (sideIn 1 d) ≡ registerTo x false t
+  unfolding registerTo registerDeed storeGiven _>>=_
   register-figure e = rw e
 
 -- a parameter is there where check 4 asked for one

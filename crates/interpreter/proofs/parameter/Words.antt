@@ -20,8 +20,7 @@ use Rattle.registers.proofs.Tests.{and-both, and-true}
 use Rattle.interpreter.proofs.Checks.{apart}
 use Rattle.interpreter.specs.WordsParts.{wordCount, wordList, wordAt}
 use Rattle.registers.specs.declared.suffix.Quantity.{Quantity}
-use Rattle.interpreter.specs.Parameter.{Given, Word, Figure, findWord, parameter}
-use Rattle.interpreter.specs.ParameterParts.{aWord, aFigure}
+use Rattle.interpreter.specs.Parameter.{Given, Word, Figure, findWord, parameter, readWord, readFigure}
 use Rattle.interpreter.proofs.Lists.{every-at}
 
 -- so many words of the table, the first of them at a place
@@ -85,8 +84,8 @@ module _ {at count : ℕ} {t : Text} {n : ℕ} (w : Searching at count t n) wher
       let l : n < length (from at count) = omega (arith, from-length at count (w .room)) in
       rw (drop-cons (from at count) n "" l, add-one n, getD-take, getD-drop)
 
-  pub search-hit : n < count → matches (wordAt (at + n)) t ≡ true → passed (Word n) ≡ aWord (from at count) t
-  unfolding findWord aWord check _>>_ if_then_else_
+  pub search-hit : n < count → matches (wordAt (at + n)) t ≡ true → passed (Word n) ≡ readWord (from at count) t
+  unfolding findWord readWord check _>>_ if_then_else_
   search-hit h e =
       let room = w .room in
       rw (word-bytes (at + n) t (omega arith) e) (rw (next h, e) at (w .left))
@@ -95,8 +94,8 @@ module _ {at count : ℕ} {t : Text} {n : ℕ} (w : Searching at count t n) wher
   unfolding findWord if_then_else_
   search-miss h e = record { room = w .room; left = rw (add-one n) (rw (next h, e, add-one n) at (w .left)) }
 
-  pub search-end : count ≤ n → refused 141 ≡ aWord (from at count) t
-  unfolding findWord aWord check _>>_
+  pub search-end : count ≤ n → refused 141 ≡ readWord (from at count) t
+  unfolding findWord readWord check _>>_
   search-end h =
       let l : length (from at count) ≤ n = omega (arith, from-length at count (w .room)) in
       rw (← rw (drop-of-length-le (from at count) l) at (w .left)) (go (every wordByte t))
@@ -111,12 +110,12 @@ module _ (ws : List String) (numbers : Bool) (q : Quantity) (t : Text) where
   abbrev starts : Bool
   starts = digit (first t) || sign (first t) || point (first t)
 
-  pub starts-word : letter (first t) ≡ true → aWord ws t ≡ parameter ws numbers q t
-  unfolding parameter aWord if_then_else_
+  pub starts-word : letter (first t) ≡ true → readWord ws t ≡ parameter ws numbers q t
+  unfolding parameter readWord if_then_else_
   starts-word l = rw l
 
-  pub starts-figure : letter (first t) ≡ false → (numbers && starts) ≡ true → aFigure q t ≡ parameter ws numbers q t
-  unfolding parameter aFigure check _>>_ if_then_else_
+  pub starts-figure : letter (first t) ≡ false → (numbers && starts) ≡ true → readFigure q t ≡ parameter ws numbers q t
+  unfolding parameter readFigure check _>>_ if_then_else_
   starts-figure l e = let p = and-both numbers starts e in rw (l, p .0, p .1)
 
   pub starts-neither : letter (first t) ≡ false → (numbers && starts) ≡ false → refused 104 ≡ parameter ws numbers q t
@@ -124,7 +123,7 @@ module _ (ws : List String) (numbers : Bool) (q : Quantity) (t : Text) where
   starts-neither l e = rw l (go numbers starts e)
     where
       go : (n d : Bool) → (n && d) ≡ false
-          → refused 104 ≡ (if d then (check 104 n >> number q t >>= λ d. passed (Figure d)) else refused 104)
+          → refused 104 ≡ (if d then (check 104 n >> readFigure q t) else refused 104)
       go true true e = absurd (false≢true (sym e))
       go true false e = refl
       go false true e = refl
@@ -143,8 +142,8 @@ found-below i (w ∷ ws) t n e = go (matches w t) (found-below (suc i) ws t n) e
     go false ih e = omega (arith, ih e)
 
 -- a number is no word
-no-word : (q : Quantity) (t : Text) (n : ℕ) → aFigure q t ≡ passed (Word n) → ⊥
-unfolding aFigure _>>=_
+no-word : (q : Quantity) (t : Text) (n : ℕ) → readFigure q t ≡ passed (Word n) → ⊥
+unfolding readFigure _>>=_
 no-word q t n e = go (number q t) e
   where
     go : (r : Checked Decimal) → (r >>= λ d. passed (Figure d)) ≡ passed (Word n) → ⊥
@@ -152,11 +151,11 @@ no-word q t n e = go (number q t) e
     go (passed d) e = let z : _≡_ {A = ℕ} 0 1 = cc in omega arith
 
 pub word-placed : (ws : List String) (numbers : Bool) (q : Quantity) (t : Text) (n : ℕ) → parameter ws numbers q t ≡ passed (Word n) → n < length ws
-unfolding parameter aFigure check _>>_ if_then_else_
+unfolding parameter readWord check _>>_ if_then_else_
 word-placed ws numbers q t n e = go (letter (first t)) (every wordByte t) (digit (first t) || sign (first t) || point (first t)) numbers e
   where
     go : (l w d b : Bool)
-        → (if l then (check 141 w >> findWord 0 ws t) else (if d then (check 104 b >> aFigure q t) else refused 104)) ≡ passed (Word n)
+        → (if l then (check 141 w >> findWord 0 ws t) else (if d then (check 104 b >> readFigure q t) else refused 104)) ≡ passed (Word n)
         → n < length ws
     go true true d b e = omega (arith, found-below 0 ws t n e)
     go true false d b e = absurd (apart _ _ e)
@@ -175,11 +174,11 @@ no-figure i (w ∷ ws) t d e = go (matches w t) (no-figure (suc i) ws t d) e
     go false ih e = ih e
 
 pub asked-word : (ws : List String) (q : Quantity) (t : Text) (d : Decimal) → parameter ws false q t ≡ passed (Figure d) → ⊥
-unfolding parameter aFigure check _>>_ if_then_else_
+unfolding parameter readWord check _>>_ if_then_else_
 asked-word ws q t d e = go (letter (first t)) (every wordByte t) (digit (first t) || sign (first t) || point (first t)) e
   where
     go : (l w b : Bool)
-        → (if l then (check 141 w >> findWord 0 ws t) else (if b then (check 104 false >> aFigure q t) else refused 104)) ≡ passed (Figure d)
+        → (if l then (check 141 w >> findWord 0 ws t) else (if b then (check 104 false >> readFigure q t) else refused 104)) ≡ passed (Figure d)
         → ⊥
     go true true b e = no-figure 0 ws t d e
     go true false b e = apart _ _ e

@@ -25,7 +25,7 @@ use Rattle.registers.specs.declared.suffix.Quantity.the-variants.{Nothing, Volt
 use Rattle.registers.proofs.Tests.{and-both}
 use Rattle.interpreter.specs.Header.{Place, header, placed}
 use Rattle.interpreter.specs.Rows.{Row, rows, settingRows, otherRows, findRow}
-use Rattle.interpreter.specs.Parameter.{findWord, parameter, settingDeed, limitDeed, registerGiven, registerDeed, deedOf}
+use Rattle.interpreter.specs.Parameter.{findWord, parameter, settingDeed, limitDeed, registerGiven, registerDeed, deedOf, storeGiven, readFigure, readWord}
 use Rattle.interpreter.specs.Unit.{raisable, Read, readUnit}
 use Rattle.interpreter.specs.UnitParts.{Allowed}
 use Rattle.interpreter.specs.declared.deed.Role.{Role}
@@ -73,7 +73,7 @@ findWord-known i [] t = refuses-by refl
 findWord-known i (w ∷ ws) t = hold-if Any _ _ _ (passes tt) (findWord-known (suc i) ws t)
 
 parameter-known : (ws : List String) (numbers : Bool) (q : Quantity) (t : Text) → Holds Any (parameter ws numbers q t)
-unfolding parameter mayBeQueued queueable
+unfolding parameter readWord readFigure mayBeQueued queueable
 parameter-known ws numbers q t =
     hold-if Any _ _ _ (hold-check Any 141 _ _ refl (λ _. findWord-known 0 ws t))
     (hold-if Any _ _ _ (hold-check Any 104 _ _ refl (λ _. hold-bind Any Any _ _ (number-known q t) (λ d _. passes tt))) (refuses-by refl))
@@ -97,7 +97,7 @@ in-width (pos n) m e = leb-true n m (and-both (leb 0 n) (leb n m) e .1)
 in-width (negsuc n) m e = absurd (false≢true e)
 
 register-allowed : (s : Settings) (r : Register) (t : Text) → Holds (Allowed s) (registerDeed r t)
-unfolding registerDeed mayBeQueued queueable
+unfolding registerDeed storeGiven mayBeQueued queueable
 register-allowed s r t =
     hold-bind Any (Allowed s) _ _ (parameter-known _ _ _ t) (λ g _.
     hold-check (Allowed s) 222 _ _ refl (λ w. passes (in-width (registerGiven g) (widest r) w)))

@@ -25,7 +25,7 @@ use Rattle.registers.specs.declared.suffix.Quantity.{Quantity}
 use Rattle.registers.proofs.Tests.{holds, and-both, below-at}
 use Rattle.registers.proofs.text.Laws.{digit-bounds}
 use Rattle.registers.proofs.answer.Decimals.{tenths-length, signed-length}
-use Rattle.interpreter.specs.Parameter.{Given, Word, Figure, findWord, parameter, limitWords, wordsOf, takesNumbers, valueGiven, settingDeed, sideGiven}
+use Rattle.interpreter.specs.Parameter.{Given, Word, Figure, findWord, parameter, limitWords, wordsOf, takesNumbers, valueGiven, settingDeed, sideGiven, readWord, readFigure}
 use Rattle.interpreter.specs.declared.deed.Deed.the-variants.{Change}
 use Rattle.interpreter.specs.declared.deed.Change.the-variants.{Put}
 use Rattle.registers.proofs.settings.Possible.{under-wide}
@@ -81,7 +81,7 @@ covered q (number k low high) = if eqb k 10 then ltb (sizeOf (number k low high)
 all-covered : below count (λ i. covered (quantityOf i) (kindOf i)) ≡ true
 unfolding covered tested readsBack plainText readTo gives sameZ if_then_else_ bytes same printable white digit letter wordByte small capital
     _>>=_ _>>_ check shortForm longForm matches afterSign fractionOf afterFraction exponentOf afterExponent lowering written numeralFrom decimalOf
-    valueOf scaled suffixes noSuffix powerIn remains readNumber switchedOn nearest sizeIn rounded sizeSide sideIn inPlaces decimal table settingAt answerOf findWord parameter
+    valueOf scaled suffixes noSuffix powerIn remains readNumber switchedOn nearest sizeIn rounded sizeSide sideIn inPlaces decimal table settingAt answerOf findWord readWord readFigure parameter
 all-covered = refl
 
 -- ---- the test and the law together

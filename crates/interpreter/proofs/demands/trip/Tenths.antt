@@ -25,7 +25,7 @@ use Rattle.registers.proofs.text.Laws.{digit-bounds}
 use Rattle.registers.proofs.number.Numerals.{numeral-append, few-digits}
 use Rattle.registers.proofs.answer.Decimals.{decimal-one}
 use Rattle.registers.proofs.rounding.Sides.{side-on}
-use Rattle.interpreter.specs.Parameter.{Figure, parameter}
+use Rattle.interpreter.specs.Parameter.{Figure, parameter, readFigure, readWord}
 use Rattle.interpreter.proofs.Choices.{if-elim}
 use Rattle.interpreter.proofs.unit.Trims.{some-after}
 use Rattle.interpreter.proofs.Lists.{every-map}
@@ -119,7 +119,7 @@ asTenths v = record { minus = not (nonNeg v); digits = natAbs v; up = 0; down = 
 
 -- checks 5 and 6
 pub tenths-read : (ws : List String) (q : Quantity) (v : ℤ) → natAbs v < 10 ^ mostDigits → parameter ws true q (signedText tenths v) ≡ passed (Figure (asTenths v))
-unfolding parameter afterSign digit letter small if_then_else_ check _>>_ _>>=_
+unfolding parameter readWord readFigure afterSign digit letter small if_then_else_ check _>>_ _>>=_
 tenths-read ws q (pos n) h =
     let s : Starts (first (tenths n)) = rw (tenths-is n) (starts (decimal (n / 10)) _ (whole n h .all)) in
     let e : afterSign (tenths n) ≡ tenths n = rw (s .noPlus, s .noMinus) in

@@ -6,9 +6,8 @@ use borrow.Author.Tests.{not-true, not-false}
 use borrow.Author.Needs.{needs}
 use Rattle.registers.specs.Text.{letter, first}
 use Rattle.registers.specs.Check.{_>>=_}
-use Rattle.interpreter.specs.Parameter.{parameter}
+use Rattle.interpreter.specs.Parameter.{parameter, readFigure}
 use Rattle.interpreter.specs.WordsParts.{wordsIn}
-use Rattle.interpreter.specs.ParameterParts.{aFigure}
 use Rattle.interpreter.proofs.parameter.Words.{starts-word, starts-figure, starts-neither}
 use Rattle.interpreter.proofs.parameter.read_parameter.Statement.{statement}
 use Rattle.interpreter.proofs.parameter.read_parameter.Tie as tie
@@ -27,7 +26,7 @@ no-letter l = sym (rw (l .before .before .byte-at .ensures) at (l .before .is-le
 -- where it starts a number, which may be given
 figure-is : (f : tie.Else2)
     → let a = entry (f .before .before .before) .args in
-    aFigure (a .takes .quantity) (a .text .now) ≡ parameter (wordsIn (a .takes .words)) (a .takes .numbers && not (a .asked)) (a .takes .quantity) (a .text .now)
+    readFigure (a .takes .quantity) (a .text .now) ≡ parameter (wordsIn (a .takes .words)) (a .takes .numbers && not (a .asked)) (a .takes .quantity) (a .text .now)
 figure-is f =
     let l = f .before .before .before in
     let a = entry l .args in
@@ -67,7 +66,7 @@ enum-known-reading : tie.Need-enum-known-reading
 enum-known-reading c = c .match .keys1
 
 returns-3 : tie.Need-returns-3
-unfolding aFigure _>>=_
+unfolding readFigure _>>=_
 returns-3 c =
     let read = c .before .before .before in
     rw (← figure-is (read .before), ← read .read .ensures, c .before .reading .given .1)
@@ -76,7 +75,7 @@ enum-known-reading-2 : tie.Need-enum-known-reading-2
 enum-known-reading-2 c = c .match .keys2
 
 returns-4 : tie.Need-returns-4
-unfolding aFigure _>>=_
+unfolding readFigure _>>=_
 returns-4 c =
     let read = c .before .before .before in
     rw (← figure-is (read .before), ← read .read .ensures, c .before .reading2 .given .1)
