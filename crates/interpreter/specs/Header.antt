@@ -20,9 +20,12 @@ pub record Header : Type 0 where
   pub names : List Text
   pub query : Bool
 
--- "with an optional `?` at the end"
+-- "with an optional `?` at the end", and what stands before it
 abbrev pub asks : Text → Bool
 asks t = eqb (last t) (code "?")
+
+unfoldable pub bodyOf : Text → Text
+bodyOf t = if asks t then front t else t
 
 -- "a letter and then letters, digits or underscores"
 unfoldable pub name : Text → Bool
@@ -33,13 +36,13 @@ placed p names q = check 102 (every name names) >> passed (record { place = p; n
 
 -- check 2 on the header: "`*` and one name, or names joined by single colons (one more may lead)". The header of an empty unit is
 -- empty, so that it is refused here too
-unfoldable pub header : Text → Checked Header
-header t =
-    let q = asks t in
-    let body = if q then front t else t in
+unfoldable pub byFirst : Text → Bool → Checked Header
+byFirst body q =
     if eqb (first body) (code "*") then placed common (rest body ∷ []) q
-    else (if eqb (first body) (code ":") then placed root (cutAt (code ":") (rest body)) q
-    else placed here (cutAt (code ":") body) q)
+    else (if eqb (first body) (code ":") then placed root (cutAt (code ":") (rest body)) q else placed here (cutAt (code ":") body) q)
+
+unfoldable pub header : Text → Checked Header
+header t = byFirst (bodyOf t) (asks t)
 
 -- ---- the path: "the nodes before the last colon of the previous non-common header in this line, that header's own path
 -- included. Common commands keep the path"

@@ -9,8 +9,8 @@ use lib.ListN.{length, take, drop}
 use mir.Val.{boolByte}
 use Rattle.registers.specs.Text.{Text, if_then_else_, visible, every, empty, first, rest, start}
 use Rattle.registers.specs.Check.{refused, passed}
-use Rattle.interpreter.specs.Cuts.{front, cutAt}
-use Rattle.interpreter.specs.Header.{Header, header, name, asks, fullNames, pathAfter, isCommon}
+use Rattle.interpreter.specs.Cuts.{cutAt}
+use Rattle.interpreter.specs.Header.{Header, header, name, asks, fullNames, pathAfter, isCommon, bodyOf}
 use Rattle.interpreter.specs.NameParts.{keyOf}
 use Rattle.interpreter.specs.DeedParts.{rowCount}
 use Rattle.interpreter.specs.TableParts.{orZero}
@@ -20,10 +20,6 @@ use Rattle.interpreter.specs.declared.header.Looked.{Looked}
 use Rattle.interpreter.specs.declared.header.Looked.the-variants.{Bad, At}
 
 -- ---- the header that a text starts with
-
--- a header without its `?`
-unfoldable pub bodyOf : Text → Text
-bodyOf t = if asks t then front t else t
 
 -- whether it asks, and its names: one, or those joined by colons
 abbrev pub asksIn : Text → Bool

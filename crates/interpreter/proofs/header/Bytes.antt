@@ -1,6 +1,6 @@
 -- Which bytes a header has before its `?`: letters, digits, underscores, colons and a star, since it is names cut at colons, after what
 -- leads it. None of them is white space or parts units (`solid`), by one computed test over the bytes below 128.
-use mathlib.Core.Path.{_≡_, refl, sym, _∙_, ap}
+use mathlib.Core.Path.{_≡_, refl, _∙_, ap}
 use mathlib.Core.Bool.{Bool, true, false, not, _&&_, _||_, false≢true}
 use mathlib.Core.List.{List, [], _∷_}
 use Prim.Native.Nat.{ℕ, _<_}
@@ -12,12 +12,10 @@ use Rattle.registers.specs.Text.{Text, if_then_else_, white, printable, digit, 
 use Rattle.registers.specs.Check.{Checked, refused, passed, check, _>>_}
 use Rattle.registers.proofs.Tests.{and-both, and-true, below-at}
 use Rattle.interpreter.specs.Cuts.{joinFirst, cutAt}
-use Rattle.interpreter.specs.HeaderParts.{bodyOf}
-use Rattle.interpreter.specs.Header.{Place, Header, asks, name, placed, header}
+use Rattle.interpreter.specs.Header.{Place, Header, asks, name, placed, header, bodyOf, byFirst}
 use Rattle.interpreter.proofs.Choices.{if-elim}
 use Rattle.interpreter.proofs.Checks.{apart}
 use Rattle.interpreter.proofs.Lists.{every-map}
-use Rattle.interpreter.proofs.header.Grammar.{byFirst, header-body}
 
 -- ---- bytes of names
 
@@ -126,8 +124,9 @@ first-bytes t q x =
 
 -- without the `?` every byte is solid
 pub body-solid : (t : Text) (x : Header) → header t ≡ passed x → (every solid (bodyOf t) ≡ true) × (asks t ≡ x .query)
+unfolding header
 body-solid t x e =
-    let r = first-bytes (bodyOf t) (asks t) x (sym (header-body t) ∙ e) in
+    let r = first-bytes (bodyOf t) (asks t) x e in
     (every-map headerByte solid header-solid (bodyOf t) (r .0), r .1)
 
 -- and so of a header that is no query

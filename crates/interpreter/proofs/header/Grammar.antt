@@ -8,15 +8,15 @@ use lib.Dec.{eqb}
 use lib.ListN.{length, take, drop}
 use borrow.Author.Tests.{eqb-true}
 use mir.Val.{boolByte}
-use Rattle.registers.specs.Text.{Text, if_then_else_, white, visible, letter, small, every, first, rest, start}
-use Rattle.registers.specs.Check.{Checked, refused, passed, check, _>>_}
+use Rattle.registers.specs.Text.{Text, if_then_else_, white, visible, letter, small, every, first, start}
+use Rattle.registers.specs.Check.{refused, passed, check, _>>_}
 use Rattle.registers.proofs.Tests.{and-both}
 use Rattle.interpreter.specs.Cuts.{cutAt}
-use Rattle.interpreter.specs.Header.{Place, common, root, here, Header, header, placed, name, asks, isCommon, fullNames, pathAfter}
+use Rattle.interpreter.specs.Header.{Place, common, root, here, Header, header, placed, name, isCommon, fullNames, pathAfter, bodyOf, byFirst}
 use Rattle.interpreter.specs.DeedParts.{rowCount}
 use Rattle.interpreter.specs.RowsParts.{rowOf, rowOfKeys}
 use Rattle.interpreter.specs.TableParts.{orZero}
-use Rattle.interpreter.specs.HeaderParts.{mostNames, bodyOf, asksIn, namesIn, Holds, NamesGood, HeaderRead, starred, rooted, LookedUp}
+use Rattle.interpreter.specs.HeaderParts.{mostNames, asksIn, namesIn, Holds, NamesGood, HeaderRead, starred, rooted, LookedUp}
 use Rattle.interpreter.specs.declared.header.Names.{Names}
 use Rattle.interpreter.specs.declared.header.Looked.the-variants.{At}
 use Prim.Native.Char.{code}
@@ -27,7 +27,7 @@ use Rattle.interpreter.proofs.header.Path.{path-row, path-left, counted
 
 -- an empty text is no header
 pub header-none : header [] ≡ refused 102
-unfolding header placed name cutAt letter small if_then_else_ _>>_ check
+unfolding bodyOf byFirst header placed name cutAt letter small if_then_else_ _>>_ check
 header-none = refl
 
 abbrev placeOf : Bool → Bool → Place
@@ -36,15 +36,6 @@ placeOf false true = root
 placeOf false false = here
 
 -- a header by the first byte of its body
-unfoldable pub byFirst : Text → Bool → Checked Header
-byFirst body q =
-    if eqb (first body) (code "*") then placed common (rest body ∷ []) q
-    else (if eqb (first body) (code ":") then placed root (cutAt (code ":") (rest body)) q else placed here (cutAt (code ":") body) q)
-
-pub header-body : (t : Text) → header t ≡ byFirst (bodyOf t) (asks t)
-unfolding header byFirst bodyOf
-header-body t = refl
-
 -- the header that a text starts with, and its length, by what comes after its lead
 pub record Led (t : Text) (s r : Bool) : Type 0 where
   pub one : s ≡ true → r ≡ false
@@ -52,23 +43,23 @@ pub record Led (t : Text) (s r : Bool) : Type 0 where
   pub long : length (start visible t) ≡ boolByte (s || r) + length (start visible (drop (boolByte (s || r)) t))
 
 led-star : (u : Text) → Led ((code "*") ∷ u) true false
-unfolding byFirst namesIn white if_then_else_
+unfolding header byFirst namesIn white if_then_else_
 led-star u =
     let h = start visible u in
-    record { one = λ e. refl; is = header-body ((code "*") ∷ h) ∙ rw (body-cons (code "*") h refl, asks-cons (code "*") h refl); long = omega arith }
+    record { one = λ e. refl; is = rw (body-cons (code "*") h refl, asks-cons (code "*") h refl); long = omega arith }
 
 led-root : (u : Text) → Led ((code ":") ∷ u) false true
-unfolding byFirst namesIn white if_then_else_
+unfolding header byFirst namesIn white if_then_else_
 led-root u =
     let h = start visible u in
-    record { one = λ e. absurd (false≢true e); is = header-body ((code ":") ∷ h) ∙ rw (body-cons (code ":") h refl, asks-cons (code ":") h refl); long = omega arith }
+    record { one = λ e. absurd (false≢true e); is = rw (body-cons (code ":") h refl, asks-cons (code ":") h refl); long = omega arith }
 
 led-here : (t : Text) → eqb (first t) (code "*") ≡ false → eqb (first t) (code ":") ≡ false → Led t false false
-unfolding byFirst namesIn if_then_else_
+unfolding header byFirst namesIn if_then_else_
 led-here t e f =
     let a = body-first (λ b. eqb b (code "*")) refl t e in
     let b = body-first (λ b. eqb b (code ":")) refl t f in
-    record { one = λ e. refl; is = header-body (start visible t) ∙ rw (a, b); long = omega arith }
+    record { one = λ e. refl; is = rw (a, b); long = omega arith }
 
 led-by : (t : Text) (s r : Bool) → starred t ≡ s → rooted t ≡ r → Led t s r
 led-by t true true e f = absurd (let x = eqb-true (first t) (code "*") e in let y = eqb-true (first t) (code ":") f in omega arith)

@@ -12,8 +12,8 @@ use mir.Val.{boolByte}
 use Rattle.registers.specs.Text.{Text, if_then_else_, white, visible, letter, small, digit, wordByte, every, empty, first, start}
 use Rattle.registers.proofs.Tests.{and-both, and-assoc, and-fails}
 use Rattle.interpreter.specs.Cuts.{front, joinFirst, cutAt}
-use Rattle.interpreter.specs.Header.{name, asks}
-use Rattle.interpreter.specs.HeaderParts.{bodyOf, asksIn, namesIn, unasked}
+use Rattle.interpreter.specs.Header.{name, asks, bodyOf}
+use Rattle.interpreter.specs.HeaderParts.{asksIn, namesIn, unasked}
 use Prim.Native.Char.{code}
 use Rattle.interpreter.proofs.Lists.{is-empty}
 

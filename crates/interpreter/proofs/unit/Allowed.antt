@@ -23,7 +23,7 @@ use Rattle.registers.specs.declared.suffix.Power.{Power}
 use Rattle.registers.specs.declared.suffix.Quantity.{Quantity}
 use Rattle.registers.specs.declared.suffix.Quantity.the-variants.{Nothing, Volt, Ampere, Hertz, Second}
 use Rattle.registers.proofs.Tests.{and-both}
-use Rattle.interpreter.specs.Header.{Place, header, placed}
+use Rattle.interpreter.specs.Header.{Place, header, placed, bodyOf, byFirst}
 use Rattle.interpreter.specs.Rows.{Row, rows, settingRows, otherRows, findRow}
 use Rattle.interpreter.specs.Parameter.{findWord, parameter, settingDeed, limitDeed, registerGiven, registerDeed, deedOf, storeGiven, readFigure, readWord}
 use Rattle.interpreter.specs.Unit.{raisable, Read, readUnit}
@@ -64,7 +64,7 @@ unfolding placed mayBeQueued queueable
 placed-known p names q = hold-check Any 102 _ _ refl (λ _. passes tt)
 
 header-known : (t : Text) → Holds Any (header t)
-unfolding header
+unfolding bodyOf byFirst header
 header-known t = hold-if Any _ _ _ (placed-known _ _ _) (hold-if Any _ _ _ (placed-known _ _ _) (placed-known _ _ _))
 
 findWord-known : (i : ℕ) (ws : List String) (t : Text) → Holds Any (findWord i ws t)

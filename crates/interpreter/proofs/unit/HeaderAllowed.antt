@@ -9,8 +9,7 @@ use Rattle.registers.specs.Text.{Text, if_then_else_, white, visible, printable
 use Rattle.registers.specs.Check.{passed}
 use Rattle.registers.proofs.Tests.{and-both, and-true, and-assoc}
 use Rattle.interpreter.specs.Cuts.{front, trimEnd, trim}
-use Rattle.interpreter.specs.Header.{Header, header, asks}
-use Rattle.interpreter.specs.HeaderParts.{bodyOf}
+use Rattle.interpreter.specs.Header.{Header, header, asks, bodyOf}
 use Rattle.interpreter.specs.Unit.{allowed, headerText, parameterText}
 use Prim.Native.Char.{code}
 use Rattle.interpreter.proofs.Lists.{every-map}

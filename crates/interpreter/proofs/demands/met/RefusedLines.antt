@@ -18,7 +18,7 @@ use Rattle.registers.specs.Settings.{table, settingAt, atReset, wideRange, lowe
 use Rattle.registers.specs.Group.{rises, falls, eventsAfter, conditionIs}
 use Rattle.registers.specs.Status.{raised, atStart}
 use Rattle.interpreter.specs.Cuts.{cutAt, trimEnd, trim}
-use Rattle.interpreter.specs.Header.{name, placed, header, spells}
+use Rattle.interpreter.specs.Header.{name, placed, header, spells, bodyOf, byFirst}
 use Rattle.interpreter.specs.Rows.{settingRows, otherRows, rows, fitsRow, findRow}
 use Rattle.interpreter.specs.Parameter.{parameters, least, greatest, findWord, parameter, valueGiven, settingDeed, deedOf, readFigure, readWord}
 use Rattle.interpreter.specs.Unit.{readUnit}
@@ -89,7 +89,7 @@ unfolding if_then_else_ bytes same white printable digit letter wordByte small c
     afterSign fractionOf afterFraction exponentOf afterExponent lowering written numeralFrom decimalOf valueOf scaled suffixes noSuffix powerIn remains number switchedOn
     nearest sizeIn rounded sizeSide sideIn inPlaces decimal tenths eventBit
     table settingAt atReset wideRange lowest highest within conflict examined accepted answerOf raised rises falls eventsAfter conditionIs atStart
-    cutAt trimEnd trim name placed header spells settingRows otherRows rows fitsRow findRow
+    cutAt trimEnd trim name placed bodyOf byFirst header spells settingRows otherRows rows fitsRow findRow
     parameters least greatest findWord parameter readWord readFigure valueGiven settingDeed deedOf readUnit powerUp
     permitted changed replyTo inquiryReply joined fitsAnswer reply perform
     attempt refuse runUnits interrupted finished unitsOf runLine endLine held byte piece taken reported happens after resultsOf moments
