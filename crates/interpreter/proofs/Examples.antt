@@ -18,7 +18,7 @@ use Rattle.interpreter.specs.Parameter.{parameters, least, greatest, fin
 use Rattle.interpreter.specs.Unit.{readUnit}
 use Rattle.interpreter.specs.Box.{powerUp}
 use Rattle.interpreter.specs.Perform.{permitted, changed, perform}
-use Rattle.interpreter.specs.Reply.{replyTo, inquiryReply, joined, fitsAnswer, reply}
+use Rattle.interpreter.specs.Reply.{replyTo, inquiryText, joined, fitsAnswer, reply}
 use Rattle.interpreter.specs.Line.{attempt, refuse, runUnits, interrupted, finished, unitsOf, runLine, endLine, held, byte, piece}
 use Rattle.interpreter.specs.Events.{reported, happens, after}
 use Rattle.interpreter.specs.Examples.{examples, outcome, ran, allSet, expected, AllHold}
@@ -30,7 +30,7 @@ unfolding if_then_else_ bytes same white printable digit letter wordByte small c
     table settingAt atReset wideRange lowest highest within conflict examined accepted answerOf raised completed withoutBit6 rises falls eventsAfter conditionIs eventRead setBits summary statusByte storedIn registerIn atStart
     cutAt trimEnd trim name placed bodyOf byFirst header spells settingRows otherRows rows fitsRow findRow
     parameters least greatest findWord parameter readWord readFigure valueGiven settingDeed limitDeed registerDeed storeGiven deedOf readUnit powerUp
-    permitted changed replyTo inquiryReply joined fitsAnswer reply perform
+    permitted changed replyTo inquiryText joined fitsAnswer reply perform
     attempt refuse runUnits interrupted finished unitsOf runLine endLine held byte piece reported happens after
     examples outcome ran allSet expected
 all-hold = refl

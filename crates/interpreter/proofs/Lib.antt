@@ -1,5 +1,6 @@
 pub mod Choices
 pub mod Lists
+pub mod Separators
 pub mod Checks
 pub mod Kept
 pub mod Bounds

@@ -1,5 +1,4 @@
 pub mod histories
-pub mod Separators
 pub mod Limits
 pub mod harm
 pub mod trip

@@ -9,7 +9,7 @@ use Rattle.registers.specs.Check.{Checked, passed, _>>_, check}
 use Rattle.registers.specs.Answer.{decimal}
 use Rattle.registers.specs.Error.{errorText}
 use Rattle.registers.specs.Settings.{kindOf, valueAt, answerOf}
-use Rattle.registers.specs.Status.{groupIn, registerIn, statusByte}
+use Rattle.registers.specs.Status.{Registers, Trouble, groupIn, registerIn, statusByte}
 use Rattle.interpreter.specs.Box.{Core, Box, withAnswer, mostAnswer}
 use Rattle.interpreter.specs.declared.deed.Query as queries
 use Rattle.interpreter.specs.declared.deed.Query.the-variants.{Identity, SelfTest, Completed, Limit, Value, Stored, Condition, SetEvents}
@@ -31,12 +31,16 @@ replyTo (Stored r) c = decimal (registerIn r (c .registers))
 replyTo (Condition x) c = decimal (groupIn x (c .registers) .condition)
 replyTo (SetEvents x) c = decimal (groupIn x (c .registers) .event)
 
--- ---- the three that see the trouble: *ESR?, *STB? and SYSTem:ERRor?, which answers the oldest error
+-- ---- the three that see the trouble: *ESR?, *STB? and SYSTem:ERRor?, which answers the oldest error. Of the answer
+-- *STB? sees whether it "has bytes, earlier ones of this line counted"
 
-unfoldable pub inquiryReply : inquiries.Inquiry → Box → Text
-inquiryReply StandardEvents b = decimal (b .trouble .events)
-inquiryReply StatusByte b = decimal (statusByte (b .core .registers) (b .trouble) (not (empty (b .core .answer))))
-inquiryReply NextError b = errorText (first (b .trouble .queue))
+unfoldable pub inquiryText : inquiries.Inquiry → Registers → Trouble → Bool → Text
+inquiryText StandardEvents r t answers = decimal (t .events)
+inquiryText StatusByte r t answers = decimal (statusByte r t answers)
+inquiryText NextError r t answers = errorText (first (t .queue))
+
+abbrev pub inquiryReply : inquiries.Inquiry → Box → Text
+inquiryReply q b = inquiryText q (b .core .registers) (b .trouble) (not (empty (b .core .answer)))
 
 -- ---- check 9
 

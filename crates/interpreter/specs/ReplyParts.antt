@@ -5,27 +5,24 @@ use mathlib.Core.List.{[]}
 use Prim.Native.Nat.{ℕ, _≤_, _<_}
 use lib.ListN.{length, take}
 use lib.IntN.{ℤ}
-use Rattle.registers.specs.Text.{Text, if_then_else_, first}
+use Rattle.registers.specs.Text.{Text, if_then_else_}
 use Rattle.registers.specs.Words.{shortForm}
 use Rattle.registers.specs.Check.{refused, passed}
 use Rattle.registers.specs.Answer.{decimal, tenths, signedText}
 use Rattle.registers.specs.Error.{numberOf, errorText}
 use Rattle.registers.specs.Settings.{kindOf, wordText}
-use Rattle.registers.specs.Status.{registersOf, troubleOf, statusByte}
-use Rattle.registers.specs.declared.status.Status.{Status}
+use Rattle.registers.specs.Status.{registersOf, troubleOf}
 use Rattle.interpreter.specs.Parameter.{wordsOf}
 use Rattle.interpreter.specs.WordsParts.{wordAt}
 use Rattle.interpreter.specs.UnitParts.{Allowed}
 use Rattle.interpreter.specs.Box.{mostAnswer}
-use Rattle.interpreter.specs.Reply.{identity, replyTo, joined}
+use Rattle.interpreter.specs.Reply.{identity, replyTo, inquiryText, joined}
 use Rattle.interpreter.specs.Perform.{perform}
 use Rattle.interpreter.specs.Line.{refuse}
 use Rattle.interpreter.specs.PresentParts.{coreIn, boxIn, boxAt}
 use Rattle.interpreter.specs.PerformParts.{After}
 use Rattle.interpreter.specs.declared.deed.Deed.{Deed}
 use Rattle.interpreter.specs.declared.deed.Deed.the-variants.{Change, Complete, Clear, Query, Inquire}
-use Rattle.interpreter.specs.declared.deed.Inquiry as inquiries
-use Rattle.interpreter.specs.declared.deed.Inquiry.the-variants.{StandardEvents, StatusByte, NextError}
 use Rattle.interpreter.specs.declared.present.Present.{Present}
 use Rattle.interpreter.specs.declared.reply.Reply.{Reply}
 use Rattle.interpreter.specs.declared.reply.Reply.the-variants.{Nothing, Identity, Word, Tenths, Whole, Number, Error}
@@ -37,11 +34,6 @@ use Rattle.interpreter.specs.declared.reply.Told.the-variants.{Until, Re
 -- a setting's word by its place
 abbrev pub placeText : ℕ → ℤ → Text
 placeText row v = wordText (wordsOf (kindOf row)) v
-
-abbrev pub inquiryText : inquiries.Inquiry → Status → Bool → Text
-inquiryText StandardEvents s answers = decimal (s .events)
-inquiryText StatusByte s answers = decimal (statusByte (registersOf s) (troubleOf s) answers)
-inquiryText NextError s answers = errorText (first (troubleOf s .queue))
 
 -- what is said is written
 unfoldable pub textOf : Reply → Text
@@ -72,7 +64,7 @@ ReplyTo (Change x) p answers r = r ≡ Nothing
 ReplyTo Complete p answers r = r ≡ Nothing
 ReplyTo Clear p answers r = r ≡ Nothing
 ReplyTo (Query q) p answers r = RepliesWith (replyTo q (coreIn (p .settings) (p .status))) r
-ReplyTo (Inquire q) p answers r = RepliesWith (inquiryText q (p .status) answers) r
+ReplyTo (Inquire q) p answers r = RepliesWith (inquiryText q (registersOf (p .status)) (troubleOf (p .status)) answers) r
 
 -- the answers so far with a reply after them
 unfoldable pub answeredWith : Reply → Text → Text

@@ -18,10 +18,11 @@ ghost use lib.Dec.{eqb};
 ghost use lib.ListN.{length};
 ghost use Rattle.registers.specs.Answer.{Laid};
 ghost use Rattle.registers.specs.Settings.{count, kindOf, answerOf};
+ghost use Rattle.registers.specs.Status.{registersOf, troubleOf};
 ghost use Rattle.interpreter.specs.Box.{mostAnswer};
-ghost use Rattle.interpreter.specs.Reply.{replyTo};
+ghost use Rattle.interpreter.specs.Reply.{replyTo, inquiryText};
 ghost use Rattle.interpreter.specs.PresentParts.{coreIn};
-ghost use Rattle.interpreter.specs.ReplyParts.{placeText, inquiryText, textOf, RepliesWith, ReplyTo, GivenTo, Answered};
+ghost use Rattle.interpreter.specs.ReplyParts.{placeText, textOf, RepliesWith, ReplyTo, GivenTo, Answered};
 
 // What is answered, by how it is written: a word by its place in the table.
 enum Reply {
@@ -82,7 +83,7 @@ fn of_query(present: Present, query: Query) -> Reply
 
 // Says the answer to an inquiry, which sees the event status register or the error queue too.
 fn of_inquiry(status: Status, answers: bool, inquiry: Inquiry) -> Reply
-    ensures { λ r. ⌜ RepliesWith (inquiryText inquiry status answers) r ⌝ }
+    ensures { λ r. ⌜ RepliesWith (inquiryText inquiry (registersOf status) (troubleOf status) answers) r ⌝ }
 {
     match inquiry {
         Inquiry::StandardEvents => Reply::Number(status.events),

@@ -15,7 +15,8 @@ use Rattle.interpreter.specs.Cuts.{front, joinFirst, cutAt}
 use Rattle.interpreter.specs.Header.{name, asks, bodyOf}
 use Rattle.interpreter.specs.HeaderParts.{asksIn, namesIn, unasked}
 use Prim.Native.Char.{code}
-use Rattle.interpreter.proofs.Lists.{is-empty}
+use Rattle.interpreter.proofs.Separators.{other, free, cut-more, cut-one}
+use Rattle.interpreter.proofs.Lists.{is-empty, every-map}
 
 -- ---- bytes of names
 
@@ -172,19 +173,10 @@ module _ (z : Text) where
       let p = and-both (wordByte b) (every wordByte w) e in
       body-cons b (w ++ z) (word-not (code "?") b mark-word (p .0)) ∙ ap (λ (u : Text). b ∷ u) (body-word w (p .1))
 
-  cut-word : (w : Text) → every wordByte w ≡ true → cutAt (code ":") (w ++ (code ":") ∷ z) ≡ w ∷ cutAt (code ":") z
-  unfolding cutAt if_then_else_
-  cut-word [] e = refl
-  cut-word (b ∷ w) e =
-      let p = and-both (wordByte b) (every wordByte w) e in
-      rw (word-not (code ":") b colon-word (p .0), cut-word w (p .1))
-
-cut-only : (w : Text) → every wordByte w ≡ true → cutAt (code ":") w ≡ w ∷ []
-unfolding cutAt if_then_else_
-cut-only [] e = refl
-cut-only (b ∷ w) e =
-    let p = and-both (wordByte b) (every wordByte w) e in
-    rw (word-not (code ":") b colon-word (p .0), cut-only w (p .1))
+-- a name has no colon
+word-free : (w : Text) → every wordByte w ≡ true → free (code ":") w ≡ true
+unfolding free
+word-free w e = every-map wordByte (other (code ":")) (λ b k. rw (word-not (code ":") b colon-word k)) w e
 
 append-none : (w : Text) → w ++ [] ≡ w
 append-none [] = refl
@@ -211,7 +203,7 @@ module _ (w : Text) (good : name w ≡ true) where
     unfolding namesIn if_then_else_
     scan-on =
         rw (joined-visible, body-word ((code ":") ∷ start visible r) w words, body-cons (code ":") (start visible r) refl)
-        (cut-word (bodyOf (start visible r)) w words)
+        (cut-more (code ":") w (bodyOf (start visible r)) (word-free w words))
 
     pub scan-on-asks : asksIn (w ++ (code ":") ∷ r) ≡ asksIn r
     scan-on-asks = ap asks joined-visible ∙ asks-word ((code ":") ∷ start visible r) w words ∙ asks-cons (code ":") (start visible r) refl
@@ -243,7 +235,7 @@ module _ (w : Text) (good : name w ≡ true) where
 
       pub scan-last : (joined : Bool) → namesIn joined (w ++ z) ≡ w ∷ []
       unfolding namesIn if_then_else_
-      scan-last true = rw (visible-word z w words, body-word (start visible z) w words, left .0, append-none w) (cut-only w words)
+      scan-last true = rw (visible-word z w words, body-word (start visible z) w words, left .0, append-none w) (cut-one (code ":") w (word-free w words))
       scan-last false = rw (visible-word z w words, body-word (start visible z) w words, left .0, append-none w)
 
       pub scan-last-asks : asksIn (w ++ z) ≡ asked

@@ -16,19 +16,17 @@ use Rattle.registers.specs.declared.settings.Settings.{Settings}
 use Rattle.registers.proofs.Tests.{front-empty}
 use Rattle.interpreter.specs.Box.{Core, Box, box, withAnswer, mostAnswer}
 use Rattle.interpreter.specs.Perform.{changed, afterQuery, perform}
-use Rattle.interpreter.specs.Reply.{replyTo, inquiryReply, joined, fitsAnswer, reply}
+use Rattle.interpreter.specs.Reply.{replyTo, joined, fitsAnswer, reply}
 use Rattle.interpreter.specs.Line.{refuse}
 use Rattle.interpreter.specs.PresentParts.{coreOf, boxIn}
 use Rattle.interpreter.specs.PerformParts.{settingsChanged, settingsLeft, registersChanged, registersAsked, registersLeft, troubleLeft}
-use Rattle.interpreter.specs.ReplyParts.{inquiryText, textOf, said, ReplyTo, answeredWith, GivenTo, Answered}
+use Rattle.interpreter.specs.ReplyParts.{textOf, said, ReplyTo, answeredWith, GivenTo, Answered}
 use Rattle.interpreter.specs.declared.deed.Deed.{Deed}
 use Rattle.interpreter.specs.declared.deed.Deed.the-variants.{Change, Complete, Clear, Query, Inquire}
 use Rattle.interpreter.specs.declared.deed.Change as changes
 use Rattle.interpreter.specs.declared.deed.Change.the-variants.{Nothing as noChange, Put, Reset, Store}
 use Rattle.interpreter.specs.declared.deed.Query as queries
 use Rattle.interpreter.specs.declared.deed.Query.the-variants.{Identity, SelfTest, Completed, Limit, Value, Stored, Condition, SetEvents}
-use Rattle.interpreter.specs.declared.deed.Inquiry as inquiries
-use Rattle.interpreter.specs.declared.deed.Inquiry.the-variants.{StandardEvents, StatusByte, NextError}
 use Rattle.interpreter.specs.declared.present.Present.{Present}
 use Rattle.interpreter.specs.declared.reply.Reply.{Reply}
 use Rattle.interpreter.specs.declared.reply.Reply.the-variants.{Nothing}
@@ -59,12 +57,6 @@ apart (Value i) = record { unseen = λ s r a. refl; left = λ s r a. refl }
 apart (Stored x) = record { unseen = λ s r a. refl; left = λ s r a. refl }
 apart (Condition y) = record { unseen = λ s r a. refl; left = λ s r a. refl }
 apart (SetEvents y) = record { unseen = λ s r a. refl; left = λ s r a. refl }
-
-inquiry-same : (q : inquiries.Inquiry) (p : Present) (a : Text) → inquiryReply q (boxIn p a) ≡ inquiryText q (p .status) (not (empty a))
-unfolding inquiryReply
-inquiry-same StandardEvents p a = refl
-inquiry-same StatusByte p a = refl
-inquiry-same NextError p a = refl
 
 -- ---- check 9 on a reply that says something
 
@@ -108,7 +100,7 @@ module _ (p : Present) (a : Text) (r : Reply) where
   given (Query q) e h =
       let t = registersOf (p .status) in
       rw (apart q .unseen (p .settings) t a, ← e .is, apart q .left (p .settings) t a, reply-given r (after (Query q)) (e .some) h)
-  given (Inquire q) e h = rw (inquiry-same q p a, ← e .is, reply-given r (after (Inquire q)) (e .some) h)
+  given (Inquire q) e h = rw (← e .is, reply-given r (after (Inquire q)) (e .some) h)
 
   dropped : (d : Deed) → ReplyTo d p (not (empty a)) r → length a < mostAnswer → mostAnswer ≤ length (answeredWith r a)
       → perform d (boxIn p a) ≡ refused 430
@@ -119,7 +111,7 @@ module _ (p : Present) (a : Text) (r : Reply) where
   dropped (Query q) e k h =
       let t = registersOf (p .status) in
       rw (apart q .unseen (p .settings) t a, ← e .is, apart q .left (p .settings) t a, reply-refused r (after (Query q)) (e .some) h)
-  dropped (Inquire q) e k h = rw (inquiry-same q p a, ← e .is, reply-refused r (after (Inquire q)) (e .some) h)
+  dropped (Inquire q) e k h = rw (← e .is, reply-refused r (after (Inquire q)) (e .some) h)
 
 -- the deed as the code answers it: its reply r stands after the answers so far and ends at a place
 module _ (d : Deed) (p : Present) {r : Reply} {out left-of : Text} {end : ℕ} (room : p .answered < mostAnswer) (size : length out ≡ mostAnswer)

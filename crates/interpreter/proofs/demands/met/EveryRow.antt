@@ -26,7 +26,7 @@ use Rattle.interpreter.specs.Parameter.{parameters, least, greatest, fin
 use Rattle.interpreter.specs.Unit.{Read, readUnit}
 use Rattle.interpreter.specs.Box.{powerUp}
 use Rattle.interpreter.specs.Perform.{permitted, changed, perform}
-use Rattle.interpreter.specs.Reply.{replyTo, inquiryReply, joined, fitsAnswer, reply}
+use Rattle.interpreter.specs.Reply.{replyTo, inquiryText, joined, fitsAnswer, reply}
 use Rattle.interpreter.specs.Line.{attempt, refuse, runUnits, interrupted, finished, unitsOf, runLine, endLine, held, byte, piece}
 use Rattle.interpreter.specs.Events.{Event, received, take, result, taken, reported, happens, after}
 use Rattle.interpreter.specs.Demand3.{inLine, asked}
@@ -130,7 +130,7 @@ unfolding if_then_else_ bytes same white printable digit letter wordByte small c
     table settingAt atReset wideRange lowest highest within conflict examined accepted answerOf raised rises falls eventsAfter conditionIs atStart
     cutAt trimEnd trim name placed bodyOf byFirst header spells settingRows otherRows rows fitsRow findRow
     parameters least greatest findWord parameter readWord readFigure valueGiven settingDeed deedOf readUnit powerUp
-    permitted changed replyTo inquiryReply joined fitsAnswer reply perform
+    permitted changed replyTo inquiryText joined fitsAnswer reply perform
     attempt refuse runUnits interrupted finished unitsOf runLine endLine held byte piece taken reported happens after
     inLine shortNames colonJoined trips asking sending seenAt expectedAt numbered
 seen = refl

@@ -20,7 +20,7 @@ use Rattle.interpreter.specs.Demand3.{obeyedNext, obeyed, refusalNext, r
 use Rattle.interpreter.proofs.Choices.{if-elim}
 use Rattle.interpreter.proofs.Lists.{is-empty}
 use Rattle.interpreter.proofs.header.Grammar.{header-none}
-use Rattle.interpreter.proofs.demands.Separators.{free, cut-free, cut-more, cut-one}
+use Rattle.interpreter.proofs.Separators.{free, cut-free, cut-more, cut-one}
 use Rattle.interpreter.proofs.demands.refused.Agreement.{over-cores, finished-core}
 
 -- the same box, its waiting line cut to the units that will be obeyed

@@ -20,7 +20,7 @@ use Rattle.interpreter.specs.Line.{unitsOf}
 use Rattle.interpreter.specs.Demand2.{Spelling}
 use Rattle.interpreter.specs.declared.deed.Deed.{Deed}
 use Rattle.interpreter.proofs.header.Grammar.{header-none}
-use Rattle.interpreter.proofs.demands.Separators.{other, free, cut-one}
+use Rattle.interpreter.proofs.Separators.{other, free, cut-one}
 use Rattle.interpreter.proofs.demands.trip.ReadBack.{plainByte, plainText}
 use Rattle.interpreter.proofs.Checks.{apart}
 use Rattle.interpreter.proofs.Lists.{every-map}

@@ -2,6 +2,7 @@
 use native.Mathlib.Omega.{arith}
 use mathlib.Core.Path.{refl}
 use Rattle.interpreter.specs.ReplyParts.{textOf}
+use Rattle.interpreter.specs.Reply.{inquiryText}
 use Rattle.interpreter.proofs.reply.of_inquiry.Statement.{statement}
 use Rattle.interpreter.proofs.reply.of_inquiry.Tie as tie
 
@@ -24,15 +25,15 @@ oldest-requires : tie.Need-oldest-requires
 oldest-requires c κs = tt
 
 returns : tie.Need-returns
-unfolding textOf
+unfolding textOf inquiryText
 returns c = rw (c .enum-told .given .1) (record { is = refl; some = refl })
 
 returns-2 : tie.Need-returns-2
-unfolding textOf
+unfolding textOf inquiryText
 returns-2 c = rw (c .before .enum-told2 .given .1, c .status-byte .ensures) (record { is = refl; some = refl })
 
 returns-3 : tie.Need-returns-3
-unfolding textOf
+unfolding textOf inquiryText
 returns-3 c = rw (c .before .enum-told3 .given .1, c .oldest .ensures) (record { is = refl; some = refl })
 
 pub of-inquiry-spec : {M : Type 1} → statement M
