@@ -160,9 +160,6 @@ pub still-counted : (b : Box) (e : Event) → length (b .core .settings .values)
     → length (happens b e .box .core .settings .values) ≡ count
 still-counted b e long p = event-fit b e (fit-from b long p) .core .long
 
-pub power-up-possible : possible powerUp ≡ true
-power-up-possible = fit-to powerUp power-up-fit
-
 pub power-up-own : Own powerUp
 power-up-own = fit-own powerUp power-up-fit
 
