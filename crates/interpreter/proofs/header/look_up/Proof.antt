@@ -1,5 +1,5 @@
--- The first byte tells what leads the header; the names after it are read onto the path, and the row is searched by their numbers.
--- `entered` says what was read and `kept` that the path keeps its length; what that means of a header is in header/Grammar.
+-- The names are read onto the path with what leads them, and the row is searched by their numbers, which are lent as a part of the path
+-- (`begins`). What that means of a header is in header/Grammar; the code's own test of the first byte is the definition's (`star-is`).
 use mathlib.Core.Path.{_≡_, sym, ap, _∙_}
 use mathlib.Core.Bool.{Bool, true}
 use mathlib.Core.List.{List}
