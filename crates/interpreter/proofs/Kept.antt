@@ -2,7 +2,7 @@
 -- of a unit's checks and by induction over the units.
 use mathlib.Core.Path.{_≡_, refl}
 use mathlib.Core.Bool.{true}
-use mathlib.Core.List.{List, [], _∷_, _++_}
+use mathlib.Core.List.{List, [], _∷_}
 use Prim.Native.Nat.{ℕ}
 use lib.Dec.{eqb}
 use Rattle.registers.specs.Text.{Text, empty}
@@ -13,7 +13,7 @@ use Rattle.interpreter.specs.Box.{Box, answerIs, raise}
 use Rattle.interpreter.specs.Unit.{raisable, Read, readUnit}
 use Rattle.interpreter.specs.UnitParts.{Allowed}
 use Rattle.interpreter.specs.Perform.{perform}
-use Rattle.interpreter.specs.Line.{Obeyed, attempt, refuse, next, runUnits, unitsOf, finished, runLine, endLine, atNewline}
+use Rattle.interpreter.specs.Line.{Obeyed, attempt, refuse, next, runUnits, finished, runLine, endLine, atNewline}
 use Rattle.interpreter.specs.declared.deed.Deed.{Deed}
 use Rattle.interpreter.proofs.Choices.{if-elim}
 use Rattle.interpreter.proofs.Checks.{Holds, passes, hold-bind, holds-from}
@@ -56,10 +56,12 @@ module _ (P : Box → Type 0)
       next-keeps (λ p c. runUnits us p c) (λ p c g. units-keep us p c g) b f (attempt path b u) (attempt-keeps path b u f)
 
   -- where an answer is kept too, whatever it is
-  pub line-keeps : ((a : Text) (b : Box) → P b → P (answerIs a b)) → (b : Box) → P (atNewline b) → P (endLine b)
-  unfolding endLine runLine finished mayBeQueued queueable
-  line-keeps answers b f =
-      if-elim P (b .core .overlong) (λ _. raises 363 (atNewline b) refl f) (λ _.
-      let c = runUnits (unitsOf (b .core .line)) [] (atNewline b) in
-      let g = units-keep (unitsOf (b .core .line)) [] (atNewline b) f in
-      if-elim P (empty (c .core .answer)) (λ _. g) (λ _. answers (c .core .answer ++ 10 ∷ []) c g))
+  module _ (answers : (a : Text) (b : Box) → P b → P (answerIs a b)) where
+    finished-keeps : (b : Box) → P b → P (finished b)
+    unfolding finished
+    finished-keeps b f = if-elim P (empty (b .core .answer)) (λ _. f) (λ _. answers _ b f)
+
+    pub line-keeps : (b : Box) → P (atNewline b) → P (endLine b)
+    unfolding endLine runLine mayBeQueued queueable
+    line-keeps b f =
+        if-elim P (b .core .overlong) (λ _. raises 363 (atNewline b) refl f) (λ _. finished-keeps _ (units-keep _ _ (atNewline b) f))
