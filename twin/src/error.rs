@@ -2,7 +2,7 @@
 
 macro_rules! errors {
     ($($name:ident = $number:literal, $text:literal;)*) => {
-        /// An error of 01 or 02, by its number without the minus. The names are the texts of SCPI-99.
+        /// An error of 01 or 02, by its number without the minus. The names are after the texts of SCPI-99.
         #[allow(clippy::enum_variant_names)]
         #[derive(Clone, Copy, Debug, PartialEq, Eq)]
         pub enum Error {
@@ -38,6 +38,7 @@ errors! {
     InvalidCharacterData = 141, "Invalid character data";
     SettingsConflict = 221, "Settings conflict";
     DataOutOfRange = 222, "Data out of range";
+    MemoryLost = 314, "Save/recall memory lost";
     QueueOverflow = 350, "Queue overflow";
     InputBufferOverrun = 363, "Input buffer overrun";
     QueryInterrupted = 410, "Query INTERRUPTED";

@@ -17,6 +17,7 @@ pub enum Row {
     Register(Register),
     Query(Query),
     Command(Command),
+    Setup(Setup),
     /// *OPC and *OPC?, which have both forms and no value.
     OperationComplete,
 }
@@ -39,6 +40,13 @@ pub enum Command {
     Wait,
     Reset,
     Clear,
+}
+
+/// *SAV and *RCL (02, #108), which have a setting form only and take a place.
+#[derive(Clone, Copy, Debug, PartialEq, Eq)]
+pub enum Setup {
+    Save,
+    Recall,
 }
 
 /// The registers that a number is written to.
@@ -178,7 +186,7 @@ const fn register_set(name: SetName) -> [Branch; 5] {
     ]
 }
 
-static COMMON: [(Word, Row); 10] = [
+static COMMON: [(Word, Row); 12] = [
     (Word::new("IDN"), Row::Query(Query::Identification)),
     (Word::new("ESR"), Row::Query(Query::EventStatus)),
     (Word::new("STB"), Row::Query(Query::StatusByte)),
@@ -192,6 +200,8 @@ static COMMON: [(Word, Row); 10] = [
     ),
     (Word::new("WAI"), Row::Command(Command::Wait)),
     (Word::new("TST"), Row::Query(Query::SelfTest)),
+    (Word::new("SAV"), Row::Setup(Setup::Save)),
+    (Word::new("RCL"), Row::Setup(Setup::Recall)),
 ];
 
 impl Place {

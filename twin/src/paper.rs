@@ -14,6 +14,8 @@ pub enum Use {
     CommandOnly,
     /// A query, and a command without parameter.
     Both,
+    /// A command whose number is a place of the lent store, from 0 to 9 (02, #108).
+    StorePlace,
 }
 
 /// The place of a setting in the record, or none, with the printed header and its use.
@@ -25,7 +27,7 @@ const LIMIT_MODES: Use = Use::Words(&["CONTinuous", "OFF"]);
 /// How many of the headers are 01's own; they come first, and those of 02's requests follow.
 pub const OF_01: usize = 32;
 
-pub static HEADERS: [Printed; 43] = [
+pub static HEADERS: [Printed; 45] = [
     (Some(0), "OUTPut[:STATe]", Use::Bool),
     (Some(1), "OUTPut:PON", Use::Bool),
     (Some(2), "OUTPut:RELay", Use::Bool),
@@ -97,6 +99,8 @@ pub static HEADERS: [Printed; 43] = [
     (None, "STATus:WARNing:ENABle", Use::Register(32_767)),
     (None, "STATus:WARNing:NTRansition", Use::Register(32_767)),
     (None, "STATus:WARNing:PTRansition", Use::Register(32_767)),
+    (None, "*SAV", Use::StorePlace),
+    (None, "*RCL", Use::StorePlace),
 ];
 
 /// The suffixes that a setting's numbers take (02, #101), each with its power of ten.

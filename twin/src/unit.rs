@@ -4,9 +4,10 @@ use std::cmp::Ordering;
 
 use crate::answer::Answer;
 use crate::error::Error;
-use crate::header::{self, Command, Place, Query, Register, Row};
+use crate::header::{self, Command, Place, Query, Register, Row, Setup};
 use crate::number::{self, Quantity, Rounded, Step, Written};
 use crate::settings::{Setting, Settings, Values, R12V};
+use crate::setups::{self, Store, PLACES};
 use crate::status::{Status, FIFTEEN_BITS};
 use crate::text::{
     find, is_all_valid, is_white_space, read_name, skip_white_space, trim, Spelling, Word,
@@ -37,11 +38,11 @@ impl Instrument {
     }
 
     /// Runs the units of a line up to the first that is refused, and ends the answer.
-    pub(crate) fn run_line(&mut self, line: &[u8]) {
+    pub(crate) fn run_line(&mut self, line: &[u8], store: &mut Store) {
         if line.iter().all(|&byte| is_white_space(byte)) {
             return;
         }
-        if let Err(error) = self.run_units(line) {
+        if let Err(error) = self.run_units(line, store) {
             if error == Error::QueryDeadlocked {
                 self.answer.drop_bytes();
             }
@@ -50,19 +51,19 @@ impl Instrument {
         self.answer.end();
     }
 
-    fn run_units(&mut self, line: &[u8]) -> Result<(), Error> {
+    fn run_units(&mut self, line: &[u8], store: &mut Store) -> Result<(), Error> {
         let mut path = Place::Root;
         let mut rest = line;
         while let Some(end) = find(b';', rest) {
-            path = self.run_unit(&rest[..end], path)?;
+            path = self.run_unit(&rest[..end], path, store)?;
             rest = &rest[end + 1..];
         }
-        self.run_unit(rest, path)?;
+        self.run_unit(rest, path, store)?;
         Ok(())
     }
 
     /// Runs one unit after the path and gives the path for the next.
-    fn run_unit(&mut self, unit: &[u8], path: Place) -> Result<Place, Error> {
+    fn run_unit(&mut self, unit: &[u8], path: Place, store: &mut Store) -> Result<Place, Error> {
         if !is_all_valid(unit) {
             return Err(Error::InvalidCharacter);
         }
@@ -72,13 +73,13 @@ impl Instrument {
         if header.query {
             self.answer_query(row, &parameters)?;
         } else {
-            self.obey(row, &parameters)?;
+            self.obey(row, &parameters, store)?;
         }
         Ok(header.path)
     }
 
     /// The setting form of a row; -113 if it lacks one (01, check 3).
-    fn obey(&mut self, row: Row, parameters: &Parameters) -> Result<(), Error> {
+    fn obey(&mut self, row: Row, parameters: &Parameters, store: &mut Store) -> Result<(), Error> {
         match row {
             Row::Setting(setting) => self.obey_setting(setting, parameters.one()?),
             Row::Register(register) => self.write_register(register, parameters.one()?),
@@ -86,6 +87,7 @@ impl Instrument {
                 parameters.none()?;
                 self.obey_command(command)
             }
+            Row::Setup(setup) => self.obey_setup(setup, parameters.one()?, store),
             Row::OperationComplete => {
                 parameters.none()?;
                 self.status.operation_complete();
@@ -103,6 +105,24 @@ impl Instrument {
                 self.settings = Settings::reset();
             }
             Command::Clear => self.status.clear(),
+        }
+        Ok(())
+    }
+
+    /// 02, #108: -222 for the place, then the lock's -221, then -314.
+    fn obey_setup(
+        &mut self,
+        setup: Setup,
+        parameter: &[u8],
+        store: &mut Store,
+    ) -> Result<(), Error> {
+        let place = read_whole(parameter, PLACES as i32 - 1)? as usize;
+        self.must_not_be_locked()?;
+        match setup {
+            Setup::Save => setups::save(&self.settings, store, place),
+            Setup::Recall => {
+                self.settings = setups::recall(store, place).ok_or(Error::MemoryLost)?;
+            }
         }
         Ok(())
     }
@@ -171,18 +191,13 @@ impl Instrument {
     }
 
     fn write_register(&mut self, register: Register, parameter: &[u8]) -> Result<(), Error> {
-        let text = match Parameter::read(parameter)? {
-            Parameter::Word(_) => return Err(Error::InvalidCharacterData),
-            Parameter::Number(text) => text,
-        };
         let highest = match register {
             Register::EventStatusEnable | Register::ServiceRequestEnable => 255,
             Register::Enable(_)
             | Register::NegativeTransition(_)
             | Register::PositiveTransition(_) => i32::from(FIFTEEN_BITS),
         };
-        let rounded = number::read(text, None)?.in_steps(Step::One);
-        let value = within(0, highest, rounded)? as u16;
+        let value = read_whole(parameter, highest)? as u16;
         match register {
             Register::EventStatusEnable => self.status.ese = value,
             Register::ServiceRequestEnable => self.status.enable_service_request(value),
@@ -209,7 +224,7 @@ impl Instrument {
                 parameters.none()?;
                 self.answer.add(b"1")
             }
-            Row::Command(_) => Err(Error::UndefinedHeader),
+            Row::Command(_) | Row::Setup(_) => Err(Error::UndefinedHeader),
         }
     }
 
@@ -362,6 +377,16 @@ fn read_bool(parameter: &[u8]) -> Result<i32, Error> {
         Parameter::Number(text) => {
             let rounded = number::read(text, None)?.in_steps(Step::One);
             Ok(i32::from(rounded.steps != 0))
+        }
+    }
+}
+
+/// A number of step 1 from 0 on, without MIN or MAX: a register's, or a place of the store.
+fn read_whole(parameter: &[u8], highest: i32) -> Result<i32, Error> {
+    match Parameter::read(parameter)? {
+        Parameter::Word(_) => Err(Error::InvalidCharacterData),
+        Parameter::Number(text) => {
+            within(0, highest, number::read(text, None)?.in_steps(Step::One))
         }
     }
 }

@@ -3,7 +3,7 @@
 use std::io::Write;
 use std::process::{Child, Command, Stdio};
 
-use twin::{State, ANSWER_LIMIT};
+use twin::{State, ANSWER_LIMIT, STORE_LENGTH};
 
 const BENCH24: &str = env!("CARGO_BIN_EXE_bench24");
 const PLAYER: &str = env!("CARGO_BIN_EXE_player");
@@ -46,12 +46,13 @@ fn bench24_answers_each_line_by_itself() {
     assert!(lines.len() > 4 * 65_536);
     assert_eq!(lines.lines().count(), 20_000);
     let mut state = State::power_up();
+    let mut store = [0; STORE_LENGTH];
     let mut expected = Vec::new();
     let mut buffer = [0; ANSWER_LIMIT];
     for line in lines.split_inclusive('\n') {
-        state.piece(line.as_bytes()).unwrap();
-        if state.look().unwrap() & 16 != 0 {
-            let length = state.take(&mut buffer).unwrap();
+        state.piece(&mut store, line.as_bytes()).unwrap();
+        if state.look(&store).unwrap() & 16 != 0 {
+            let length = state.take(&store, &mut buffer).unwrap();
             expected.extend_from_slice(&buffer[..length]);
         }
     }
@@ -62,12 +63,13 @@ fn bench24_answers_each_line_by_itself() {
 /// Plays lines one at a time, each answer taken: the errors that each raised, and its answer.
 fn play_lines(lines: &str) -> Vec<(usize, usize)> {
     let mut state = State::power_up();
+    let mut store = [0; STORE_LENGTH];
     let mut buffer = [0; ANSWER_LIMIT];
     let results = lines.split_inclusive('\n').map(|line| {
-        state.piece(line.as_bytes()).unwrap();
-        let answers = state.look().unwrap() & 16 != 0;
+        state.piece(&mut store, line.as_bytes()).unwrap();
+        let answers = state.look(&store).unwrap() & 16 != 0;
         let length = if answers {
-            state.take(&mut buffer).unwrap()
+            state.take(&store, &mut buffer).unwrap()
         } else {
             0
         };
@@ -239,6 +241,27 @@ fn player_on_what_it_cannot_read() {
         "x line ",
         "x overlong 1",
         "p 41\r",
+        "S",
+        "S ",
+        "S 8193",
+        "S -1",
+        "S 1 2",
+        "b 0 0",
+        "b 10 0 1",
+        "b 0 512 1",
+        "b 0 0 256",
+        "b 0 0 -1",
+        "b 0 0 1 1",
+        "z",
+        "z 10",
+        "z 1 2",
+        "m 0",
+        "m 0 10",
+        "m 10 0",
+        "m 1 2 3",
+        "r ",
+        "r 0",
+        "R",
     ];
     let reports = play(&unreadable.join("\n"));
     let expected: Vec<String> = (1..=unreadable.len()).map(|n| format!("? {n}")).collect();
@@ -253,6 +276,14 @@ fn player_on_what_it_cannot_read() {
         "k 32768",
         "w 65535",
         "x queued 65535",
+        "S 0",
+        "S 8192",
+        "S 0005120",
+        "b 9 511 255",
+        "b 00 000 0",
+        "z 9",
+        "m 9 9",
+        "r",
     ];
     assert!(play(&readable.join("\n"))
         .iter()
@@ -294,4 +325,94 @@ fn histories_are_the_same_for_the_same_seed_and_can_be_read() {
             assert_eq!(event.as_bytes()[0], report.as_bytes()[0], "{event}");
         }
     }
+}
+
+#[test]
+fn bench24_lends_a_store_of_zeros() {
+    let lines = b"*RCL 3\nSYST:ERR?\nVOLT 5;*SAV 3;*RST\nVOLT?\n*RCL 3;VOLT?\n";
+    let answers = "-314,\"Save/recall memory lost\"\n0.0\n5.0\n";
+    assert_eq!(run(BENCH24, &[], lines), answers);
+}
+
+#[test]
+fn player_store() {
+    // *SAV 3, *RCL 3
+    let (save, recall) = ("p 2A53415620330A", "p 2A52434C20330A");
+    let script = [
+        "r",
+        save,
+        "r",
+        "b 3 12 1",
+        "r",
+        "b 3 12 255",
+        "r",
+        "m 3 0",
+        "m 3 9",
+        "r",
+        "z 3",
+        "r",
+        "u",
+        "r",
+        recall,
+        "x queued 1",
+        "l",
+        "b 0 508 1",
+        "r",
+        "b 9 511 1",
+        "r",
+    ];
+    let reports = play(&script.join("\n"));
+    let expected = [
+        "r 0000000000",
+        "p 0 1",
+        "r 0001000000",
+        "b",
+        "r 0000000000",
+        "b",
+        "r 0001000000",
+        "m",
+        "m",
+        "r 1001000001",
+        "z",
+        "r 1000000001",
+        "u",
+        "r 1000000001",
+        "p 0 1",
+        "x",
+        "l 0 4",
+        "b",
+        "r 0000000001",
+        "b",
+        "r 0000000000",
+    ];
+    assert_eq!(reports, expected);
+}
+
+#[test]
+fn player_lends_another_store_to_one_event() {
+    let events = ["p 564F4C543F0A", "t 3", "c 5", "c 40000", "k 1", "w 1", "l"];
+    let refused = ["p 5 0", "t 5 0 AAAAAA", "c 5", "c 5", "k 5", "w 5", "l 5 0"];
+    for (event, refused) in events.into_iter().zip(refused) {
+        for length in [0, 1, 512, 5119, 5121, 8192] {
+            let script = format!("u\ns\nS {length}\n{event}\ns\nl");
+            let reports = play(&script);
+            assert_eq!(reports[3], refused);
+            assert_eq!(reports[4], reports[1]);
+            assert_eq!(reports[5], "l 0 0");
+        }
+    }
+    // Only an event that is lent a store uses the length up; the last one given counts.
+    let script =
+        "S 0\nu\ns\nx esr 0\nr\nb 0 0 1\nz 0\nm 0 1\nq\nl\nl\nS 0\nS 5120\nl\nS 5120\nS 1\nl";
+    let reports = play(script);
+    assert_eq!(reports[9..11], ["l 5 0", "l 0 0"]);
+    assert_eq!(reports[13], "l 0 0");
+    assert_eq!(reports[16], "l 5 0");
+    // Before refusals 3 and 4.
+    let script = "x sre 64\nl\nS 5119\nl\nS 5121\nc 65535\nl\nx sre 0\nS 5119\nc 65535\nc 65535";
+    let reports = play(script);
+    let expected = [
+        "x", "l 4 0", "S", "l 5 0", "S", "c 5", "l 4 0", "x", "S", "c 5", "c 3",
+    ];
+    assert_eq!(reports, expected);
 }

@@ -11,6 +11,8 @@ mod lines;
 mod mild;
 #[path = "histories/script.rs"]
 mod script;
+#[path = "histories/setups.rs"]
+mod setups;
 
 use std::env;
 use std::io::{self, BufWriter, Write};

@@ -3,7 +3,8 @@
 
 use std::io::{self, BufRead, BufWriter, Write};
 
-use twin::{Refusal, RegisterSet, SetName, State, QUEUE_LIMIT, SETTINGS};
+use twin::{Refusal, RegisterSet, SetName, State, Table, BLOCK_LENGTH, LONGEST_STORE, PLACES};
+use twin::{QUEUE_LIMIT, SETTINGS};
 
 const LONGEST_BUFFER: usize = 8192;
 const LONGEST_LENGTH: usize = 65_535;
@@ -17,6 +18,16 @@ enum Event<'script> {
     Look,
     State,
     Overwrite(&'script str, &'script str),
+    Store(StoreEvent),
+}
+
+/// What happens to the store alone, between the box's events (02, #108).
+enum StoreEvent {
+    Lend(usize),
+    Alter(usize, usize, u8),
+    Zero(usize),
+    Copy(usize, usize),
+    Recallable,
 }
 
 /// The event that a script line names, if it can be read.
@@ -27,16 +38,31 @@ fn read_event(line: &[u8]) -> Option<Event<'_>> {
         ["u"] => Some(Event::PowerUp),
         ["p"] => Some(Event::Piece(Vec::new())),
         ["p", hex] => Some(Event::Piece(read_hex(hex)?)),
-        ["t", length] => {
-            let length: usize = read_decimal(length)?;
-            (length <= LONGEST_BUFFER).then_some(Event::Take(length))
-        }
+        ["t", length] => Some(Event::Take(read_up_to(length, LONGEST_BUFFER)?)),
         ["c", value] => Some(Event::Condition(SetName::Operation, read_decimal(value)?)),
         ["k", value] => Some(Event::Condition(SetName::Lock, read_decimal(value)?)),
         ["w", value] => Some(Event::Condition(SetName::Warning, read_decimal(value)?)),
         ["l"] => Some(Event::Look),
         ["s"] => Some(Event::State),
         ["x", field, value] => Some(Event::Overwrite(field, value)),
+        _ => read_store_event(&fields).map(Event::Store),
+    }
+}
+
+fn read_store_event(fields: &[&str]) -> Option<StoreEvent> {
+    match *fields {
+        ["S", length] => Some(StoreEvent::Lend(read_up_to(length, LONGEST_STORE)?)),
+        ["b", place, byte, value] => Some(StoreEvent::Alter(
+            read_up_to(place, PLACES - 1)?,
+            read_up_to(byte, BLOCK_LENGTH - 1)?,
+            read_decimal(value)?,
+        )),
+        ["z", place] => Some(StoreEvent::Zero(read_up_to(place, PLACES - 1)?)),
+        ["m", from, to] => Some(StoreEvent::Copy(
+            read_up_to(from, PLACES - 1)?,
+            read_up_to(to, PLACES - 1)?,
+        )),
+        ["r"] => Some(StoreEvent::Recallable),
         _ => None,
     }
 }
@@ -67,8 +93,12 @@ fn read_signed(text: &str) -> Option<i32> {
     all_digits.then(|| text.parse().ok())?
 }
 
+fn read_up_to(text: &str, most: usize) -> Option<usize> {
+    read_decimal(text).filter(|&number| number <= most)
+}
+
 fn read_length(text: &str) -> Option<usize> {
-    read_decimal(text).filter(|&length| length <= LONGEST_LENGTH)
+    read_up_to(text, LONGEST_LENGTH)
 }
 
 /// Overwrites one number of the raw record; nothing, if field or value can't be read.
@@ -126,31 +156,57 @@ fn read_place(field: &str, array: &str, length: usize) -> Option<usize> {
 }
 
 /// What an event is answered with; nothing, if it can't be read.
-fn play(state: &mut State, line: &[u8]) -> Option<String> {
+fn play(table: &mut Table, line: &[u8]) -> Option<String> {
     Some(match read_event(line)? {
         Event::PowerUp => {
-            *state = State::power_up();
+            table.power_up();
             "u".to_string()
         }
         Event::Piece(bytes) => {
-            let result = state.piece(&bytes);
+            let result = table.piece(&bytes);
             format!("p {} {}", number(&result), result.unwrap_or(0))
         }
-        Event::Take(length) => play_take(state, length),
+        Event::Take(length) => play_take(table, length),
         Event::Condition(name, value) => {
-            let result = state.condition(name, value);
+            let result = table.condition(name, value);
             format!("{} {}", letter(name), number(&result))
         }
         Event::Look => {
-            let result = state.look();
+            let result = table.look();
             format!("l {} {}", number(&result), result.unwrap_or(0))
         }
-        Event::State => write_state(state),
+        Event::State => write_state(&table.state),
         Event::Overwrite(field, value) => {
-            overwrite(state, field, value)?;
+            overwrite(&mut table.state, field, value)?;
             "x".to_string()
         }
+        Event::Store(event) => play_store_event(table, event),
     })
+}
+
+fn play_store_event(table: &mut Table, event: StoreEvent) -> String {
+    match event {
+        StoreEvent::Lend(length) => {
+            table.lend(length);
+            "S".to_string()
+        }
+        StoreEvent::Alter(place, byte, value) => {
+            table.alter(place, byte, value);
+            "b".to_string()
+        }
+        StoreEvent::Zero(place) => {
+            table.zero(place);
+            "z".to_string()
+        }
+        StoreEvent::Copy(from, to) => {
+            table.copy(from, to);
+            "m".to_string()
+        }
+        StoreEvent::Recallable => {
+            let digits = table.recallable().map(|good| if good { '1' } else { '0' });
+            format!("r {}", String::from_iter(digits))
+        }
+    }
 }
 
 /// The letter of a set's condition event.
@@ -162,9 +218,9 @@ fn letter(name: SetName) -> char {
     }
 }
 
-fn play_take(state: &mut State, length: usize) -> String {
+fn play_take(table: &mut Table, length: usize) -> String {
     let mut buffer = vec![UNTOUCHED; length];
-    let result = state.take(&mut buffer);
+    let result = table.take(&mut buffer);
     let length = match result {
         Ok(length) | Err(Refusal::BufferTooShort { needed: length }) => length,
         Err(_) => 0,
@@ -237,13 +293,13 @@ fn or_dash(text: String) -> String {
 fn main() -> io::Result<()> {
     let mut input = io::stdin().lock();
     let mut output = BufWriter::new(io::stdout().lock());
-    let mut state = State::power_up();
+    let mut table = Table::default();
     let mut line = Vec::new();
     let mut line_number: u64 = 0;
     while input.read_until(b'\n', &mut line)? > 0 {
         line_number += 1;
         let event = line.strip_suffix(b"\n").unwrap_or(&line);
-        match play(&mut state, event) {
+        match play(&mut table, event) {
             Some(report) => writeln!(output, "{report}")?,
             None => writeln!(output, "? {line_number}")?,
         }

@@ -2,7 +2,7 @@
 
 #![allow(dead_code)]
 
-use twin::{State, ANSWER_LIMIT, SETTINGS};
+use twin::{Refusal, SetName, State, Store, ANSWER_LIMIT, SETTINGS, STORE_LENGTH};
 
 pub const VOLTAGE: usize = 4;
 pub const RANGE: usize = 5;
@@ -14,30 +14,52 @@ pub const LOW: usize = 13;
 pub const BRIGHTNESS: usize = 14;
 pub const EXAM: usize = 16;
 
+/// A box, and the store that each of its events is lent.
+#[derive(Clone, Debug, PartialEq, Eq)]
 pub struct Bench {
     pub state: State,
+    pub store: Store,
 }
 
 impl Bench {
     pub fn power_up() -> Bench {
         Bench {
             state: State::power_up(),
+            store: [0; STORE_LENGTH],
         }
+    }
+
+    // The events, each lent the whole store.
+
+    pub fn piece(&mut self, bytes: &[u8]) -> Result<usize, Refusal> {
+        self.state.piece(&mut self.store, bytes)
+    }
+
+    pub fn take(&mut self, buffer: &mut [u8]) -> Result<usize, Refusal> {
+        self.state.take(&self.store, buffer)
+    }
+
+    pub fn condition(&mut self, name: SetName, value: u16) -> Result<(), Refusal> {
+        self.state.condition(&self.store, name, value)
+    }
+
+    pub fn look(&self) -> Result<u8, Refusal> {
+        self.state.look(&self.store)
     }
 
     /// Sends a line and its newline, and takes nothing.
     pub fn send(&mut self, line: impl AsRef<[u8]>) {
         let line = [line.as_ref(), b"\n"].concat();
-        assert_eq!(self.state.piece(&line), Ok(1));
+        assert_eq!(self.piece(&line), Ok(1));
     }
 
     /// Takes what waits, without its newline.
     pub fn answer(&mut self) -> Option<String> {
-        if self.state.look().unwrap() & 16 == 0 {
+        if self.look().unwrap() & 16 == 0 {
             return None;
         }
         let mut buffer = [0; ANSWER_LIMIT];
-        let length = self.state.take(&mut buffer).unwrap();
+        let length = self.take(&mut buffer).unwrap();
         assert_eq!(buffer[length - 1], b'\n');
         Some(String::from_utf8(buffer[..length - 1].to_vec()).unwrap())
     }
@@ -106,6 +128,7 @@ pub fn refused(line: impl AsRef<[u8]>, number: u16) {
         _ => 4,
     };
     assert!(same(&bench.state, &expected), "{line}");
+    assert_eq!(bench.store, [0; STORE_LENGTH], "{line}");
 }
 
 /// The line is refused, from power-up, and what its first units did stays.
@@ -122,6 +145,11 @@ pub fn refused_after(first_units: &str, unit: &str, number: u16) {
 /// Whether two records are the same state: places beyond a stored length mean nothing.
 pub fn same(one: &State, other: &State) -> bool {
     meaning(one) == meaning(other)
+}
+
+/// Whether two boxes are the same and their stores too.
+pub fn agree(one: &Bench, other: &Bench) -> bool {
+    same(&one.state, &other.state) && one.store == other.store
 }
 
 fn meaning(state: &State) -> State {

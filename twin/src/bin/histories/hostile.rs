@@ -9,12 +9,13 @@ use twin::{SetName, SETTINGS};
 use crate::dice::Dice;
 use crate::lines::{mix_case, spell, with_suffix, Lines, Manner};
 use crate::script::{Field, Script};
+use crate::setups;
 
 pub fn write(script: &mut Script, count: usize) -> io::Result<()> {
     let lines = Lines::new(Manner::Varied);
     script.power_up()?;
     while script.events < count {
-        match script.dice.below(22) {
+        match script.dice.below(24) {
             0..=3 => send_line(script, |dice| lines.good(dice))?,
             4 => send_line(script, |dice| lines.faulty(dice))?,
             5 => send_line(script, odd_bytes)?,
@@ -30,6 +31,7 @@ pub fn write(script: &mut Script, count: usize) -> io::Result<()> {
             17 => hand_made_from_power_up(script, &lines)?,
             18 => hand_made_on_the_way(script, &lines)?,
             19 | 20 => under_lock(script, &lines)?,
+            21 | 22 => setups::hostile(script)?,
             _ => script.between()?,
         }
         let length = match script.dice.below(100) {
@@ -363,7 +365,7 @@ fn query_that_does_not_fit(script: &mut Script) -> io::Result<()> {
 }
 
 /// Lines that a lock blocks, whole or in part, or doesn't block (02, #105).
-static LINES_AND_LOCK: [&str; 40] = [
+static LINES_AND_LOCK: [&str; 46] = [
     "OUTP 0",
     "OUTP OFF",
     "OUTP:STAT 0.4",
@@ -404,6 +406,12 @@ static LINES_AND_LOCK: [&str; 40] = [
     "STAT:LOCK?;LOCK:COND?",
     "STAT:WARN:ENAB 3;:VOLT 4",
     "SYST:ERR?;:VOLT?",
+    "*SAV 1",
+    "*SAV 10",
+    "*RCL 1",
+    "*RCL 9",
+    "*RCL 9.5",
+    "VOLT?;*RCL 2;FREQ?",
 ];
 
 /// Some lines between the lock's coming and, most often, its going.
@@ -453,15 +461,16 @@ fn full_queue(script: &mut Script) -> io::Result<()> {
     Ok(())
 }
 
-static ALLOWED_ERRORS: [i32; 19] = [
-    101, 102, 104, 108, 109, 113, 121, 123, 124, 131, 138, 141, 221, 222, 350, 363, 410, 420, 430,
+static ALLOWED_ERRORS: [i32; 20] = [
+    101, 102, 104, 108, 109, 113, 121, 123, 124, 131, 138, 141, 221, 222, 314, 350, 363, 410, 420,
+    430,
 ];
 
 static REGISTERS: [&str; 3] = ["esr", "ese", "sre"];
 static SET_REGISTERS: [&str; 5] = ["condition", "event", "enable", "ptr", "ntr"];
 
 /// The settings' limits, and the voltage's in both ranges.
-static SETTING_LIMITS: [(usize, i32, i32); 18] = [
+pub static SETTING_LIMITS: [(usize, i32, i32); 18] = [
     (0, 0, 1),
     (1, 0, 1),
     (2, 0, 1),
@@ -504,7 +513,7 @@ fn number_for_any_time(dice: &mut Dice) -> (Field, i32) {
         _ => {
             let number = match dice.below(3) {
                 0 => dice.below(65_536) as i32,
-                1 => dice.pick(&[0, 100, 103, 114, 130, 132, 150, 220, 223, 314, 351, 440]),
+                1 => dice.pick(&[0, 100, 103, 114, 130, 132, 150, 220, 223, 313, 351, 440]),
                 _ => dice.pick(&ALLOWED_ERRORS),
             };
             (Field::Error(dice.below(16)), number)
@@ -535,7 +544,7 @@ fn hand_made_from_power_up(script: &mut Script, lines: &Lines) -> io::Result<()>
         }
     }
     play_on(script, lines)?;
-    if script.dice.chance(60) || script.box_state.look().is_err() {
+    if script.dice.chance(60) || !script.is_the_boxs() {
         script.power_up()?;
     }
     Ok(())
@@ -556,21 +565,21 @@ fn hand_made_on_the_way(script: &mut Script, lines: &Lines) -> io::Result<()> {
         let field = script
             .dice
             .pick(&[Field::Queued, Field::Line, Field::Answer]);
-        let length = field.value(&mut script.box_state);
+        let length = field.value(&mut script.table.state);
         (field, script.dice.between(0, length))
     } else {
         number_for_any_time(&mut script.dice)
     };
-    let before = field.value(&mut script.box_state);
+    let before = field.value(&mut script.table.state);
     script.overwrite(field, value)?;
     play_on(script, lines)?;
-    if script.box_state.look().is_ok() {
+    if script.is_the_boxs() {
         return Ok(());
     }
     if script.dice.chance(50) {
         script.overwrite(field, before)?;
     }
-    if script.box_state.look().is_err() {
+    if !script.is_the_boxs() {
         script.power_up()?;
     }
     Ok(())

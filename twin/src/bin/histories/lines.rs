@@ -305,7 +305,7 @@ impl Lines {
 
     fn asks(&self, dice: &mut Dice, takes: Use) -> bool {
         match (self.units, takes) {
-            (Units::Settings, _) | (_, Use::CommandOnly) => false,
+            (Units::Settings, _) | (_, Use::CommandOnly | Use::StorePlace) => false,
             (Units::Queries, _) | (_, Use::QueryOnly) => true,
             _ => dice.chance(45),
         }
@@ -322,6 +322,7 @@ impl Lines {
             }
             _ if query => None,
             Use::QueryOnly | Use::CommandOnly | Use::Both => None,
+            Use::StorePlace => Some(number(dice, 0, 90, false)),
             Use::Bool if self.manner == Manner::Plain => Some(dice.pick(&PLAIN_BOOLS).into()),
             Use::Bool => Some(dice.pick(&VARIED_BOOLS).into()),
             Use::Words(words) => {

@@ -4,6 +4,7 @@ use std::io;
 
 use crate::lines::{Lines, Manner};
 use crate::script::Script;
+use crate::setups;
 
 pub fn write(script: &mut Script, count: usize) -> io::Result<()> {
     let lines = Lines::new(Manner::Varied);
@@ -20,6 +21,9 @@ pub fn write(script: &mut Script, count: usize) -> io::Result<()> {
         script.empty_queue()?;
         if script.dice.chance(15) {
             script.between()?;
+        }
+        if script.dice.chance(8) {
+            setups::mild(script)?;
         }
         if script.dice.chance(1) {
             script.power_up()?;

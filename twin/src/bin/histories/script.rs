@@ -3,13 +3,16 @@
 
 use std::io::{self, Write};
 
-use twin::{SetName, State};
+use twin::{SetName, State, Table, STORE_LENGTH};
 
 use crate::dice::Dice;
 
+/// The player's.
+const LONGEST_BUFFER: usize = 8192;
+
 pub struct Script<'output> {
     pub dice: Dice,
-    pub box_state: State,
+    pub table: Table,
     pub events: usize,
     until_state: usize,
     output: &'output mut dyn Write,
@@ -19,7 +22,7 @@ impl<'output> Script<'output> {
     pub fn new(dice: Dice, output: &'output mut dyn Write) -> Script<'output> {
         Script {
             dice,
-            box_state: State::power_up(),
+            table: Table::default(),
             events: 0,
             until_state: 20,
             output,
@@ -42,26 +45,26 @@ impl<'output> Script<'output> {
     }
 
     pub fn power_up(&mut self) -> io::Result<()> {
-        self.box_state = State::power_up();
+        self.table.power_up();
         writeln!(self.output, "u")?;
         self.count()
     }
 
     pub fn piece(&mut self, bytes: &[u8]) -> io::Result<()> {
-        let _ = self.box_state.piece(bytes);
+        let _ = self.table.piece(bytes);
         let hex: String = bytes.iter().map(|byte| format!("{byte:02X}")).collect();
         writeln!(self.output, "{}", format!("p {hex}").trim_end())?;
         self.count()
     }
 
     pub fn take(&mut self, length: usize) -> io::Result<()> {
-        let _ = self.box_state.take(&mut vec![0; length]);
+        let _ = self.table.take(&mut vec![0; length]);
         writeln!(self.output, "t {length}")?;
         self.count()
     }
 
     pub fn condition(&mut self, name: SetName, value: u16) -> io::Result<()> {
-        let _ = self.box_state.condition(name, value);
+        let _ = self.table.condition(name, value);
         let letter = match name {
             SetName::Operation => 'c',
             SetName::Lock => 'k',
@@ -72,15 +75,51 @@ impl<'output> Script<'output> {
     }
 
     pub fn look(&mut self) -> io::Result<()> {
+        let _ = self.table.look();
         writeln!(self.output, "l")?;
         self.count()
     }
 
     /// Overwrites one number of the raw record.
     pub fn overwrite(&mut self, field: Field, value: i32) -> io::Result<()> {
-        field.overwrite(&mut self.box_state, value);
+        field.overwrite(&mut self.table.state, value);
         writeln!(self.output, "x {} {value}", field.name())?;
         self.count()
+    }
+
+    /// The next event is lent a store of this length.
+    pub fn lend(&mut self, length: usize) -> io::Result<()> {
+        self.table.lend(length);
+        writeln!(self.output, "S {length}")?;
+        self.count()
+    }
+
+    pub fn alter(&mut self, place: usize, byte: usize, value: u8) -> io::Result<()> {
+        self.table.alter(place, byte, value);
+        writeln!(self.output, "b {place} {byte} {value}")?;
+        self.count()
+    }
+
+    pub fn zero(&mut self, place: usize) -> io::Result<()> {
+        self.table.zero(place);
+        writeln!(self.output, "z {place}")?;
+        self.count()
+    }
+
+    pub fn copy(&mut self, from: usize, to: usize) -> io::Result<()> {
+        self.table.copy(from, to);
+        writeln!(self.output, "m {from} {to}")?;
+        self.count()
+    }
+
+    pub fn recallable(&mut self) -> io::Result<()> {
+        writeln!(self.output, "r")?;
+        self.count()
+    }
+
+    /// Whether number 4 would refuse no event.
+    pub fn is_the_boxs(&self) -> bool {
+        self.table.state.look(&[0; STORE_LENGTH]).is_ok()
     }
 
     /// Sends bytes in one piece or in several, now and then with other events between them.
@@ -100,7 +139,7 @@ impl<'output> Script<'output> {
     /// Takes what a line may have answered: mostly if something waits, seldom if not, so that
     /// the queue doesn't fill up with -410 and -420 alone.
     pub fn collect(&mut self, length: usize) -> io::Result<()> {
-        let waits = self.box_state.instrument.answer.length > 0;
+        let waits = self.table.state.instrument.answer.length > 0;
         if self.dice.chance(if waits { 90 } else { 4 }) {
             self.take(length)?;
         }
@@ -109,12 +148,13 @@ impl<'output> Script<'output> {
 
     /// The length of a buffer that holds what waits, and hardly more: a report shows all of it.
     pub fn enough(&mut self) -> usize {
-        self.box_state.instrument.answer.length + self.dice.below(9)
+        let length = self.table.state.instrument.answer.length + self.dice.below(9);
+        length.min(LONGEST_BUFFER)
     }
 
     /// Reads or clears a queue that is filling up, now and then.
     pub fn empty_queue(&mut self) -> io::Result<()> {
-        while self.box_state.instrument.status.queued > 6 && self.dice.chance(40) {
+        while self.table.state.instrument.status.queued > 6 && self.dice.chance(40) {
             let line = self
                 .dice
                 .pick(&["SYST:ERR?\n", "*CLS\n", "SYST:ERR?;ERR?;ERR?\n"]);

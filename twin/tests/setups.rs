@@ -1,0 +1,389 @@
+//! #108 of 02, saved setups: its own words and the examples of the settled readings. The blocks are
+//! written and read here by hand, from the layout alone.
+
+mod bench;
+
+use bench::*;
+use twin::{SetName, SETTINGS, STORE_LENGTH};
+
+const BLOCK: usize = 512;
+const OUTPUT: usize = 0;
+
+type Block = [u8; BLOCK];
+type Change = fn(&mut Block);
+
+/// The sum over the first 508 bytes of the byte times its place, counted from 1.
+fn sum(block: &Block) -> u32 {
+    (1..=508)
+        .map(|place| place * u32::from(block[place as usize - 1]))
+        .sum()
+}
+
+fn with_check(mut block: Block) -> Block {
+    let sum = sum(&block);
+    block[508] = (sum % 256) as u8;
+    block[509] = (sum / 256 % 256) as u8;
+    block[510] = (sum / 65_536 % 256) as u8;
+    block[511] = (sum / 16_777_216) as u8;
+    block
+}
+
+/// A block as the layout has it: value + 256, low byte first, from byte 0.
+fn block_of(settings: &[i32; SETTINGS]) -> Block {
+    let mut block = [0; BLOCK];
+    for (place, value) in settings.iter().enumerate() {
+        block[2 * place] = ((value + 256) % 256) as u8;
+        block[2 * place + 1] = ((value + 256) / 256) as u8;
+    }
+    with_check(block)
+}
+
+fn put(bench: &mut Bench, place: usize, block: &Block) {
+    bench.store[place * BLOCK..][..BLOCK].copy_from_slice(block);
+}
+
+fn block(bench: &Bench, place: usize) -> Block {
+    bench.store[place * BLOCK..][..BLOCK].try_into().unwrap()
+}
+
+/// *RCL of this block from power-up sets these settings and nothing else.
+#[track_caller]
+fn recalls(saved: &Block, settings: [i32; SETTINGS]) {
+    let mut bench = Bench::power_up();
+    put(&mut bench, 3, saved);
+    let mut expected = bench.clone();
+    bench.send("*RCL 3");
+    assert_eq!(bench.errors(), []);
+    expected.state.instrument.settings.values = settings;
+    assert!(agree(&bench, &expected));
+}
+
+/// *RCL of this block is -314 and changes nothing else.
+#[track_caller]
+fn memory_lost(saved: &Block, note: &str) {
+    let mut bench = after("VOLT 5;FREQ 60");
+    put(&mut bench, 3, saved);
+    let mut expected = bench.clone();
+    bench.send("*RCL 3");
+    assert_eq!(bench.errors(), [314], "{note}");
+    let status = &mut expected.state.instrument.status;
+    status.queued = 1;
+    status.errors[0] = 314;
+    status.esr |= 8;
+    assert!(agree(&bench, &expected), "{note}");
+}
+
+/// Far from *RST everywhere.
+const FULL: [i32; SETTINGS] = [1, 1, 0, 1, 240, 1, 5500, 20, 0, 0, 10, 9, 80, -5, 99, 1, 1];
+const RESET: [i32; SETTINGS] = [0, 0, 1, 2, 0, 0, 500, 10, 1, 1, 1, 1, 40, -40, 50, 0, 0];
+
+#[test]
+fn layout_at_reset_by_hand() {
+    let bench = after("*SAV 0");
+    assert_eq!(bench.errors(), []);
+    let saved = block(&bench, 0);
+    // 256 is 00 01; 257 is 01 01; 500 + 256 = 756 is F4 02; -40 + 256 = 216 is D8 00.
+    let values = [
+        0, 1, 0, 1, 1, 1, 2, 1, 0, 1, 0, 1, 0xF4, 2, 10, 1, 1, 1, 1, 1, 1, 1, 1, 1, 40, 1, 0xD8, 0,
+        50, 1, 0, 1, 0, 1,
+    ];
+    assert_eq!(saved[..34], values);
+    assert_eq!(saved[34..508], [0; 474]);
+    assert_eq!(saved, block_of(&RESET));
+}
+
+#[test]
+fn all_settings_are_saved_and_recalled() {
+    let mut bench = Bench::power_up();
+    bench.send("OUTP 1;OUTP:PON 1;REL 0;MON:MODE SCUR;:VOLT:RANG R24V;LEV 24;:FREQ 550");
+    bench.send("CURR:LIM:RMS 2;RMS:MODE CONT;TIME 10;:CURR:LIM:PEAK:MODE CONT;TIME 9;HIGH 8");
+    bench.send("CURR:LIM:PEAK:LOW -0.5;:DISP:BRIG 99;:SYST:KLOC 1;EXAM 1");
+    assert_eq!(bench.settings(), FULL);
+    bench.send("*SAV 7");
+    assert_eq!(block(&bench, 7), block_of(&FULL));
+    bench.send("*RST");
+    assert_eq!(bench.settings(), RESET);
+    bench.send("*RCL 7");
+    assert_eq!(bench.settings(), FULL);
+    assert_eq!(bench.errors(), []);
+    // Saved by one box, recalled by another.
+    recalls(&block(&bench, 7), FULL);
+}
+
+#[test]
+fn the_ten_places() {
+    let mut bench = Bench::power_up();
+    for place in 0..10 {
+        bench.send(format!("VOLT {place}.{place};*SAV {place}"));
+    }
+    bench.send("*RST");
+    for place in (0..10).rev() {
+        bench.send(format!("*RCL {place}"));
+        assert_eq!(bench.setting(VOLTAGE), 11 * place);
+    }
+    assert_eq!(bench.errors(), []);
+}
+
+#[test]
+fn save_touches_only_its_own_block() {
+    for place in 0..10 {
+        let mut bench = Bench::power_up();
+        bench.store = [0x5A; STORE_LENGTH];
+        bench.send(format!("*SAV {place}"));
+        assert_eq!(block(&bench, place), block_of(&RESET));
+        for other in (0..10).filter(|&other| other != place) {
+            assert_eq!(block(&bench, other), [0x5A; BLOCK]);
+        }
+    }
+}
+
+#[test]
+fn recall_and_every_other_line_touch_no_block() {
+    let mut bench = after("VOLT 5;*SAV 2");
+    let saved = bench.store;
+    for line in [
+        "*RCL 2",
+        "*RCL 3",
+        "*RST",
+        "*CLS",
+        "VOLT 3;*SAV 10",
+        "*SAV?",
+    ] {
+        bench.send(line);
+        assert_eq!(bench.store, saved, "{line}");
+    }
+}
+
+#[test]
+fn places() {
+    let mut bench = after("*SAV 9.4");
+    assert_eq!(block(&bench, 9), block_of(&RESET));
+    bench.send("*RST;*RCL 9.4;*RCL 90E-1");
+    assert_eq!(bench.errors(), []);
+    for header in ["*SAV", "*RCL"] {
+        for place in ["9.5", "10", "-0.5", "-1", "1E9", "999999999999E9"] {
+            refused(format!("{header} {place}"), 222);
+        }
+        refused(format!("{header} MAX"), 141);
+        refused(format!("{header} MIN"), 141);
+        refused(format!("{header} 1V"), 138);
+        refused(format!("{header} \"1\""), 104);
+        refused(format!("{header} 1E10"), 123);
+        refused(format!("{header} 1234567890123"), 124);
+        refused(format!("{header} 1.2.3"), 121);
+        refused(header, 109);
+        refused(format!("{header} 1,2"), 108);
+        refused(format!("{header} 1,"), 102);
+        refused(format!("{header}?"), 113);
+        refused(format!("{header}? 1"), 113);
+    }
+    for line in ["SAV 1", "*SAVE 1", "*SA 1", ":*SAV 1", "RCL 1", "*RECALL 1"] {
+        assert!(matches!(after(line).errors(), [113 | 102]), "{line}");
+    }
+    for (place, stored) in [
+        ("-0.4", 0),
+        ("0.5", 1),
+        ("1E-9", 0),
+        ("+8.49", 8),
+        ("8.5", 9),
+    ] {
+        let bench = after(format!("*sav {place}"));
+        assert_eq!(bench.errors(), [], "{place}");
+        assert_eq!(block(&bench, stored), block_of(&RESET), "{place}");
+    }
+}
+
+#[test]
+fn places_round_in_exam_mode_too() {
+    let mut bench = after("SYST:EXAM 1;*SAV 1.4;*RST;*RCL 0.6");
+    assert_eq!(bench.errors(), []);
+    assert_eq!(bench.setting(EXAM), 1);
+    bench.send("VOLT 5.05");
+    assert_eq!(bench.errors(), [222]);
+}
+
+#[test]
+fn they_keep_the_path() {
+    answers("VOLT:RANG R24V;*SAV 1;LEV 20;*RCL 1;LEV?;RANG?", "0.0;R24V");
+}
+
+#[test]
+fn any_single_altered_byte_is_noticed() {
+    for settings in [FULL, RESET] {
+        let saved = block_of(&settings);
+        for place in 0..BLOCK {
+            for change in 1..=255 {
+                let mut altered = saved;
+                altered[place] = altered[place].wrapping_add(change);
+                let mut bench = Bench::power_up();
+                put(&mut bench, 0, &altered);
+                bench.send("*RCL 0");
+                assert_eq!(bench.errors(), [314], "byte {place}, change {change}");
+            }
+        }
+    }
+}
+
+#[test]
+fn a_block_of_zeros() {
+    memory_lost(&[0; BLOCK], "zeros");
+    for place in 0..10 {
+        refused(format!("*RCL {place}"), 314);
+    }
+}
+
+#[test]
+fn settings_that_break_a_limit_or_the_range() {
+    let limits = [
+        (0, 1),
+        (0, 1),
+        (0, 1),
+        (0, 2),
+        (0, 240),
+        (0, 1),
+        (400, 5500),
+        (1, 20),
+        (0, 1),
+        (0, 1),
+        (1, 10),
+        (1, 10),
+        (5, 80),
+        (-80, -5),
+        (0, 99),
+        (0, 1),
+        (0, 1),
+    ];
+    for (place, (lowest, highest)) in limits.into_iter().enumerate() {
+        for value in [lowest, highest] {
+            let mut settings = FULL;
+            settings[place] = value;
+            // The range stays R24V, but where it is itself the one.
+            settings[VOLTAGE] = settings[VOLTAGE].min(120 + 120 * settings[RANGE]);
+            recalls(&block_of(&settings), settings);
+        }
+        for value in [lowest - 1, highest + 1, -256, 65_279] {
+            let mut settings = RESET;
+            settings[place] = value;
+            memory_lost(&block_of(&settings), &format!("setting {place} at {value}"));
+        }
+    }
+    let mut settings = RESET;
+    settings[VOLTAGE] = 120;
+    recalls(&block_of(&settings), settings);
+    settings[VOLTAGE] = 121;
+    memory_lost(&block_of(&settings), "a voltage above its range");
+    settings[RANGE] = 1;
+    recalls(&block_of(&settings), settings);
+}
+
+#[test]
+fn unused_bytes_may_be_anything() {
+    let changes: [Change; 5] = [
+        |block| block[34] = 1,
+        |block| block[507] = 255,
+        |block| block[34..508].fill(255),
+        |block| block[100..200].fill(b'A'),
+        |block| block[300] = 7,
+    ];
+    for change in changes {
+        let mut saved = block_of(&FULL);
+        change(&mut saved);
+        memory_lost(&saved, "the check is another");
+        recalls(&with_check(saved), FULL);
+    }
+}
+
+#[test]
+fn the_check_fails() {
+    let changes: [Change; 5] = [
+        |block| block[508] = block[508].wrapping_add(1),
+        |block| block[511] = 1,
+        |block| block[508..].fill(0),
+        |block| block[508..].fill(255),
+        |block| block[508..].reverse(),
+    ];
+    for change in changes {
+        let mut saved = block_of(&RESET);
+        change(&mut saved);
+        memory_lost(&saved, "the check");
+    }
+    // Two neighbours exchanged have another sum.
+    let mut saved = block_of(&RESET);
+    saved.swap(12, 13);
+    memory_lost(&saved, "two bytes exchanged");
+}
+
+#[test]
+fn recall_without_check_eight() {
+    let mut bench = after("VOLT 5;*SAV 1;:VOLT:RANG R24V;LEV 20;*SAV 2");
+    bench.send("*RCL 1");
+    assert_eq!((bench.setting(VOLTAGE), bench.setting(RANGE)), (50, 0));
+    bench.send("*RCL 2");
+    assert_eq!((bench.setting(VOLTAGE), bench.setting(RANGE)), (200, 1));
+    bench.send("*RCL 1");
+    assert_eq!((bench.setting(VOLTAGE), bench.setting(RANGE)), (50, 0));
+    assert_eq!(bench.errors(), []);
+}
+
+#[test]
+fn order_under_lock() {
+    let locked = || {
+        let mut bench = after("OUTP 1;*SAV 1;OUTP 0;VOLT 5");
+        bench.condition(SetName::Lock, 4).unwrap();
+        bench
+    };
+    let lines = [
+        ("*SAV 9.5", 222),
+        ("*RCL 10", 222),
+        ("*SAV 1", 221),
+        ("*SAV 2", 221),
+        ("*RCL 1", 221),
+        // Nothing is saved there, and the lock's -221 comes before -314.
+        ("*RCL 2", 221),
+        ("*RCL", 109),
+        ("*RCL 1,2", 108),
+        ("*SAV MAX", 141),
+    ];
+    for (line, number) in lines {
+        let mut bench = locked();
+        let before = bench.clone();
+        bench.send(line);
+        assert_eq!(bench.errors(), [number], "{line}");
+        assert_eq!(bench.settings(), before.settings(), "{line}");
+        assert_eq!(bench.store, before.store, "{line}");
+    }
+    let mut bench = locked();
+    bench.condition(SetName::Lock, 0).unwrap();
+    bench.send("*RCL 1");
+    assert_eq!((bench.setting(OUTPUT), bench.setting(VOLTAGE)), (1, 0));
+}
+
+#[test]
+fn what_a_refused_line_saved_stays() {
+    let mut bench = after("VOLT 5;*SAV 1;FOO;*SAV 2");
+    assert_eq!(bench.errors(), [113]);
+    bench.send("*CLS;*RST;*RCL 1");
+    assert_eq!(bench.errors(), []);
+    assert_eq!(bench.setting(VOLTAGE), 50);
+    bench.send("*RCL 2");
+    assert_eq!(bench.errors(), [314]);
+    bench.send("*RCL 2;VOLT 6");
+    assert_eq!(bench.setting(VOLTAGE), 50);
+}
+
+#[test]
+fn error_314() {
+    let mut bench = after("*RCL 0");
+    assert_eq!(bench.esr(), 128 + 8);
+    let answer = bench.ask("SYST:ERR?");
+    assert_eq!(answer.as_deref(), Some("-314,\"Save/recall memory lost\""));
+}
+
+/// The store outlives power-up: it isn't the box's.
+#[test]
+fn power_up_and_reset_leave_the_store() {
+    let mut bench = after("FREQ 60;*SAV 5;*RST");
+    bench.state = Bench::power_up().state;
+    bench.send("*RCL 5;FREQ?");
+    assert_eq!(bench.answer().as_deref(), Some("60.0"));
+}
