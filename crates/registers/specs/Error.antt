@@ -8,9 +8,9 @@ use lib.Dec.{ltb, eqb}
 use Rattle.registers.specs.Text.{Text, if_then_else_, bytes}
 use Rattle.registers.specs.Answer.{decimal}
 use Rattle.registers.specs.declared.error.Error.{Error}
-use Rattle.registers.specs.declared.error.Error.the-variants.{InvalidCharacter, Syntax, DataType, ParameterNotAllowed, MissingParameter, UndefinedHeader, InvalidCharacterInNumber, ExponentTooLarge, TooManyDigits, InvalidSuffix, SuffixNotAllowed, InvalidCharacterData, SettingsConflict, DataOutOfRange, InputBufferOverrun, QueryInterrupted, QueryUnterminated, QueryDeadlocked}
+use Rattle.registers.specs.declared.error.Error.the-variants.{InvalidCharacter, Syntax, DataType, ParameterNotAllowed, MissingParameter, UndefinedHeader, InvalidCharacterInNumber, ExponentTooLarge, TooManyDigits, InvalidSuffix, SuffixNotAllowed, InvalidCharacterData, SettingsConflict, DataOutOfRange, SaveRecallMemoryLost, InputBufferOverrun, QueryInterrupted, QueryUnterminated, QueryDeadlocked}
 
--- the number of each error that can be raised: 01's, and -131 of 02 (#101)
+-- the number of each error that can be raised: 01's, and of 02 -131 (#101) and -314 (#108)
 abbrev pub numberOf : Error → ℕ
 numberOf InvalidCharacter = 101
 numberOf Syntax = 102
@@ -26,6 +26,7 @@ numberOf SuffixNotAllowed = 138
 numberOf InvalidCharacterData = 141
 numberOf SettingsConflict = 221
 numberOf DataOutOfRange = 222
+numberOf SaveRecallMemoryLost = 314
 numberOf InputBufferOverrun = 363
 numberOf QueryInterrupted = 410
 numberOf QueryUnterminated = 420
@@ -57,6 +58,7 @@ messages =
     ∷ (141, "Invalid character data")
     ∷ (221, "Settings conflict")
     ∷ (222, "Data out of range")
+    ∷ (314, "Save/recall memory lost")
     ∷ (350, "Queue overflow")
     ∷ (363, "Input buffer overrun")
     ∷ (410, "Query INTERRUPTED")

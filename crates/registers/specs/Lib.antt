@@ -16,6 +16,7 @@ pub mod Rounding
 pub mod RoundingParts
 pub mod Settings
 pub mod SettingsParts
+pub mod Setup
 pub mod Group
 pub mod Status
 pub mod Examples

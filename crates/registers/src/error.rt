@@ -24,6 +24,7 @@ pub enum Error {
     InvalidCharacterData,
     SettingsConflict,
     DataOutOfRange,
+    SaveRecallMemoryLost,
     InputBufferOverrun,
     QueryInterrupted,
     QueryUnterminated,
@@ -50,6 +51,7 @@ impl Error {
             Error::InvalidCharacterData => 141,
             Error::SettingsConflict => 221,
             Error::DataOutOfRange => 222,
+            Error::SaveRecallMemoryLost => 314,
             Error::InputBufferOverrun => 363,
             Error::QueryInterrupted => 410,
             Error::QueryUnterminated => 420,
@@ -77,7 +79,7 @@ pub(crate) fn event_bit(number: u16) -> u16
 // in an answer, and zeros. The last row is for every number that has no text.
 
 // How many messages there are, and how many bytes the row of one has.
-const MESSAGES: usize = 20;
+const MESSAGES: usize = 21;
 
 const MESSAGE_SIZE: usize = 33;
 
@@ -128,6 +130,7 @@ pub fn write_error(number: u16, tail: &mut [u8]) -> usize
         \x00\x8d\x19,\"Invalid character data\"\0\0\0\0\0\
         \x00\xdd\x14,\"Settings conflict\"\0\0\0\0\0\0\0\0\0\0\
         \x00\xde\x14,\"Data out of range\"\0\0\0\0\0\0\0\0\0\0\
+        \x01\x3a\x1a,\"Save/recall memory lost\"\0\0\0\0\
         \x01\x5e\x11,\"Queue overflow\"\0\0\0\0\0\0\0\0\0\0\0\0\0\
         \x01\x6b\x17,\"Input buffer overrun\"\0\0\0\0\0\0\0\
         \x01\x9a\x14,\"Query INTERRUPTED\"\0\0\0\0\0\0\0\0\0\0\

@@ -10,6 +10,7 @@ pub mod number;
 mod queue;
 pub mod rounding;
 pub mod settings;
+pub mod setup;
 pub mod status;
 pub mod suffix;
 pub mod text;

@@ -12,7 +12,7 @@ pub(crate) const MOST: usize = 16;
 pub(crate) const LAST: usize = MOST - 1;
 
 // The numbers that 01 and 02 put into the queue.
-const QUEUEABLE: [u16; 19] = [
+const QUEUEABLE: [u16; 20] = [
     101,
     102,
     104,
@@ -27,6 +27,7 @@ const QUEUEABLE: [u16; 19] = [
     141,
     221,
     222,
+    314,
     350,
     363,
     410,

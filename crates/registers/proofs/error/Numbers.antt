@@ -6,7 +6,7 @@ use lib.Dec.{eqb}
 use Rattle.registers.specs.Text.{if_then_else_}
 use Rattle.registers.specs.Error.{numberOf}
 use Rattle.registers.specs.declared.error.Error.{Error}
-use Rattle.registers.specs.declared.error.Error.the-variants.{InvalidCharacter, Syntax, DataType, ParameterNotAllowed, MissingParameter, UndefinedHeader, InvalidCharacterInNumber, ExponentTooLarge, TooManyDigits, InvalidSuffix, SuffixNotAllowed, InvalidCharacterData, SettingsConflict, DataOutOfRange, InputBufferOverrun, QueryInterrupted, QueryUnterminated, QueryDeadlocked}
+use Rattle.registers.specs.declared.error.Error.the-variants.{InvalidCharacter, Syntax, DataType, ParameterNotAllowed, MissingParameter, UndefinedHeader, InvalidCharacterInNumber, ExponentTooLarge, TooManyDigits, InvalidSuffix, SuffixNotAllowed, InvalidCharacterData, SettingsConflict, DataOutOfRange, SaveRecallMemoryLost, InputBufferOverrun, QueryInterrupted, QueryUnterminated, QueryDeadlocked}
 
 errors : List Error
 errors =
@@ -24,6 +24,7 @@ errors =
     ∷ InvalidCharacterData
     ∷ SettingsConflict
     ∷ DataOutOfRange
+    ∷ SaveRecallMemoryLost
     ∷ InputBufferOverrun
     ∷ QueryInterrupted
     ∷ QueryUnterminated
@@ -52,6 +53,7 @@ back SuffixNotAllowed = refl
 back InvalidCharacterData = refl
 back SettingsConflict = refl
 back DataOutOfRange = refl
+back SaveRecallMemoryLost = refl
 back InputBufferOverrun = refl
 back QueryInterrupted = refl
 back QueryUnterminated = refl
