@@ -16,13 +16,18 @@ use Rattle.registers.proofs.settings.Possible as limits
 use Rattle.registers.proofs.settings.Possible.{value-good, reset-possible}
 use Rattle.registers.proofs.status.Possible as status
 use Rattle.registers.proofs.status.Possible.{raised-good, completed-good, events-good, oldest-good, none-good, stored-fit, read-fit}
-use Rattle.interpreter.specs.Box.{Core, Box, box, withSettings, withRegisters, withLine, withAnswer, answerIs, raise, mostLine, mostAnswer}
+use Rattle.interpreter.specs.Box.{Memory, withMemory, Core, Box, box, withSettings, withRegisters, withLine, withAnswer, answerIs, raise, mostLine, mostAnswer}
 use Rattle.interpreter.specs.UnitParts.{Allowed, AllowedChange}
-use Rattle.interpreter.specs.Perform.{conflictingChange, conflicting, changed, allCleared, afterQuery, afterInquiry, perform}
+use Rattle.interpreter.specs.Perform.{setUp, conflictingChange, conflicting, changed, allCleared, afterQuery, afterInquiry, perform}
 use Rattle.interpreter.specs.Reply.{joined, fitsAnswer, reply}
 use Rattle.interpreter.specs.Line.{runUnits}
 use Rattle.interpreter.specs.declared.deed.Deed.{Deed}
-use Rattle.interpreter.specs.declared.deed.Deed.the-variants.{Change, Complete, Clear, Query, Inquire}
+use Rattle.interpreter.specs.declared.deed.Deed.the-variants.{Change, Complete, Clear, Query, Inquire, Saving}
+use Rattle.registers.specs.Setup.{checks, recallable, blockAt}
+use Rattle.registers.proofs.setup.Laws.{recalled-long}
+use Rattle.registers.proofs.Tests.{and-both}
+use Rattle.interpreter.specs.declared.deed.Saving as savings
+use Rattle.interpreter.specs.declared.deed.Saving.the-variants.{Save, Recall}
 use Rattle.interpreter.specs.declared.deed.Change as changes
 use Rattle.interpreter.specs.declared.deed.Change.the-variants.{Nothing, Put, Reset, Store}
 use Rattle.interpreter.specs.declared.deed.Query as queries
@@ -68,6 +73,9 @@ module _ (k : ℕ) (c : Core) (f : FitCore k c) where
   pub fit-answer : (m : ℕ) (a : Text) → length a ≤ m → FitCore m (withAnswer a c)
   fit-answer m a g = record { settings = f .settings; long = f .long; registers = f .registers; line = f .line; answer = g }
 
+  pub fit-memory : (m : Memory) → FitCore k (withMemory m c)
+  fit-memory m = record { settings = f .settings; long = f .long; registers = f .registers; line = f .line; answer = f .answer }
+
 -- ---- deeds
 
 pub reset-long : length (atReset .values) ≡ count
@@ -110,6 +118,14 @@ reply-fit t c f =
     let l = ltb-true (length (joined (c .answer) t)) mostAnswer e in
     passes (fit-answer running c f running (joined (c .answer) t) (omega arith)))
 
+-- what *RCL sets is within its limits
+setup-fit : (k : ℕ) (x : savings.Saving) (p : ℕ) (c : Core) → FitCore k c → Holds (FitCore k) (setUp x p c)
+unfolding setUp recallable mayBeQueued queueable
+setup-fit k Save p c f = passes (fit-memory k c f _)
+setup-fit k Recall p c f =
+    let b = blockAt p (c .memory .store) in
+    hold-check (FitCore k) 314 _ _ refl (λ e. passes (fit-settings k c f _ (limits.good-from _ (and-both (checks b) _ e .1)) (recalled-long b)))
+
 pub perform-fit : (d : Deed) (b : Box) → Allowed (b .core .settings) d → conflicting d (b .core .settings) ≡ false → Fit running b
     → Holds (Fit running) (perform d b)
 unfolding perform
@@ -122,6 +138,8 @@ perform-fit (Query q) b a n f =
 perform-fit (Inquire q) b a n f =
     hold-bind (FitCore running) (Fit running) _ _ (reply-fit _ _ (f .core))
     (λ c g. passes (fit running c _ g (inquiry-good q (b .trouble) (f .trouble))))
+perform-fit (Saving x p) b a n f =
+    hold-bind (FitCore running) (Fit running) _ _ (setup-fit running x p (b .core) (f .core)) (λ c g. passes (fit running c _ g (f .trouble)))
 
 -- ---- units
 

@@ -14,10 +14,12 @@ use Rattle.registers.specs.Status.{raised, completed, withoutBit6, setBits, sum
 use Rattle.interpreter.specs.Cuts.{cutAt, trimEnd, trim}
 use Rattle.interpreter.specs.Header.{name, placed, header, spells, bodyOf, byFirst}
 use Rattle.interpreter.specs.Rows.{settingRows, otherRows, rows, fitsRow, findRow}
-use Rattle.interpreter.specs.Parameter.{parameters, least, greatest, findWord, parameter, valueGiven, settingDeed, limitDeed, registerDeed, deedOf, storeGiven, readFigure, readWord}
+use Rattle.interpreter.specs.Parameter.{parameters, least, greatest, findWord, parameter, valueGiven, settingDeed, limitDeed, registerDeed, deedOf, storeGiven, placeGiven, savingDeed, readFigure, readWord}
 use Rattle.interpreter.specs.Unit.{readUnit}
-use Rattle.interpreter.specs.Box.{powerUp}
-use Rattle.interpreter.specs.Perform.{permitted, changed, perform}
+use Rattle.registers.specs.Settings as limits
+use Rattle.registers.specs.Setup.{weighted, lowFirst, inBytes, checks, shifted, unshifted, valueIn, valuesIn, settingsIn, bytesOf, contents, blockOf, recallable, blockAt, savedAt}
+use Rattle.interpreter.specs.Box.{powerUp, blank}
+use Rattle.interpreter.specs.Perform.{permitted, changed, setUp, perform}
 use Rattle.interpreter.specs.Reply.{replyTo, inquiryText, joined, fitsAnswer, reply}
 use Rattle.interpreter.specs.Line.{attempt, refuse, runUnits, interrupted, finished, unitsOf, runLine, endLine, held, byte, piece}
 use Rattle.interpreter.specs.Events.{reported, happens, after}
@@ -29,8 +31,8 @@ unfolding if_then_else_ bytes same white printable digit letter wordByte small c
     switchedOn nearest sizeIn rounded sizeSide sideIn inPlaces decimal tenths eventBit
     table settingAt atReset wideRange lowest highest within conflict examined accepted answerOf raised completed withoutBit6 rises falls eventsAfter conditionIs eventRead setBits summary statusByte storedIn registerIn atStart
     cutAt trimEnd trim name placed bodyOf byFirst header spells settingRows otherRows rows fitsRow findRow
-    parameters least greatest findWord parameter readWord readFigure valueGiven settingDeed limitDeed registerDeed storeGiven deedOf readUnit powerUp
-    permitted changed replyTo inquiryText joined fitsAnswer reply perform
+    parameters least greatest findWord parameter readWord readFigure valueGiven settingDeed limitDeed registerDeed storeGiven placeGiven savingDeed deedOf readUnit powerUp blank
+    permitted changed setUp weighted lowFirst inBytes checks shifted unshifted valueIn valuesIn settingsIn bytesOf contents blockOf recallable blockAt savedAt limits.possibleSettings replyTo inquiryText joined fitsAnswer reply perform
     attempt refuse runUnits interrupted finished unitsOf runLine endLine held byte piece reported happens after
     examples outcome ran allSet expected
 all-hold = refl

@@ -121,7 +121,8 @@ pub record Trip (b : Box) (i : ℕ) (a buffer : Text) (r : Result) (before early
   pub took : Took a r
   pub sends : Sends i a (after b (sentBack before early buffer late))
 
--- the round trip's premises; "no lock bit is 1" (02, #105) as the line that sends the answer back ends
+-- the round trip's premises; "no lock bit is 1" (02, #105) as the line that sends the answer back ends. 02 (#108) adds "that none of its events is
+-- refused with number 5": the two newlines and the take are not, since such an event is a `mislent`, and between them one changes nothing
 pub record Premises (b : Box) (i : ℕ) (a buffer : Text) (r : Result) (before early late : List Event) : Type 0 where
   pub trip : Trip b i a buffer r before early late
   pub free : locked (after b (sentBack before early buffer late) .core .registers) ≡ false

@@ -1,5 +1,5 @@
--- 01's "Lines to try" that are marked P, and lines of 02: exam mode (#107), suffixes (#101), the lock and warning registers (#104) and
--- the lock (#105). One table: each line is run from power-up, after other events where its row says so, and compared with what it
+-- 01's "Lines to try" that are marked P, and lines of 02: exam mode (#107), suffixes (#101), the lock and warning registers (#104),
+-- the lock (#105) and saved setups (#108). One table: each line is run from power-up, after other events where its row says so, and compared with what it
 -- must leave.
 use mathlib.Core.Path.{_≡_}
 use mathlib.Core.List.{List, [], _∷_, _++_, map}
@@ -10,8 +10,8 @@ use lib.IntN.{ℤ, pos}
 use Rattle.registers.specs.Text.{Text, if_then_else_, bytes, empty}
 use Rattle.registers.specs.Settings.{output, voltage, range, exam, atReset, minus}
 use Rattle.registers.specs.declared.status.RegisterSet.the-variants.{Operation, Lock, Warning}
-use Rattle.interpreter.specs.Box.{Box, powerUp}
-use Rattle.interpreter.specs.Events.{Event, received, condition, look, happens, after}
+use Rattle.interpreter.specs.Box.{Box, powerUp, blank}
+use Rattle.interpreter.specs.Events.{Event, started, received, condition, look, altered, mislent, happens, after}
 
 pub record Example : Type 0 where
   pub before : List Event
@@ -133,6 +133,29 @@ examples =
     ∷ following (keyTurned ∷ condition Lock 0 ∷ []) "VOLT 5;:STAT:LOCK?" "4\n" [] ((voltage, pos 50) ∷ []) 0
     ∷ following (sent "STAT:LOCK:PTR 0" ∷ condition Lock 16384 ∷ []) "STAT:LOCK?;:VOLT 5" "0\n" (221 ∷ []) [] 0
     ∷ following (condition Operation 4 ∷ condition Warning 4 ∷ []) "VOLT 5" "" [] ((voltage, pos 50) ∷ []) 0
+    -- saved setups (02, #108): all settings at once, without check 8; the store outlives a power-up
+    ∷ example "VOLT 5;*SAV 3;*RST;*RCL 3;:VOLT?" "5.0\n" [] ((voltage, pos 50) ∷ [])
+    ∷ example "*SAV 1;VOLT:RANG R24V;LEV 20;:CURR:LIM:PEAK:LOW -0.5;*SAV 0;*RCL 1;*RCL 0" "" [] ((voltage, pos 200) ∷ (range, pos 1) ∷ (peakLow, minus 5) ∷ [])
+    ∷ example "*SAV 1;VOLT:RANG R24V;LEV 20;*RCL 1" "" [] []
+    ∷ following (sent "OUTP 1;:SYST:EXAM 1;*SAV 9.4" ∷ started ∷ []) "*RCL 9" "" [] ((output, pos 1) ∷ (exam, pos 1) ∷ []) 0
+    -- its place rounds like a register, and its parameter is a number
+    ∷ example "*SAV 9.5" "" (222 ∷ []) []
+    ∷ example "*RCL -1" "" (222 ∷ []) []
+    ∷ example "*SAV MAX" "" (141 ∷ []) []
+    ∷ example "*SAV?" "" (113 ∷ []) []
+    ∷ example "*SAV" "" (109 ∷ []) []
+    ∷ example "*RCL 1,2" "" (108 ∷ []) []
+    -- -314 for a block that was never saved, and for one of whose bytes one is altered
+    ∷ example "VOLT 5;*RCL 0;:VOLT 6" "" (314 ∷ []) ((voltage, pos 50) ∷ [])
+    ∷ following (sent "*SAV 3" ∷ altered 1536 7 ∷ []) "*RCL 3" "" (314 ∷ []) [] 0
+    ∷ following (sent "*SAV 3" ∷ altered 2047 1 ∷ []) "*RCL 3" "" (314 ∷ []) [] 0
+    ∷ following (sent "*SAV 3" ∷ altered 1535 1 ∷ altered 2048 1 ∷ []) "*RCL 3" "" [] [] 0
+    -- the order: -222, then the lock's -221, then -314
+    ∷ following (keyTurned ∷ []) "*SAV 10" "" (222 ∷ []) [] 0
+    ∷ following (keyTurned ∷ []) "*SAV 1" "" (221 ∷ []) [] 0
+    ∷ following (keyTurned ∷ []) "*RCL 1" "" (221 ∷ []) [] 0
+    -- an event that is lent a store of the wrong length changes nothing, and raises nothing
+    ∷ following (sent "VOLT 5" ∷ mislent [] ∷ []) "VOLT?" "5.0\n" [] ((voltage, pos 50) ∷ []) 0
     ∷ []
 
 -- what is compared: the answer, the queue, every setting, and the status byte that look then sees
@@ -146,7 +169,7 @@ unfoldable pub outcome : Box → Outcome
 outcome b = record { answer = b .core .answer; queue = b .trouble .queue; values = b .core .settings .values; byte = happens b look .result .value }
 
 unfoldable pub ran : Example → Outcome
-ran e = outcome (after powerUp (e .before ++ sent (e .line) ∷ []))
+ran e = outcome (after (powerUp blank) (e .before ++ sent (e .line) ∷ []))
 
 unfoldable pub allSet : List (ℕ × ℤ) → List ℤ → List ℤ
 allSet [] vs = vs

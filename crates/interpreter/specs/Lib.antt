@@ -17,6 +17,7 @@ pub mod UnitParts
 pub mod Box
 pub mod Reply
 pub mod Perform
+pub mod Setups
 pub mod Line
 pub mod Events
 pub mod PresentParts

@@ -10,8 +10,8 @@ use Rattle.registers.specs.Settings.{output, valueAt}
 use Rattle.registers.specs.Status.{Registers, registersOf, locked}
 use Rattle.registers.specs.declared.settings.Settings.{Settings}
 use Rattle.registers.specs.declared.status.RegisterSet.the-variants.{Operation, Lock, Warning}
-use Rattle.interpreter.specs.Box.{Box}
-use Rattle.interpreter.specs.Events.{Event, started, received, take, condition, look, Result, after}
+use Rattle.interpreter.specs.Box.{Memory, Box}
+use Rattle.interpreter.specs.Events.{Event, started, received, take, condition, look, altered, mislent, Result, after}
 use Rattle.interpreter.specs.State.{boxOf}
 use Rattle.interpreter.specs.Calls.{Calls}
 use Rattle.interpreter.specs.declared.state.State.{State}
@@ -25,6 +25,8 @@ leavesKey (condition Operation n) = true
 leavesKey (condition Lock n) = false
 leavesKey (condition Warning n) = true
 leavesKey look = true
+leavesKey (altered i x) = true
+leavesKey (mislent buffer) = true
 
 -- settings, and what they and the registers are later
 pub record UnderLock (before later : Settings) (registers : Registers) : Type 0 where
@@ -45,8 +47,8 @@ InHistories = (b : Box) (es : List Event) → locked (b .core .registers) ≡ tr
 -- in any calls of the public functions, known by their promises alone; a state that couldn't be the box's is refused, and so stays
 abbrev pub InCalls : Type 0
 InCalls =
-    (s t : State) (es : List Event) (rs : List Result) → Calls t s es rs
-    → locked (registersOf (s .status)) ≡ true → every leavesKey es ≡ true → HeldIn (boxOf s) (boxOf t)
+    (s t : State) (m n : Memory) (es : List Event) (rs : List Result) → Calls t n s m es rs
+    → locked (registersOf (s .status)) ≡ true → every leavesKey es ≡ true → HeldIn (boxOf s m) (boxOf t n)
 
 pub record LockHolds : Type 0 where
   pub histories : InHistories

@@ -22,11 +22,12 @@ use Rattle.registers.specs.declared.suffix.Quantity.{Quantity}
 use Rattle.registers.specs.declared.suffix.Quantity.the-variants.{Nothing}
 use Rattle.interpreter.specs.Cuts.{cutAt, trim}
 use Rattle.interpreter.specs.declared.deed.Deed.{Deed}
-use Rattle.interpreter.specs.declared.deed.Deed.the-variants.{Change, Query}
+use Rattle.interpreter.specs.declared.deed.Deed.the-variants.{Change, Query, Saving}
 use Rattle.interpreter.specs.declared.deed.Change.the-variants.{Put, Store}
 use Rattle.interpreter.specs.declared.deed.Query.the-variants.{Limit, Value, Stored}
 use Rattle.interpreter.specs.declared.deed.Role.{Role}
-use Rattle.interpreter.specs.declared.deed.Role.the-variants.{Setting as setting, Register as register, Only}
+use Rattle.interpreter.specs.declared.deed.Role.the-variants.{Setting as setting, Register as register, Only, Saving as saving}
+use Rattle.interpreter.specs.declared.deed.Saving as savings
 
 -- check 2: "commas part the parameters"; none where nothing follows the header
 unfoldable pub parameters : Text → List Text
@@ -53,11 +54,13 @@ unfoldable pub least : Role → Bool → ℕ
 least (setting i) asked = if asked then 0 else 1
 least (register r) asked = if asked then 0 else 1
 least (Only d) asked = 0
+least (saving x) asked = if asked then 0 else 1
 
 unfoldable pub greatest : Role → Bool → ℕ
 greatest (setting i) asked = if asked then asksLimits (kindOf i) else 1
 greatest (register r) asked = if asked then 0 else 1
 greatest (Only d) asked = 0
+greatest (saving x) asked = if asked then 0 else 1
 
 -- ---- checks 5 and 6
 
@@ -160,6 +163,13 @@ storeGiven r v x = check 222 (leZ (pos 0) v && leZ v (pos (widest r))) >> passed
 unfoldable pub registerDeed : Register → Text → Checked Deed
 registerDeed r t = parameter [] true Nothing t >>= λ g. storeGiven r (registerGiven g) (registerSide g)
 
+-- a place of *SAV and *RCL (02, #108), rounded like a register: "a place outside 0 to 9 is -222"
+unfoldable pub placeGiven : savings.Saving → ℤ → Checked Deed
+placeGiven x v = check 222 (leZ (pos 0) v && leZ v (pos 9)) >> passed (Saving x (natAbs v))
+
+unfoldable pub savingDeed : savings.Saving → Text → Checked Deed
+savingDeed x t = parameter [] true Nothing t >>= λ g. placeGiven x (registerGiven g)
+
 -- checks 5 to 7; a parameter is there where check 4 asked for one
 unfoldable pub deedOf : Settings → Role → Bool → List Text → Checked Deed
 deedOf s (setting i) true [] = passed (Query (Value i))
@@ -170,3 +180,5 @@ deedOf s (register r) true ts = passed (Query (Stored r))
 deedOf s (register r) false [] = refused 109
 deedOf s (register r) false (t ∷ ts) = registerDeed r t
 deedOf s (Only d) asked ts = passed d
+deedOf s (saving x) asked [] = refused 109
+deedOf s (saving x) asked (t ∷ ts) = savingDeed x t

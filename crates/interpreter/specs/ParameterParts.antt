@@ -18,8 +18,9 @@ use Rattle.registers.specs.declared.settings.Settings.{Settings}
 use Rattle.registers.specs.declared.status.Register.{Register}
 use Rattle.registers.specs.declared.suffix.Quantity.{Quantity}
 use Rattle.interpreter.specs.WordsParts.{wordCount, wordsIn}
-use Rattle.interpreter.specs.Parameter.{Given, Word, Figure, parameters, noneEmpty, registerDeed}
+use Rattle.interpreter.specs.Parameter.{Given, Word, Figure, parameters, noneEmpty, registerDeed, savingDeed}
 use Rattle.interpreter.specs.declared.deed.Deed.{Deed}
+use Rattle.interpreter.specs.declared.deed.Saving as savings
 use Rattle.interpreter.specs.declared.deed.Deed.the-variants.{Change, Query}
 use Rattle.interpreter.specs.declared.deed.Change.the-variants.{Put}
 use Rattle.interpreter.specs.declared.deed.Query.the-variants.{Limit, Stored}
@@ -71,3 +72,8 @@ partsOf t = if empty t then [] else t ∷ []
 unfoldable pub registerTo : Register → Bool → Text → Checked Deed
 registerTo x true t = passed (Query (Stored x))
 registerTo x false t = registerDeed x t
+
+-- checks 5 to 7 on *SAV and *RCL; neither has a query, so that none comes here
+unfoldable pub savingTo : savings.Saving → Bool → Text → Checked Deed
+savingTo x true t = refused 109
+savingTo x false t = savingDeed x t

@@ -9,14 +9,14 @@ use Rattle.registers.specs.declared.status.Status.{Status}
 use Rattle.interpreter.specs.UnitParts.{Allowed}
 use Rattle.interpreter.specs.Perform.{afterInquiry}
 use Rattle.interpreter.specs.declared.deed.Deed.{Deed}
-use Rattle.interpreter.specs.declared.deed.Deed.the-variants.{Change, Complete, Clear, Query, Inquire}
+use Rattle.interpreter.specs.declared.deed.Deed.the-variants.{Change, Complete, Clear, Query, Inquire, Saving}
 use Rattle.interpreter.specs.declared.deed.Change as changes
 use Rattle.interpreter.specs.declared.deed.Change.the-variants.{Nothing as noChange, Put, Reset, Store}
 use Rattle.interpreter.specs.declared.deed.Query as queries
 use Rattle.interpreter.specs.declared.deed.Query.the-variants.{Identity as identity, SelfTest, Completed, Limit, Value, Stored, Condition, SetEvents}
 use Rattle.interpreter.specs.declared.present.Present.{Present}
 
--- ---- what a deed leaves of settings, registers and trouble
+-- ---- what a deed leaves of settings, registers and trouble; *SAV and *RCL are carried out elsewhere
 
 abbrev pub settingsChanged : changes.Change → Settings → Settings
 settingsChanged noChange s = s
@@ -30,6 +30,7 @@ settingsLeft Complete s = s
 settingsLeft Clear s = s
 settingsLeft (Query q) s = s
 settingsLeft (Inquire q) s = s
+settingsLeft (Saving x p) s = s
 
 abbrev pub registersChanged : changes.Change → Registers → Registers
 registersChanged noChange r = r
@@ -53,6 +54,7 @@ registersLeft Complete r = r
 registersLeft Clear r = allRead r
 registersLeft (Query q) r = registersAsked q r
 registersLeft (Inquire q) r = r
+registersLeft (Saving x p) r = r
 
 abbrev pub troubleLeft : Deed → Trouble → Trouble
 troubleLeft (Change x) t = t
@@ -60,6 +62,7 @@ troubleLeft Complete t = completed t
 troubleLeft Clear t = noTrouble
 troubleLeft (Query q) t = t
 troubleLeft (Inquire q) t = afterInquiry q t
+troubleLeft (Saving x p) t = t
 
 pub record StatusLeft (d : Deed) (s r : Status) : Type 0 where
   pub registers : (c : Settings) → Allowed c d → registersOf r ≡ registersLeft d (registersOf s)

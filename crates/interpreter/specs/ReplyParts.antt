@@ -15,14 +15,14 @@ use Rattle.registers.specs.Status.{registersOf, troubleOf}
 use Rattle.interpreter.specs.Parameter.{wordsOf}
 use Rattle.interpreter.specs.WordsParts.{wordAt}
 use Rattle.interpreter.specs.UnitParts.{Allowed}
-use Rattle.interpreter.specs.Box.{mostAnswer}
+use Rattle.interpreter.specs.Box.{Memory, mostAnswer}
 use Rattle.interpreter.specs.Reply.{identity, replyTo, inquiryText, joined}
 use Rattle.interpreter.specs.Perform.{perform}
 use Rattle.interpreter.specs.Line.{refuse}
 use Rattle.interpreter.specs.PresentParts.{coreIn, boxIn, boxAt}
 use Rattle.interpreter.specs.PerformParts.{After}
 use Rattle.interpreter.specs.declared.deed.Deed.{Deed}
-use Rattle.interpreter.specs.declared.deed.Deed.the-variants.{Change, Complete, Clear, Query, Inquire}
+use Rattle.interpreter.specs.declared.deed.Deed.the-variants.{Change, Complete, Clear, Query, Inquire, Saving}
 use Rattle.interpreter.specs.declared.present.Present.{Present}
 use Rattle.interpreter.specs.declared.reply.Reply.{Reply}
 use Rattle.interpreter.specs.declared.reply.Reply.the-variants.{Nothing, Identity, Word, Tenths, Whole, Number, Error}
@@ -58,6 +58,15 @@ pub record RepliesWith (t : Text) (r : Reply) : Type 0 where
   pub is : textOf r ≡ t
   pub some : said r ≡ true
 
+-- a deed that sees nothing of the memory: any but *SAV and *RCL
+abbrev pub ordinary : Deed → Bool
+ordinary (Change x) = true
+ordinary Complete = true
+ordinary Clear = true
+ordinary (Query q) = true
+ordinary (Inquire q) = true
+ordinary (Saving x p) = false
+
 -- what a deed answers
 abbrev pub ReplyTo : Deed → Present → Bool → Reply → Type 0
 ReplyTo (Change x) p answers r = r ≡ Nothing
@@ -65,6 +74,7 @@ ReplyTo Complete p answers r = r ≡ Nothing
 ReplyTo Clear p answers r = r ≡ Nothing
 ReplyTo (Query q) p answers r = RepliesWith (replyTo q (coreIn (p .settings) (p .status))) r
 ReplyTo (Inquire q) p answers r = RepliesWith (inquiryText q (registersOf (p .status)) (troubleOf (p .status)) answers) r
+ReplyTo (Saving x n) p answers r = r ≡ Nothing
 
 -- the answers so far with a reply after them
 unfoldable pub answeredWith : Reply → Text → Text
@@ -81,6 +91,6 @@ pub record GivenTo (reply : Reply) (answered : ℕ) (out : Text) (r : ℕ) (out�
 abbrev pub Answered : Deed → Present → Text → Told → Text → Type 0
 Answered d p out (Until end) out′ =
     (end < mostAnswer)
-    × ((r : Present) → Allowed (p .settings) d → After d p r → perform d (boxAt p out) ≡ passed (boxIn r (take end out′)))
+    × ((r : Present) (m : Memory) → Allowed (p .settings) d → After d p r → perform d (boxAt p out m) ≡ passed (boxIn r (take end out′) m))
 Answered d p out (Refused e) out′ =
-    (perform d (boxAt p out) ≡ refused (numberOf e)) × (refuse (numberOf e) (boxAt p out′) ≡ refuse (numberOf e) (boxAt p out))
+    (m : Memory) → (perform d (boxAt p out m) ≡ refused (numberOf e)) × (refuse (numberOf e) (boxAt p out′ m) ≡ refuse (numberOf e) (boxAt p out m))

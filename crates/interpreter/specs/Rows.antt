@@ -12,9 +12,10 @@ use Rattle.registers.specs.declared.status.RegisterSet.{RegisterSet}
 use Rattle.registers.specs.declared.status.RegisterSet.the-variants.{Operation, Lock, Warning}
 use Rattle.interpreter.specs.Header.{spells}
 use Rattle.interpreter.specs.declared.deed.Role.{Role}
-use Rattle.interpreter.specs.declared.deed.Role.the-variants.{Setting as setting, Register as register, Only}
+use Rattle.interpreter.specs.declared.deed.Role.the-variants.{Setting as setting, Register as register, Only, Saving as saving}
+use Rattle.interpreter.specs.declared.deed.Saving.the-variants.{Save, Recall}
 use Rattle.interpreter.specs.declared.deed.Deed.{Deed}
-use Rattle.interpreter.specs.declared.deed.Deed.the-variants.{Change, Complete, Clear, Query, Inquire}
+use Rattle.interpreter.specs.declared.deed.Deed.the-variants.{Change, Complete, Clear, Query, Inquire, Saving}
 use Rattle.interpreter.specs.declared.deed.Change.the-variants.{Nothing, Reset}
 use Rattle.interpreter.specs.declared.deed.Query.the-variants.{Identity, SelfTest, Completed, Condition, SetEvents}
 use Rattle.interpreter.specs.declared.deed.Inquiry.the-variants.{StandardEvents, StatusByte, NextError}
@@ -45,7 +46,7 @@ unfoldable pub settingRows : ℕ → List Setting → List Row
 settingRows i [] = []
 settingRows i (s ∷ ss) = plain (s .nodes) (setting i) ∷ settingRows (suc i) ss
 
--- "Registers and queue", and the sets that 02 adds (#104)
+-- "Registers and queue", and what 02 adds: *SAV and *RCL (#108), and two sets (#104)
 unfoldable pub otherRows : List Row
 otherRows =
     starred "IDN" (Only (Query Identity))
@@ -60,6 +61,8 @@ otherRows =
     ∷ starred "ESR" (Only (Inquire StandardEvents))
     ∷ starred "STB" (Only (Inquire StatusByte))
     ∷ plain (must "SYSTem" ∷ must "ERRor" ∷ []) (Only (Inquire NextError))
+    ∷ starred "SAV" (saving Save)
+    ∷ starred "RCL" (saving Recall)
     ∷ ofSet Operation "OPERation" ++ ofSet Lock "LOCK" ++ ofSet Warning "WARNing"
 
 unfoldable pub rows : List Row
@@ -72,12 +75,14 @@ isQuery Complete = false
 isQuery Clear = false
 isQuery (Query q) = true
 isQuery (Inquire q) = true
+isQuery (Saving x p) = false
 
 -- "a query or a setting form the row lacks"
 abbrev pub hasForm : Bool → Role → Bool
 hasForm asked (setting i) = true
 hasForm asked (register r) = true
 hasForm asked (Only d) = sameBool asked (isQuery d)
+hasForm asked (saving x) = sameBool asked false
 
 unfoldable pub fitsRow : Bool → List Text → Bool → Row → Bool
 fitsRow star names asked r = sameBool star (r .star) && (hasForm asked (r .role) && spells (r .nodes) names)

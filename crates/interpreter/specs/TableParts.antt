@@ -20,11 +20,11 @@ nodeList =
     "OUTPut" ∷ "STATe" ∷ "PON" ∷ "RELay" ∷ "MONitor" ∷ "MODE" ∷ "SOURce" ∷ "VOLTage" ∷ "LEVel" ∷ "IMMediate" ∷ "AMPLitude" ∷ "RANGe"
     ∷ "FREQuency" ∷ "CURRent" ∷ "LIMit" ∷ "RMS" ∷ "PEAK" ∷ "TIME" ∷ "HIGH" ∷ "LOW" ∷ "DISPlay" ∷ "BRIGhtness" ∷ "SYSTem" ∷ "KLOCk"
     ∷ "IDN" ∷ "TST" ∷ "OPC" ∷ "WAI" ∷ "RST" ∷ "CLS" ∷ "ESE" ∷ "SRE" ∷ "ESR" ∷ "STB" ∷ "STATus" ∷ "OPERation" ∷ "CONDition" ∷ "EVENt"
-    ∷ "ENABle" ∷ "NTRansition" ∷ "PTRansition" ∷ "ERRor" ∷ "EXAM" ∷ "LOCK" ∷ "WARNing" ∷ []
+    ∷ "ENABle" ∷ "NTRansition" ∷ "PTRansition" ∷ "ERRor" ∷ "EXAM" ∷ "LOCK" ∷ "WARNing" ∷ "SAV" ∷ "RCL" ∷ []
 
 -- how many there are
 abbrev pub nodeCount : ℕ
-nodeCount = 45
+nodeCount = 47
 
 -- how many bytes a row takes in the table, and the two numbers of a node's word
 abbrev pub rowSize : ℕ

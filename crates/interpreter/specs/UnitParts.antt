@@ -16,7 +16,8 @@ use Rattle.interpreter.specs.DeedParts.{rowCount, roleAt}
 use Rattle.interpreter.specs.HeaderParts.{Holds}
 use Rattle.interpreter.specs.Unit.{allowed, readUnit}
 use Rattle.interpreter.specs.declared.deed.Deed.{Deed}
-use Rattle.interpreter.specs.declared.deed.Deed.the-variants.{Change as change, Complete, Clear, Query as query, Inquire}
+use Rattle.interpreter.specs.declared.deed.Deed.the-variants.{Change as change, Complete, Clear, Query as query, Inquire, Saving}
+use Rattle.registers.specs.Setup.{places}
 use Rattle.interpreter.specs.declared.deed.Change.{Change}
 use Rattle.interpreter.specs.declared.deed.Change.the-variants.{Nothing, Put, Reset, Store}
 use Rattle.interpreter.specs.declared.deed.Query.{Query}
@@ -77,3 +78,4 @@ Allowed s Complete = Unit {0}
 Allowed s Clear = Unit {0}
 Allowed s (query q) = AllowedQuery q
 Allowed s (Inquire q) = Unit {0}
+Allowed s (Saving x p) = p < places

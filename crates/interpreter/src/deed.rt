@@ -42,6 +42,12 @@ pub enum Inquiry {
     NextError,
 }
 
+// What *SAV and *RCL do with the lent store (02, #108).
+pub enum Saving {
+    Save,
+    Recall,
+}
+
 // What an accepted unit does.
 pub enum Deed {
     Change(Change),
@@ -49,6 +55,7 @@ pub enum Deed {
     Clear,
     Query(Query),
     Inquire(Inquiry),
+    Saving { saving: Saving, place: usize },
 }
 
 // What a header comes to: its row, or ROWS where it has none, and whether it asks.
@@ -57,11 +64,12 @@ pub(crate) struct Heading {
     pub(crate) asked: bool,
 }
 
-// A setting or a register is set and asked; every other header has only one form, and one deed.
+// A setting or a register is set and asked; every other header has only one form, and one deed, or is given a place.
 pub enum Role {
     Setting(usize),
     Register(Register),
     Only(Deed),
+    Saving(Saving),
 }
 
 // Names a register set by its place; past the last place it is the last set.
@@ -89,7 +97,7 @@ fn of_set(set: RegisterSet, place: usize) -> Role
 }
 
 // How many rows of 'Registers and queue' stand before those of the register sets, and how many a set has.
-const COMMON_ROWS: usize = 12;
+const COMMON_ROWS: usize = 14;
 
 const SET_ROWS: usize = 5;
 
@@ -118,6 +126,8 @@ pub(crate) fn role_of(row: usize) -> Role
         8 => return Role::Register(Register::Sre),
         9 => return Role::Only(Deed::Inquire(Inquiry::StandardEvents)),
         10 => return Role::Only(Deed::Inquire(Inquiry::StatusByte)),
-        _ => return Role::Only(Deed::Inquire(Inquiry::NextError)),
+        11 => return Role::Only(Deed::Inquire(Inquiry::NextError)),
+        12 => return Role::Saving(Saving::Save),
+        _ => return Role::Saving(Saving::Recall),
     }
 }

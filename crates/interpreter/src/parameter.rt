@@ -4,6 +4,7 @@ use crate::deed::Deed;
 use crate::deed::Heading;
 use crate::deed::Query;
 use crate::deed::Role;
+use crate::deed::Saving;
 use crate::words;
 use crate::words::FIRST_WITH_NUMBERS;
 use crate::words::Words;
@@ -27,9 +28,9 @@ ghost use lib.ListN.{length};
 ghost use Rattle.registers.specs.Rounding.{rounded, sideIn};
 ghost use Rattle.registers.specs.Settings.{count, kindOf, quantityOf};
 ghost use Rattle.interpreter.specs.TableParts.{commandTable};
-ghost use Rattle.interpreter.specs.Parameter.{Word, Figure, parameter, wordsOf, takesNumbers, least, greatest, valueGiven, sideGiven, deedOf, isNumber, readWord, storeGiven};
+ghost use Rattle.interpreter.specs.Parameter.{Word, Figure, parameter, wordsOf, takesNumbers, least, greatest, valueGiven, sideGiven, deedOf, isNumber, readWord, storeGiven, placeGiven};
 ghost use Rattle.interpreter.specs.WordsParts.{wordCount, wordsIn};
-ghost use Rattle.interpreter.specs.ParameterParts.{meantGiven, meantDeed, CountedIn, TakesOf, roundedTo, putFit, registerTo, partsOf};
+ghost use Rattle.interpreter.specs.ParameterParts.{meantGiven, meantDeed, CountedIn, TakesOf, roundedTo, putFit, registerTo, savingTo, partsOf};
 
 // Checks 5 and 6 on a parameter: a word of the row by its place in the row's list, or a number.
 pub(crate) enum Parameter {
@@ -195,6 +196,7 @@ pub(crate) fn most(role: Role, asked: bool) -> usize
         Role::Setting(row) => (!asked | is_number(row)) as usize,
         Role::Register(_) => !asked as usize,
         Role::Only(_) => 0,
+        Role::Saving(_) => !asked as usize,
     }
 }
 
@@ -296,5 +298,41 @@ pub(crate) fn decide_register(
         Parameter::Refused(e) => return Decision::Refused(e),
         Parameter::Word(_) => return Decision::Refused(Error::InvalidCharacterData),
         Parameter::Figure(d) => return decide_figure(register, d),
+    }
+}
+
+// Decides on a number for a place of the store, by check 7.
+fn decide_number(saving: Saving, d: Decimal) -> Decision
+    ensures { λ r. ⌜ meantDeed r ≡ placeGiven saving (rounded 1 d) ⌝ }
+{
+    let rounded = rounding::round_in(d, 0, 0, 9);
+    let fit = rounded.fit;
+    match fit {
+        Fit::Outside => return Decision::Refused(Error::DataOutOfRange),
+        Fit::Within(value) => return Decision::Obey(Deed::Saving {
+            saving,
+            place: value as usize,
+        }),
+    }
+}
+
+// Makes checks 5 to 7 on *SAV and *RCL, which take a number and no words.
+pub(crate) fn decide_place(table: &[u8], saving: Saving, asked: bool, text: &[u8]) -> Decision
+    requires { ⌜ now table ≡ commandTable ⌝ }
+    ensures { λ r. ⌜ meantDeed r ≡ savingTo saving asked (now (text .entry)) ⌝ }
+{
+    if asked {
+        return Decision::Refused(Error::MissingParameter);
+    }
+    let takes = Takes {
+        words: Words { first: 0, count: 0 },
+        numbers: true,
+        quantity: Quantity::Nothing,
+    };
+    let parameter = read_parameter(table, takes, false, text);
+    match parameter {
+        Parameter::Refused(e) => return Decision::Refused(e),
+        Parameter::Word(_) => return Decision::Refused(Error::InvalidCharacterData),
+        Parameter::Figure(d) => return decide_number(saving, d),
     }
 }

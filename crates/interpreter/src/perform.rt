@@ -31,6 +31,7 @@ pub(crate) fn is_permitted(present: Present, deed: Deed) -> bool
             Change::Reset => return !present.status.is_locked(),
             _ => return true,
         },
+        Deed::Saving { .. } => return !present.status.is_locked(),
         _ => return true,
     }
 }
@@ -75,6 +76,7 @@ fn status_after(status: Status, deed: Deed) -> Status
             Inquiry::StatusByte => return status,
             Inquiry::NextError => return status.read_oldest(),
         },
+        Deed::Saving { .. } => return status,
     }
 }
 

@@ -12,7 +12,7 @@ use registers::settings::Settings;
 use registers::settings::Values;
 use registers::status::Status;
 ghost use mathlib.Core.Path.{_≡_};
-ghost use mathlib.Core.Bool.{not};
+ghost use mathlib.Core.Bool.{true, not};
 ghost use Prim.Native.Nat.{_<_};
 ghost use lib.Dec.{eqb};
 ghost use lib.ListN.{length};
@@ -22,7 +22,7 @@ ghost use Rattle.registers.specs.Status.{registersOf, troubleOf};
 ghost use Rattle.interpreter.specs.Box.{mostAnswer};
 ghost use Rattle.interpreter.specs.Reply.{replyTo, inquiryText};
 ghost use Rattle.interpreter.specs.PresentParts.{coreIn};
-ghost use Rattle.interpreter.specs.ReplyParts.{placeText, textOf, RepliesWith, ReplyTo, GivenTo, Answered};
+ghost use Rattle.interpreter.specs.ReplyParts.{ordinary, placeText, textOf, RepliesWith, ReplyTo, GivenTo, Answered};
 
 // What is answered, by how it is written: a word by its place in the table.
 enum Reply {
@@ -138,7 +138,7 @@ fn append(reply: Reply, out: &mut [u8], answered: usize) -> usize
 
 // Answers a deed after the line's earlier answers, if check 9 lets it.
 pub(crate) fn answer(present: Present, deed: Deed, out: &mut [u8]) -> Told
-    requires { ⌜ (present .answered < mostAnswer) × (length (now out) ≡ mostAnswer) ⌝ }
+    requires { ⌜ (present .answered < mostAnswer) × (length (now out) ≡ mostAnswer) × (ordinary deed ≡ true) ⌝ }
     ensures { λ r. ⌜ Answered deed present (now (out .entry)) r (now (out .exit)) ⌝ }
 {
     let reply = of_deed(present, deed);

@@ -89,6 +89,7 @@ fn decide(table: &[u8], settings: Settings, heading: Heading, text: &[u8]) -> De
             return parameter::decide_register(table, register, asked, text);
         }
         Role::Only(deed) => return Decision::Obey(deed),
+        Role::Saving(saving) => return parameter::decide_place(table, saving, asked, text),
     }
 }
 

@@ -22,17 +22,17 @@ use Rattle.registers.specs.declared.status.RegisterSet.{RegisterSet}
 use Rattle.registers.specs.declared.status.RegisterSet.the-variants.{Operation, Lock, Warning}
 use Rattle.registers.proofs.Tests.{and-both, and-true as both-true}
 use Rattle.registers.proofs.status.Conditions.{conditionIn, stored-kept, event-kept, clear-kept, report-kept}
-use Rattle.interpreter.specs.Box.{Core, Box, withRegisters, mostLine}
+use Rattle.interpreter.specs.Box.{Memory, Core, Box, withRegisters, mostLine}
 use Rattle.interpreter.specs.UnitParts.{Allowed, AllowedChange}
 use Rattle.interpreter.specs.Perform.{blockedChange, blocked, changed, afterQuery, perform}
 use Rattle.interpreter.specs.Reply.{reply}
 use Rattle.interpreter.specs.Line.{interrupted, endLine, held, byte, piece}
-use Rattle.interpreter.specs.Events.{Event, started, received, take, condition, look, Happened, Result, taken, reported, happens, after}
-use Rattle.interpreter.specs.State.{boxOf, possibleState, admitted, Happens}
-use Rattle.interpreter.specs.Calls.{Call, event, chunk, Calls, done, call}
+use Rattle.interpreter.specs.Events.{Event, started, received, take, condition, look, altered, mislent, Happened, Result, taken, reported, happens, after}
+use Rattle.interpreter.specs.State.{boxOf, possibleState, admitted, rightly, Happens}
+use Rattle.interpreter.specs.Calls.{Call, event, instead, chunk, noChunk, alters, Calls, done, call}
 use Rattle.interpreter.specs.Lock.{leavesKey, UnderLock, LockHolds}
 use Rattle.interpreter.specs.declared.deed.Deed.{Deed}
-use Rattle.interpreter.specs.declared.deed.Deed.the-variants.{Change, Complete, Clear, Query, Inquire}
+use Rattle.interpreter.specs.declared.deed.Deed.the-variants.{Change, Complete, Clear, Query, Inquire, Saving}
 use Rattle.interpreter.specs.declared.deed.Change as changes
 use Rattle.interpreter.specs.declared.deed.Change.the-variants.{Nothing, Put, Reset, Store}
 use Rattle.interpreter.specs.declared.deed.Query as queries
@@ -111,6 +111,7 @@ module _ (s : Settings) where
   perform-held Clear b a n h = passes (with-registers (b .core) _ (clear-kept Lock (b .core .registers)) h)
   perform-held (Query q) b a n h = hold-bind HeldCore HeldBox _ _ (reply-held _ _ (query-held q (b .core) h)) (λ c g. passes g)
   perform-held (Inquire q) b a n h = hold-bind HeldCore HeldBox _ _ (reply-held _ _ h) (λ c g. passes g)
+  perform-held (Saving x p) b a n h = absurd (false≢true (sym n))
 
   -- ---- lines
 
@@ -152,6 +153,8 @@ module _ (s : Settings) where
   event-held b (condition Lock n) k h = absurd (false≢true k)
   event-held b (condition Warning n) k h = reported-held Warning n b (report-kept Lock (b .core .registers) Warning n (λ e. omega arith)) h
   event-held b look k h = h
+  event-held b (altered i x) k h = h
+  event-held b (mislent buffer) k h = h
 
   history-held : (b : Box) (es : List Event) → every leavesKey es ≡ true → HeldBox b → HeldBox (after b es)
   unfolding after
@@ -161,12 +164,17 @@ module _ (s : Settings) where
 
   -- ---- calls, by their promises
 
-  happens-held : (a t : State) (e : Event) (r : Result) → Happens a e r t → leavesKey e ≡ true → HeldBox (boxOf a) → HeldBox (boxOf t)
-  happens-held a t e r p k h = go (admitted a e) refl
+  same-held : (a t : State) (m n : Memory) → t ≡ a → HeldBox (boxOf a m) → HeldBox (boxOf t n)
+  same-held a t m n e h = subst (λ (x : State). HeldBox (boxOf x n)) (sym e) h
+
+  happens-held : (a t : State) (m n : Memory) (e : Event) (r : Result) → Happens a m e r t n → leavesKey e ≡ true
+      → HeldBox (boxOf a m) → HeldBox (boxOf t n)
+  happens-held a t m n e r p k h = go (rightly m e) refl (admitted a e) refl
     where
-      go : (b : Bool) → admitted a e ≡ b → HeldBox (boxOf t)
-      go true q = subst HeldBox (sym (ap (λ (x : Happened). x .box) (p .possible q .1))) (event-held (boxOf a) e k h)
-      go false q = subst (λ (x : State). HeldBox (boxOf x)) (sym (p .impossible q .0)) h
+      go : (o : Bool) → rightly m e ≡ o → (b : Bool) → admitted a e ≡ b → HeldBox (boxOf t n)
+      go true l true q = subst HeldBox (sym (ap (λ (x : Happened). x .box) (p .possible l q .1))) (event-held (boxOf a m) e k h)
+      go true l false q = same-held a t m n (p .impossible l q .0) h
+      go false l b q = same-held a t m n (p .wrong l .0) h
 
   every-parts : (es fs : List Event) → every leavesKey (es ++ fs) ≡ true → (every leavesKey es ≡ true) × (every leavesKey fs ≡ true)
   every-parts [] fs k = (refl, k)
@@ -175,18 +183,23 @@ module _ (s : Settings) where
       let q = every-parts es fs (p .1) in
       (both-true (p .0) (q .0), q .1)
 
-  call-held : (a t : State) (es : List Event) (rs : List Result) → Call a t es rs → every leavesKey es ≡ true → HeldBox (boxOf a) → HeldBox (boxOf t)
-  call-held a t _ _ (event {e = e} {r = r} p) k h = happens-held a t e r p (and-both (leavesKey e) true k .0) h
-  call-held a t es _ (chunk {input = input} {output = output} {left = left} {number = number} {read = read} {written = written} w) k h = go (possibleState a) refl
+  call-held : (a t : State) (m n : Memory) (es : List Event) (rs : List Result) → Call a m t n es rs → every leavesKey es ≡ true
+      → HeldBox (boxOf a m) → HeldBox (boxOf t n)
+  call-held a t m n _ _ (event {e = e} {r = r} l p) k h = happens-held a t m n e r p (and-both (leavesKey e) true k .0) h
+  call-held a t m n _ _ (instead l p same) k h = same-held a t m n (p .wrong l .0) h
+  call-held a t m n es _ (chunk {input = input} {output = output} {left = left} {number = number} {read = read} {written = written} l w) k h = go (possibleState a) refl
     where
-      go : (b : Bool) → possibleState a ≡ b → HeldBox (boxOf t)
-      go true q = subst HeldBox (sym (chunk-after a t input output left number read written w q)) (history-held (boxOf a) es k h)
-      go false q = subst (λ (x : State). HeldBox (boxOf x)) (sym (w .impossible q .0)) h
+      go : (b : Bool) → possibleState a ≡ b → HeldBox (boxOf t n)
+      go true q = subst HeldBox (sym (chunk-after a t m n input output left number read written w l q)) (history-held (boxOf a m) es k h)
+      go false q = same-held a t m n (w .impossible l q .0) h
+  call-held a t m n _ _ (noChunk l w same) k h = same-held a t m n (w .wrong l .0) h
+  call-held a t m n _ _ (alters e same) k h = same-held a t m n e h
 
-  calls-held : (a t : State) (es : List Event) (rs : List Result) → Calls t a es rs → every leavesKey es ≡ true → HeldBox (boxOf a) → HeldBox (boxOf t)
-  calls-held a t _ _ done k h = h
-  calls-held a t _ _ (call {u = u} {es = es} {fs = fs} {rs = rs} {qs = qs} p more) k h =
-      let q = every-parts es fs k in calls-held u t fs qs more (q .1) (call-held a u es rs p (q .0) h)
+  calls-held : (a t : State) (m n : Memory) (es : List Event) (rs : List Result) → Calls t n a m es rs → every leavesKey es ≡ true
+      → HeldBox (boxOf a m) → HeldBox (boxOf t n)
+  calls-held a t m n _ _ done k h = h
+  calls-held a t m n _ _ (call {u = u} {k = l} {es = es} {fs = fs} {rs = rs} {qs = qs} p more) k h =
+      let q = every-parts es fs k in calls-held u t l n fs qs more (q .1) (call-held a u m l es rs p (q .0) h)
 
 -- ---- the law
 
@@ -197,5 +210,5 @@ pub lock-holds : LockHolds
 lock-holds =
     record {
       histories = λ b es l k. history-held (b .core .settings) b es k (start (b .core .settings) (b .core .registers) l);
-      calls = λ s t es rs c l k. calls-held (s .settings) s t es rs c k (start (s .settings) _ l);
+      calls = λ s t m n es rs c l k. calls-held (s .settings) s t m n es rs c k (start (s .settings) _ l);
     }

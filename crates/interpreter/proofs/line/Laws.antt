@@ -9,7 +9,7 @@ use Rattle.registers.specs.Text.{Text}
 use Rattle.registers.specs.Check.{Checked, refused, passed, _>>=_, _>>_}
 use Rattle.registers.specs.Error.{numberOf}
 use Rattle.registers.specs.declared.error.Error.{Error}
-use Rattle.interpreter.specs.Box.{Box, mostAnswer}
+use Rattle.interpreter.specs.Box.{Memory, Box, mostAnswer}
 use Rattle.interpreter.specs.Unit.{Read, readUnit}
 use Rattle.interpreter.specs.Perform.{permitted, perform}
 use Rattle.interpreter.specs.Line.{attempt, refuse}
@@ -30,47 +30,47 @@ use Rattle.interpreter.proofs.unit.Allowed.{read-allowed}
 
 -- ---- a unit that was read: it is barred, left unanswered, or done
 
-module _ (p : Present) (d : Deed) (used : ℕ) (out : Text) where
+module _ (p : Present) (d : Deed) (used : ℕ) (out : Text) (m : Memory) where
   abbrev b : Box
-  b = boxAt p out
+  b = boxAt p out m
 
   -- the lock and check 8 see nothing of the answers so far
-  seen : {m : Checked (Unit {0})} → permitted d (coreIn (p .settings) (p .status)) ≡ m → permitted d (b .core) ≡ m
+  pub seen : {c : Checked (Unit {0})} → permitted d (coreIn (p .settings) (p .status)) ≡ c → permitted d (b .core) ≡ c
   unfolding permitted
   seen q = q
 
   -- a refusal, which leaves of the answers so far what it leaves of those in out
   module _ (short : p .status .queued ≤ most) (room : p .answered < mostAnswer) (e : Error) (r : Done) (w : StoppedWith e p r) where
-    stopped : (left : Text) → carried d b ≡ refused (numberOf e) → refuse (numberOf e) (boxAt p left) ≡ refuse (numberOf e) b
-        → CarriedOut d used p out r left
+    pub stopped : (left : Text) → carried d b ≡ refused (numberOf e) → refuse (numberOf e) (boxAt p left m) ≡ refuse (numberOf e) b
+        → CarriedOut d used p out m r left m
     stopped left is same =
         let less = w .left .room in
         record {
           queued = w .left .queued short;
           room = omega arith;
           goes = λ t. absurd (false≢true (sym (w .stops) ∙ t));
-          stops = λ _. (numberOf e, is, w .left .box left ∙ same);
+          stops = λ _. (numberOf e, is, w .left .box left m ∙ same);
         }
 
-    pub deed-barred : permitted d (coreIn (p .settings) (p .status)) ≡ refused (numberOf e) → CarriedOut d used p out r out
+    pub deed-barred : permitted d (coreIn (p .settings) (p .status)) ≡ refused (numberOf e) → CarriedOut d used p out m r out m
     unfolding _>>_
     deed-barred l = stopped out (rw (seen l)) refl
 
     pub deed-unanswered : permitted d (coreIn (p .settings) (p .status)) ≡ passed tt → (left : Text) → Answered d p out (noAnswer e) left
-        → CarriedOut d used p out r left
+        → CarriedOut d used p out m r left m
     unfolding _>>_
-    deed-unanswered l left a = stopped left (rw (seen l, a .0)) (a .1)
+    deed-unanswered l left a = stopped left (rw (seen l, a m .0)) (a m .1)
 
   pub deed-done : permitted d (coreIn (p .settings) (p .status)) ≡ passed tt → Allowed (p .settings) d
       → (next : Present) → After d p next → (end : ℕ) (left : Text) → Answered d p out (Until end) left
-      → CarriedOut d used p out
-      (record { present = record { settings = next .settings; status = next .status; answered = end }; used = used; obeyed = true }) left
+      → CarriedOut d used p out m
+      (record { present = record { settings = next .settings; status = next .status; answered = end }; used = used; obeyed = true }) left m
   unfolding _>>_
   deed-done l allowed next s end left a =
       record {
         queued = s .status .queued;
         room = a .0;
-        goes = λ _. (rw (seen l) (a .1 next allowed s), refl);
+        goes = λ _. (rw (seen l) (a .1 next m allowed s), refl);
         stops = λ t. absurd (false≢true (sym t));
       }
 
@@ -92,12 +92,12 @@ module _ (d : Done) (path : List Text) (unit : Text) (keys : List ℕ) (res : De
       let f = subst (λ (r : Decision). UnitRead (d .present .settings) path unit r used keys) q read in
       read-allowed (d .present .settings) path unit (f .1)
 
-  module _ (out : Text) where
+  module _ (out : Text) (m : Memory) where
     abbrev start : Box
-    start = boxAt (d .present) out
+    start = boxAt (d .present) out m
 
     pub unit-refused : d .present .status .queued ≤ most → d .present .answered < mostAnswer → (e : Error) (r : Done) → StoppedWith e (d .present) r → res ≡ Refused e
-        → UnitRan d path unit out r keys out
+        → UnitRan d path unit out m r keys out m
     unit-refused short room e r w q =
         let f = subst (λ (r : Decision). UnitRead (d .present .settings) path unit r used keys) q read in
         let less = w .left .room in
@@ -105,12 +105,12 @@ module _ (d : Done) (path : List Text) (unit : Text) (keys : List ℕ) (res : De
           queued = w .left .queued short;
           room = omega arith;
           goes = λ t. absurd (false≢true (sym (w .stops) ∙ t));
-          stops = λ _. (numberOf e, attempt-read path start unit (numberOf e) f, w .left .box out);
+          stops = λ _. (numberOf e, attempt-read path start unit (numberOf e) f, w .left .box out m);
         }
 
-    pub unit-carried : (a : Deed) → res ≡ Obey a → (r : Done) (left : Text) → CarriedOut a used (d .present) out r left → UnitRan d path unit out r keys left
+    pub unit-carried : (a : Deed) → res ≡ Obey a → (r : Done) (left : Text) (m′ : Memory) → CarriedOut a used (d .present) out m r left m′ → UnitRan d path unit out m r keys left m′
     unfolding _>>=_
-    unit-carried a q r left c =
+    unit-carried a q r left m′ c =
         let f = subst (λ (r : Decision). UnitRead (d .present .settings) path unit r used keys) q read in
         let is = attempt-carried path start unit _ (f .1) in
         record {

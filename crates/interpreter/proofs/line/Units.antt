@@ -16,7 +16,7 @@ use Rattle.registers.specs.Text.{Text, if_then_else_}
 use Rattle.registers.specs.Check.{refused, passed}
 use Rattle.registers.proofs.Tests.{and-both}
 use Rattle.interpreter.specs.Cuts.{cutAt}
-use Rattle.interpreter.specs.Box.{Box, box, mostAnswer}
+use Rattle.interpreter.specs.Box.{Memory, memory, storeSize, Box, box, mostAnswer}
 use Rattle.interpreter.specs.Line.{Obeyed, attempt, refuse, runUnits}
 use Rattle.interpreter.specs.HeaderParts.{Holds}
 use Rattle.interpreter.specs.PresentParts.{boxIn}
@@ -74,29 +74,30 @@ run-none path b = refl
 
 -- ---- the units of a line so far: what is left does what all of them do
 
-pub record Going (b : Box) (line : Text) (keys : List ℕ) (out : Text) (d : Done) (at : ℕ) : Type 0 where
+pub record Going (b : Box) (line : Text) (keys : List ℕ) (out store : Text) (d : Done) (at : ℕ) : Type 0 where
   pub queued : d .present .status .queued ≤ most
   pub answers : d .present .answered < mostAnswer
   pub long : length out ≡ mostAnswer
+  pub sized : length store ≡ storeSize
   pub within : at ≤ length line
   pub path : List Text
   pub holds : Holds path keys (d .used)
-  pub left : runUnits (cutAt (code ";") (drop at line)) path (boxAt (d .present) out) ≡ runUnits (cutAt (code ";") line) [] b
+  pub left : runUnits (cutAt (code ";") (drop at line)) path (boxAt (d .present) out (memory store)) ≡ runUnits (cutAt (code ";") line) [] b
 
-pub going-start : (p : Present) (o : Bool) (line : Text) (keys : List ℕ) (out : Text) → p .answered ≡ 0 → p .status .queued ≤ most → length out ≡ mostAnswer
-    → Going (boxIn p []) line keys out (record { present = p; used = 0; obeyed = o }) 0
-going-start p o line keys out z q l =
-    record { queued = q; answers = omega arith; long = l; within = zero-le; path = []; holds = holds-none keys; left = rw z }
+pub going-start : (p : Present) (o : Bool) (line : Text) (keys : List ℕ) (out store : Text) → p .answered ≡ 0 → p .status .queued ≤ most → length out ≡ mostAnswer
+    → length store ≡ storeSize → Going (boxIn p [] (memory store)) line keys out store (record { present = p; used = 0; obeyed = o }) 0
+going-start p o line keys out store z q l z′ =
+    record { queued = q; answers = omega arith; long = l; sized = z′; within = zero-le; path = []; holds = holds-none keys; left = rw z }
 
-module _ (b : Box) (line : Text) (keys : List ℕ) (out : Text) (d : Done) (at : ℕ) (g : Going b line keys out d at)
+module _ (b : Box) (line : Text) (keys : List ℕ) (out store : Text) (d : Done) (at : ℕ) (g : Going b line keys out store d at)
     (end : ℕ) (is : end ≡ at + indexOf (code ";") (slice at (length line) line)) (within : end ≤ length line)
-    (r : Done) (more : List ℕ) (left : Text) (w : UnitRan d (g .path) (take (end - at) (drop at line)) out r more left) where
+    (r : Done) (more : List ℕ) (left kept : Text) (w : UnitRan d (g .path) (take (end - at) (drop at line)) out (memory store) r more left (memory kept)) where
   -- the rest of the line, which begins with this unit, and the box before it
   abbrev here : Text
   here = drop at line
 
   abbrev before : Box
-  before = boxAt (d .present) out
+  before = boxAt (d .present) out (memory store)
 
   n : end - at ≡ indexOf (code ";") here
   n = place (code ";") line at end is
@@ -104,19 +105,19 @@ module _ (b : Box) (line : Text) (keys : List ℕ) (out : Text) (d : Done) (at :
   first : cutAt (code ";") here ≡ take (end - at) here ∷ others here
   first = rw n (first-unit here)
 
-  stopped : r .obeyed ≡ false → boxAt (r .present) left ≡ runUnits (cutAt (code ";") line) [] b
+  stopped : r .obeyed ≡ false → boxAt (r .present) left (memory kept) ≡ runUnits (cutAt (code ";") line) [] b
   stopped f =
       let s = w .stops f in
       s .2 ∙ sym (run-stop (take (end - at) here) (others here) (g .path) before (s .0) (s .1)) ∙ (rw first at (g .left))
 
-  passes : (t : r .obeyed ≡ true) → runUnits (others here) (w .goes t .0) (boxAt (r .present) left) ≡ runUnits (cutAt (code ";") line) [] b
+  passes : (t : r .obeyed ≡ true) → runUnits (others here) (w .goes t .0) (boxAt (r .present) left (memory kept)) ≡ runUnits (cutAt (code ";") line) [] b
   passes t = sym (run-on (take (end - at) here) (others here) (g .path) before _ (w .goes t .1)) ∙ (rw first at (g .left))
 
   pub going-less : (r .obeyed && ltb end (length line)) ≡ true → length line - (end + 1) < length line - at
   going-less e = let h = ltb-true end (length line) (and-both (r .obeyed) (ltb end (length line)) e .1) in omega (arith, is)
 
-  pub going-on : (r .obeyed && ltb end (length line)) ≡ true → length left ≡ length out → Going b line more left r (end + 1)
-  going-on e l =
+  pub going-on : (r .obeyed && ltb end (length line)) ≡ true → length left ≡ length out → length kept ≡ length store → Going b line more left kept r (end + 1)
+  going-on e l k =
       let both = and-both (r .obeyed) (ltb end (length line)) e in
       let h = ltb-true end (length line) (both .1) in
       let o = w .goes (both .0) in
@@ -128,16 +129,17 @@ module _ (b : Box) (line : Text) (keys : List ℕ) (out : Text) (d : Done) (at :
         queued = w .queued;
         answers = w .room;
         long = l ∙ g .long;
+        sized = k ∙ g .sized;
         within = omega arith;
         path = o .0;
         holds = o .2;
         left = rw rest at (passes (both .0));
       }
 
-  pub going-end : (r .obeyed && ltb end (length line)) ≡ false → boxAt (r .present) left ≡ runUnits (cutAt (code ";") line) [] b
+  pub going-end : (r .obeyed && ltb end (length line)) ≡ false → boxAt (r .present) left (memory kept) ≡ runUnits (cutAt (code ";") line) [] b
   going-end e = go (r .obeyed) refl (ltb end (length line)) refl
     where
-      go : (t : Bool) → r .obeyed ≡ t → (u : Bool) → ltb end (length line) ≡ u → boxAt (r .present) left ≡ runUnits (cutAt (code ";") line) [] b
+      go : (t : Bool) → r .obeyed ≡ t → (u : Bool) → ltb end (length line) ≡ u → boxAt (r .present) left (memory kept) ≡ runUnits (cutAt (code ";") line) [] b
       go false o u q = stopped o
       go true o true q = absurd (false≢true (sym e ∙ rw (o, q)))
       go true o false q =

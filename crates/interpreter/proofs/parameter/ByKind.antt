@@ -27,7 +27,7 @@ use Rattle.registers.proofs.settings.Values as values
 use Rattle.interpreter.specs.WordsParts.{wordCount}
 use Rattle.interpreter.specs.Parameter.{Word, Figure, least, greatest, asksLimits, wordsOf, limitAt, valueGiven, sideGiven, isNumber}
 use Rattle.interpreter.specs.declared.deed.Role.{Role}
-use Rattle.interpreter.specs.declared.deed.Role.the-variants.{Setting, Register, Only}
+use Rattle.interpreter.specs.declared.deed.Role.the-variants.{Setting, Register, Only, Saving}
 use Rattle.interpreter.proofs.Lists.{listed, agree}
 
 -- ---- what two functions say of every row, by computing both for all settings
@@ -160,12 +160,14 @@ unfolding least if_then_else_
 least-asked (Setting i) = refl
 least-asked (Register r) = refl
 least-asked (Only d) = refl
+least-asked (Saving x) = refl
 
 least-set : (r : Role) → greatest r false ≡ least r false
 unfolding least greatest if_then_else_
 least-set (Setting i) = refl
 least-set (Register r) = refl
 least-set (Only d) = refl
+least-set (Saving x) = refl
 
 -- what the code compares
 module _ (r : Role) (n : ℕ) where
@@ -190,3 +192,5 @@ greatest-one (Setting i) false = omega arith
 greatest-one (Register x) true = omega arith
 greatest-one (Register x) false = omega arith
 greatest-one (Only d) asked = omega arith
+greatest-one (Saving x) true = omega arith
+greatest-one (Saving x) false = omega arith

@@ -17,7 +17,7 @@ use Rattle.registers.specs.declared.status.Register.{Register}
 use Rattle.registers.proofs.status.Laws.{set-yes, set-no}
 use Rattle.interpreter.specs.PerformParts.{settingsChanged, settingsLeft, StatusLeft}
 use Rattle.interpreter.specs.declared.deed.Deed.{Deed}
-use Rattle.interpreter.specs.declared.deed.Deed.the-variants.{Change, Complete, Clear, Query, Inquire}
+use Rattle.interpreter.specs.declared.deed.Deed.the-variants.{Change, Complete, Clear, Query, Inquire, Saving}
 use Rattle.interpreter.specs.declared.deed.Change as changes
 use Rattle.interpreter.specs.declared.deed.Change.the-variants.{Nothing as noChange, Put, Reset, Store}
 use Rattle.interpreter.specs.declared.deed.Query as queries
@@ -34,12 +34,13 @@ same-settings (Put i v side) h s = absurd (miss (0 ∷ 3 ∷ []) 1 tt h)
 same-settings Reset h s = absurd (miss (0 ∷ 3 ∷ []) 2 tt h)
 same-settings (Store x n side) h s = refl
 
-pub no-change : (d : Deed) → OneOf (1 ∷ 2 ∷ 3 ∷ 4 ∷ []) (tagOf deeds.the-type d) → (s : Settings) → s ≡ settingsLeft d s
-no-change (Change x) h s = absurd (miss (1 ∷ 2 ∷ 3 ∷ 4 ∷ []) 0 tt h)
+pub no-change : (d : Deed) → OneOf (1 ∷ 2 ∷ 3 ∷ 4 ∷ 5 ∷ []) (tagOf deeds.the-type d) → (s : Settings) → s ≡ settingsLeft d s
+no-change (Change x) h s = absurd (miss (1 ∷ 2 ∷ 3 ∷ 4 ∷ 5 ∷ []) 0 tt h)
 no-change Complete h s = refl
 no-change Clear h s = refl
 no-change (Query q) h s = refl
 no-change (Inquire q) h s = refl
+no-change (Saving x p) h s = refl
 
 -- ---- what leaves the status alone
 

@@ -18,7 +18,8 @@ use Rattle.registers.specs.declared.rounding.Side.{Side}
 use Rattle.interpreter.specs.Box.{Core}
 use Rattle.interpreter.specs.Perform.{blocked, conflicting, permitted}
 use Rattle.interpreter.specs.declared.deed.Deed.{Deed}
-use Rattle.interpreter.specs.declared.deed.Deed.the-variants.{Change, Complete, Clear, Query, Inquire}
+use Rattle.interpreter.specs.declared.deed.Deed.the-variants.{Change, Complete, Clear, Query, Inquire, Saving}
+use Rattle.interpreter.specs.declared.deed.Saving as savings
 use Rattle.interpreter.specs.declared.deed.Change as changes
 use Rattle.interpreter.specs.declared.deed.Change.the-variants.{Nothing, Put, Reset, Store}
 use Rattle.interpreter.proofs.deed.Deed as deeds
@@ -89,6 +90,14 @@ reset-permitted c = go (locked (c .registers))
     go true = refl
     go false = refl
 
+pub saving-permitted : (x : savings.Saving) (p : ℕ) (c : Core) → permitted (Saving x p) c ≡ check 221 (not (locked (c .registers)))
+unfolding permitted check _>>_
+saving-permitted x p c = go (locked (c .registers))
+  where
+    go : (locks : Bool) → (check 221 (not locks) >> check 221 true) ≡ check 221 (not locks)
+    go true = refl
+    go false = refl
+
 -- all else passes
 pub free-change : (x : changes.Change) → OneOf (0 ∷ 3 ∷ []) (tagOf orders.the-type x) → (c : Core) → permitted (Change x) c ≡ check 221 true
 unfolding permitted check _>>_
@@ -104,3 +113,4 @@ free-other Complete h c = refl
 free-other Clear h c = refl
 free-other (Query q) h c = refl
 free-other (Inquire q) h c = refl
+free-other (Saving x p) h c = absurd (miss (1 ∷ 2 ∷ 3 ∷ 4 ∷ []) 5 tt h)

@@ -20,10 +20,10 @@ use Rattle.registers.specs.declared.settings.Values.{Values}
 use Rattle.registers.specs.declared.settings.Values.the-variants.{Bool as BoolValue, Word, Tenths, Whole}
 use Rattle.registers.proofs.settings.Laws.{valuesIn, past-is}
 use Rattle.registers.proofs.settings.Values as values
-use Rattle.interpreter.specs.ReplyParts.{textOf, RepliesWith, ReplyTo}
+use Rattle.interpreter.specs.ReplyParts.{ordinary, textOf, RepliesWith, ReplyTo}
 use Rattle.interpreter.specs.Parameter.{wordsOf, limitWords}
 use Rattle.interpreter.specs.declared.deed.Deed.{Deed}
-use Rattle.interpreter.specs.declared.deed.Deed.the-variants.{Change, Complete, Clear, Query, Inquire}
+use Rattle.interpreter.specs.declared.deed.Deed.the-variants.{Change, Complete, Clear, Query, Inquire, Saving}
 use Rattle.interpreter.specs.declared.present.Present.{Present}
 use Rattle.interpreter.specs.declared.reply.Reply.{Reply}
 use Rattle.interpreter.specs.declared.reply.Reply.the-variants.{Nothing, Whole as said-whole}
@@ -75,12 +75,23 @@ word-row i is e = go (ltb i count) refl
         let z : _≡_ {A = ℕ} 0 1 = cc in
         absurd (omega arith)
 
--- ---- a deed without an answer is of one of the first three kinds
+-- ---- a deed without an answer is a change, *OPC, *CLS, *SAV or *RCL
 
-pub nothing-said : (d : Deed) → OneOf (0 ∷ 1 ∷ 2 ∷ []) (tagOf deeds.the-type d) → (p : Present) (answers : Bool)
+pub nothing-said : (d : Deed) → OneOf (0 ∷ 1 ∷ 2 ∷ 5 ∷ []) (tagOf deeds.the-type d) → (p : Present) (answers : Bool)
     → ReplyTo d p answers Nothing
 nothing-said (Change x) h p answers = refl
 nothing-said Complete h p answers = refl
 nothing-said Clear h p answers = refl
-nothing-said (Query q) h p answers = absurd (miss (0 ∷ 1 ∷ 2 ∷ []) 3 tt h)
-nothing-said (Inquire q) h p answers = absurd (miss (0 ∷ 1 ∷ 2 ∷ []) 4 tt h)
+nothing-said (Query q) h p answers = absurd (miss (0 ∷ 1 ∷ 2 ∷ 5 ∷ []) 3 tt h)
+nothing-said (Inquire q) h p answers = absurd (miss (0 ∷ 1 ∷ 2 ∷ 5 ∷ []) 4 tt h)
+nothing-said (Saving x n) h p answers = refl
+
+-- ---- any deed but *SAV and *RCL
+
+pub ordinary-other : (d : Deed) → OneOf (0 ∷ 1 ∷ 2 ∷ 3 ∷ 4 ∷ []) (tagOf deeds.the-type d) → ordinary d ≡ true
+ordinary-other (Change x) h = refl
+ordinary-other Complete h = refl
+ordinary-other Clear h = refl
+ordinary-other (Query q) h = refl
+ordinary-other (Inquire q) h = refl
+ordinary-other (Saving x n) h = absurd (miss (0 ∷ 1 ∷ 2 ∷ 3 ∷ 4 ∷ []) 5 tt h)

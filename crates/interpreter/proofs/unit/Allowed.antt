@@ -25,11 +25,12 @@ use Rattle.registers.specs.declared.suffix.Quantity.the-variants.{Nothing, Volt
 use Rattle.registers.proofs.Tests.{and-both}
 use Rattle.interpreter.specs.Header.{Place, header, placed, bodyOf, byFirst}
 use Rattle.interpreter.specs.Rows.{Row, rows, settingRows, otherRows, findRow}
-use Rattle.interpreter.specs.Parameter.{findWord, parameter, settingDeed, limitDeed, registerGiven, registerDeed, deedOf, storeGiven, readFigure, readWord}
+use Rattle.interpreter.specs.Parameter.{findWord, parameter, settingDeed, limitDeed, registerGiven, registerDeed, deedOf, storeGiven, placeGiven, savingDeed, readFigure, readWord}
 use Rattle.interpreter.specs.Unit.{raisable, Read, readUnit}
 use Rattle.interpreter.specs.UnitParts.{Allowed}
 use Rattle.interpreter.specs.declared.deed.Role.{Role}
-use Rattle.interpreter.specs.declared.deed.Role.the-variants.{Setting as setting, Register as register, Only}
+use Rattle.interpreter.specs.declared.deed.Role.the-variants.{Setting as setting, Register as register, Only, Saving as saving}
+use Rattle.interpreter.specs.declared.deed.Saving as savings
 use Rattle.interpreter.proofs.Checks.{Holds, Any, refuses-by, passes, hold-bind, hold-check, hold-if, at-passed, at-refused}
 
 -- ---- each reader refuses by such a number
@@ -102,12 +103,19 @@ register-allowed s r t =
     hold-bind Any (Allowed s) _ _ (parameter-known _ _ _ t) (λ g _.
     hold-check (Allowed s) 222 _ _ refl (λ w. passes (in-width (registerGiven g) (widest r) w)))
 
+place-allowed : (s : Settings) (x : savings.Saving) (t : Text) → Holds (Allowed s) (savingDeed x t)
+unfolding savingDeed placeGiven mayBeQueued queueable
+place-allowed s x t =
+    hold-bind Any (Allowed s) _ _ (parameter-known _ _ _ t) (λ g _.
+    hold-check (Allowed s) 222 _ _ refl (λ w. passes (let h = in-width (registerGiven g) 9 w in omega arith)))
+
 -- ---- the rows: each setting is one of the seventeen, and each deed of a row's own is allowed
 
 abbrev Proper : Settings → Role → Type 0
 Proper s (setting i) = i < count
 Proper s (register r) = Unit {0}
 Proper s (Only d) = Allowed s d
+Proper s (saving x) = Unit {0}
 
 abbrev EachProper : Settings → List Row → Type 0
 EachProper s [] = Unit {0}
@@ -134,6 +142,8 @@ deed-allowed s (register r) true ts p = passes tt
 deed-allowed s (register r) false [] p = refuses-by refl
 deed-allowed s (register r) false (t ∷ ts) p = register-allowed s r t
 deed-allowed s (Only d) asked ts p = passes p
+deed-allowed s (saving x) asked [] p = refuses-by refl
+deed-allowed s (saving x) asked (t ∷ ts) p = place-allowed s x t
 
 -- ---- the whole unit
 

@@ -24,7 +24,7 @@ use Rattle.interpreter.specs.Header.{Header, here, name, placed, header,
 use Rattle.interpreter.specs.Rows.{settingRows, otherRows, rows, fitsRow, findRow}
 use Rattle.interpreter.specs.Parameter.{parameters, least, greatest, findWord, parameter, valueGiven, settingDeed, deedOf, readFigure, readWord}
 use Rattle.interpreter.specs.Unit.{Read, readUnit}
-use Rattle.interpreter.specs.Box.{powerUp}
+use Rattle.interpreter.specs.Box.{powerUp, blank}
 use Rattle.interpreter.specs.Perform.{permitted, changed, perform}
 use Rattle.interpreter.specs.Reply.{replyTo, inquiryText, joined, fitsAnswer, reply}
 use Rattle.interpreter.specs.Line.{attempt, refuse, runUnits, interrupted, finished, unitsOf, runLine, endLine, held, byte, piece}
@@ -64,7 +64,7 @@ sending t = received (t .0 ++ bytes " " ++ t .1) ∷ []
 
 -- the premises of demand 2's round trip
 abbrev pub PremisesAt : ℕ → Text × Text → Type 0
-PremisesAt i t = Premises powerUp i (t .1) buffer (takenFrom powerUp (asking t) [] buffer) (asking t) [] (sending t)
+PremisesAt i t = Premises (powerUp blank) i (t .1) buffer (takenFrom (powerUp blank) (asking t) [] buffer) (asking t) [] (sending t)
 
 -- what they speak of
 record Seen : Type 0 where
@@ -82,9 +82,9 @@ record Seen : Type 0 where
 
 unfoldable seenAt : Text × Text → Seen
 seenAt t =
-    let b = after powerUp (asking t) in
-    let r = happens (after powerUp (queried (asking t) ++ [])) (take buffer) .result in
-    let c = after powerUp (sentBack (asking t) [] buffer (sending t)) in
+    let b = after (powerUp blank) (asking t) in
+    let r = happens (after (powerUp blank) (queried (asking t) ++ [])) (take buffer) .result in
+    let c = after (powerUp blank) (sentBack (asking t) [] buffer (sending t)) in
     record {
       whole = (b .core .overlong, c .core .overlong);
       inLine = every inLine (sending t);
@@ -158,7 +158,7 @@ unfolding seenAt expectedAt bytes white
 trip-at i t e =
     record {
       trip = record {
-        own = power-up-own;
+        own = (power-up-own blank);
         first = refl;
         second = ap (λ (x : Seen). x .inLine) e;
         asks = record {

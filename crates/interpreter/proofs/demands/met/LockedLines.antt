@@ -22,7 +22,7 @@ use Rattle.interpreter.specs.Header.{name, placed, header, spells, bodyO
 use Rattle.interpreter.specs.Rows.{settingRows, otherRows, rows, fitsRow, findRow}
 use Rattle.interpreter.specs.Parameter.{parameters, least, greatest, findWord, parameter, valueGiven, settingDeed, deedOf, readFigure, readWord}
 use Rattle.interpreter.specs.Unit.{readUnit}
-use Rattle.interpreter.specs.Box.{powerUp}
+use Rattle.interpreter.specs.Box.{powerUp, blank}
 use Rattle.interpreter.specs.Perform.{permitted, changed, perform}
 use Rattle.interpreter.specs.Reply.{replyTo, inquiryText, joined, fitsAnswer, reply}
 use Rattle.interpreter.specs.Line.{attempt, refuse, runUnits, interrupted, finished, unitsOf, runLine, endLine, held, byte, piece}
@@ -41,15 +41,15 @@ switched = text "OUTP 0.4\nOUTP:PON 0\n" ∷ take [] ∷ []
 
 -- a setting after these events
 abbrev settingAfter : ℕ → List Event → ℤ
-settingAfter i es = valueAt (after powerUp es .core .settings) i
+settingAfter i es = valueAt (after (powerUp blank) es .core .settings) i
 
 pub record MetLock : Type 0 where
-  pub locks : locked (after powerUp locking .core .registers) ≡ true
+  pub locks : locked (after (powerUp blank) locking .core .registers) ≡ true
   pub leaves : every leavesKey (tried ++ switched) ≡ true
   pub on : settingAfter output (locking ++ tried) ≡ pos 1
   pub off : settingAfter output (locking ++ tried ++ switched) ≡ pos 0
   pub stays : settingAfter voltage (locking ++ tried ++ switched) ≡ pos 50
-  pub errors : after powerUp (locking ++ tried ++ switched) .trouble .queue ≡ 221 ∷ 221 ∷ 221 ∷ 221 ∷ 420 ∷ []
+  pub errors : after (powerUp blank) (locking ++ tried ++ switched) .trouble .queue ≡ 221 ∷ 221 ∷ 221 ∷ 221 ∷ 420 ∷ []
 
 pub met-lock : MetLock
 unfolding if_then_else_ bytes same white printable digit letter wordByte small capital _>>=_ _>>_ check shortForm longForm matches

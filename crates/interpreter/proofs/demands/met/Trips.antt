@@ -23,7 +23,7 @@ use Rattle.interpreter.specs.Header.{name, placed, header, spells, bodyO
 use Rattle.interpreter.specs.Rows.{settingRows, otherRows, rows, fitsRow, findRow}
 use Rattle.interpreter.specs.Parameter.{parameters, least, greatest, findWord, parameter, valueGiven, settingDeed, deedOf, readFigure, readWord}
 use Rattle.interpreter.specs.Unit.{readUnit}
-use Rattle.interpreter.specs.Box.{Box, box, powerUp}
+use Rattle.interpreter.specs.Box.{Box, box, powerUp, blank}
 use Rattle.interpreter.specs.Perform.{permitted, changed, perform}
 use Rattle.interpreter.specs.Reply.{replyTo, inquiryText, joined, fitsAnswer, reply}
 use Rattle.interpreter.specs.Line.{attempt, refuse, runUnits, interrupted, finished, unitsOf, runLine, endLine, held, byte, piece}
@@ -53,7 +53,7 @@ sentInExam = text "VOLT 5.1" ∷ []
 
 -- and of one from a hand-made state: half a line, an answer without its newline, every event bit, and -350 twice
 abbrev other : Box
-other = box (record { settings = atReset; registers = registersOf atStart; line = bytes "VO"; overlong = false; answer = bytes "X" }) (record { events = 255; queue = 350 ∷ 350 ∷ [] })
+other = box (record { settings = atReset; registers = registersOf atStart; line = bytes "VO"; overlong = false; answer = bytes "X"; memory = blank }) (record { events = 255; queue = 350 ∷ 350 ∷ [] })
 
 abbrev restOfLine : List Event
 restOfLine = text "LT?" ∷ []
@@ -63,7 +63,7 @@ sentOther = text "VOLT 0.0" ∷ []
 
 other-own : Own other
 unfolding possible possibleCore possibleRegisters possibleTrouble possibleGroup mayBeQueued queueable powerUp atStart bytes
-other-own = record { could = rw reset-possible; values = power-up-own .values }
+other-own = record { could = rw reset-possible; values = (power-up-own blank) .values }
 
 -- and of one that lacks the lock's premise alone, and is refused for it
 abbrev unlocked : List Event
@@ -73,15 +73,15 @@ abbrev sentLocked : List Event
 sentLocked = condition Lock 1 ∷ text "VOLT 0.0" ∷ []
 
 pub record LockMatters : Type 0 where
-  pub trip : Trip powerUp voltage (bytes "0.0") buffer (takenFrom powerUp unlocked [] buffer) unlocked [] sentLocked
-  pub locks : locked (after powerUp (sentBack unlocked [] buffer sentLocked) .core .registers) ≡ true
-  pub refusedBy : lineRefusal (after powerUp (sentBack unlocked [] buffer sentLocked)) ≡ 221
+  pub trip : Trip (powerUp blank) voltage (bytes "0.0") buffer (takenFrom (powerUp blank) unlocked [] buffer) unlocked [] sentLocked
+  pub locks : locked (after (powerUp blank) (sentBack unlocked [] buffer sentLocked) .core .registers) ≡ true
+  pub refusedBy : lineRefusal (after (powerUp blank) (sentBack unlocked [] buffer sentLocked)) ≡ 221
 
 pub record Met2 : Type 0 where
   pub everyRow : (i : ℕ) → i < count → PremisesAt i (tripAt trips i)
-  pub oneMore : Premises powerUp voltage (bytes "0.0") buffer (takenFrom powerUp before early buffer) before early late
-  pub examOn : examined (after powerUp inExam .core .settings) ≡ true
-  pub examTrip : Premises powerUp voltage (bytes "5.1") buffer (takenFrom powerUp inExam [] buffer) inExam [] sentInExam
+  pub oneMore : Premises (powerUp blank) voltage (bytes "0.0") buffer (takenFrom (powerUp blank) before early buffer) before early late
+  pub examOn : examined (after (powerUp blank) inExam .core .settings) ≡ true
+  pub examTrip : Premises (powerUp blank) voltage (bytes "5.1") buffer (takenFrom (powerUp blank) inExam [] buffer) inExam [] sentInExam
   pub otherTrip : Premises other voltage (bytes "0.0") buffer (takenFrom other restOfLine [] buffer) restOfLine [] sentOther
   pub lockMatters : LockMatters
 
@@ -115,7 +115,7 @@ met2 =
       everyRow = every-row;
       oneMore = record {
         trip = record {
-          own = power-up-own;
+          own = (power-up-own blank);
           first = refl;
           second = refl;
           asks = record { whole = refl; alone = refl; path = _; asks = refl };
@@ -139,7 +139,7 @@ met2 =
       examOn = refl;
       examTrip = record {
         trip = record {
-          own = power-up-own;
+          own = (power-up-own blank);
           first = refl;
           second = refl;
           asks = record { whole = refl; alone = refl; path = _; asks = refl };
@@ -161,7 +161,7 @@ met2 =
       };
       lockMatters = record {
         trip = record {
-          own = power-up-own;
+          own = (power-up-own blank);
           first = refl;
           second = refl;
           asks = record { whole = refl; alone = refl; path = _; asks = refl };

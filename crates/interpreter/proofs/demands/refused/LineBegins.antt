@@ -1,16 +1,19 @@
 -- Demand 3: after a newline no byte of a line waits, so the next line of any history begins there. The newline empties the line first, and
 -- no unit of it, obeyed or refused, touches the line again (`FreshBox`; proofs/Kept).
 use mathlib.Core.Path.{refl, subst, sym}
+use Prim.Native.Nat.{ℕ}
 use Rattle.registers.specs.Text.{Text, empty}
 use Rattle.registers.specs.Queue.{mayBeQueued, queueable}
 use Rattle.interpreter.specs.Box.{Core, Box, powerUp}
-use Rattle.interpreter.specs.Perform.{changed, afterQuery, perform}
+use Rattle.interpreter.specs.Perform.{changed, afterQuery, setUp, perform}
 use Rattle.interpreter.specs.Reply.{reply}
 use Rattle.interpreter.specs.Line.{interrupted, endLine}
 use Rattle.interpreter.specs.Events.{after}
 use Rattle.interpreter.specs.Demand3.{Fresh, LinesBegin}
+use Rattle.interpreter.specs.declared.deed.Saving as savings
+use Rattle.interpreter.specs.declared.deed.Saving.the-variants.{Save, Recall}
 use Rattle.interpreter.specs.declared.deed.Deed.{Deed}
-use Rattle.interpreter.specs.declared.deed.Deed.the-variants.{Change, Complete, Clear, Query, Inquire}
+use Rattle.interpreter.specs.declared.deed.Deed.the-variants.{Change, Complete, Clear, Query, Inquire, Saving}
 use Rattle.interpreter.specs.declared.deed.Change as changes
 use Rattle.interpreter.specs.declared.deed.Change.the-variants.{Nothing, Put, Reset, Store}
 use Rattle.interpreter.specs.declared.deed.Query as queries
@@ -44,6 +47,11 @@ reply-fresh : (t : Text) (c : Core) → Fresh c → Holds Fresh (reply t c)
 unfolding reply mayBeQueued queueable
 reply-fresh t c f = hold-check Fresh 430 _ _ refl (λ _. passes f)
 
+setup-fresh : (x : savings.Saving) (p : ℕ) (c : Core) → Fresh c → Holds Fresh (setUp x p c)
+unfolding setUp mayBeQueued queueable
+setup-fresh Save p c f = passes f
+setup-fresh Recall p c f = hold-check Fresh 314 _ _ refl (λ _. passes f)
+
 perform-fresh : (d : Deed) (b : Box) → FreshBox b → Holds FreshBox (perform d b)
 unfolding perform
 perform-fresh (Change x) b f = passes (changed-fresh x (b .core) f)
@@ -51,6 +59,7 @@ perform-fresh Complete b f = passes f
 perform-fresh Clear b f = passes f
 perform-fresh (Query q) b f = hold-bind Fresh FreshBox _ _ (reply-fresh _ _ (query-fresh q (b .core) f)) (λ c g. passes g)
 perform-fresh (Inquire q) b f = hold-bind Fresh FreshBox _ _ (reply-fresh _ _ f) (λ c g. passes g)
+perform-fresh (Saving x p) b f = hold-bind Fresh FreshBox _ _ (setup-fresh x p (b .core) f) (λ c g. passes g)
 
 newline-fresh : (b : Box) → FreshBox (endLine b)
 unfolding interrupted
@@ -60,4 +69,4 @@ newline-fresh b =
 
 pub lines-begin : LinesBegin
 unfolding powerUp
-lines-begin = ((refl, refl), λ es. subst FreshBox (sym (newline-after powerUp es)) (newline-fresh (after powerUp es)))
+lines-begin m = ((refl, refl), λ es. subst FreshBox (sym (newline-after (powerUp m) es)) (newline-fresh (after (powerUp m) es)))

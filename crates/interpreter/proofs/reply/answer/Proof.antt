@@ -21,7 +21,7 @@ returns : tie.Need-returns
 returns c =
     let g = c .before .before .before in
     let s = entry g in
-    told-refused (s .args .deed) (s .args .present) (s .pre .0) (s .pre .1) (g .before .before .of-deed .ensures) (g .append .ensures) (omega arith)
+    told-refused (s .args .deed) (s .args .present) (s .pre .0) (s .pre .1) (s .pre .2) (g .before .before .of-deed .ensures) (g .append .ensures) (omega arith)
 
 same-length-2 : tie.Need-same-length-2
 same-length-2 c = c .before .before .before .append .kept .1 .0
@@ -30,7 +30,7 @@ returns-2 : tie.Need-returns-2
 returns-2 c =
     let g = c .before .before .before in
     let s = entry g in
-    told-until (s .args .deed) (s .args .present) (s .pre .0) (s .pre .1) (g .before .before .of-deed .ensures) (g .append .ensures) (omega arith)
+    told-until (s .args .deed) (s .args .present) (s .pre .0) (s .pre .1) (s .pre .2) (g .before .before .of-deed .ensures) (g .append .ensures) (omega arith)
 
 pub answer-spec : {M : Type 1} → statement M
 answer-spec =

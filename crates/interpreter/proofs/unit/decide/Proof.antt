@@ -15,7 +15,7 @@ use Rattle.interpreter.specs.declared.deed.Role.the-variants.{Setting}
 use Rattle.interpreter.specs.declared.parameter.Decision.{Decision}
 use Rattle.interpreter.specs.declared.parameter.Decision.the-variants.{Obey}
 use Rattle.interpreter.proofs.parameter.Cuts.{parts-are}
-use Rattle.interpreter.proofs.parameter.Decisions.{register-is}
+use Rattle.interpreter.proofs.parameter.Decisions.{register-is, saving-is}
 use Rattle.interpreter.proofs.parameter.ByKind.{too-few, enough, greatest-one}
 use Rattle.interpreter.proofs.unit.Found.{setting-known}
 use Rattle.interpreter.proofs.unit.Laws.{checked, has-empty, not-found, found}
@@ -178,6 +178,23 @@ returns-7 : tie.Need-returns-7
 unfolding deedOf
 returns-7 c = passes (c .before .before .before) _ (c .before .role2 .given .1) (Obey (c .before .role2 .given .0 .0)) refl
 
+enum-known-role-3 : tie.Need-enum-known-role-3
+enum-known-role-3 c = c .match .keys4
+
+decide-place-requires : tie.Need-decide-place-requires
+decide-place-requires c κs = entry (role-at (c .before .before .before)) .pre .0
+
+returns-8 : tie.Need-returns-8
+returns-8 c =
+    let e = c .before .before .before .before in
+    let p = role-at e in
+    let a = entry p .args in
+    let role = c .before .before .role3 .given in
+    let few = subst (λ (r : Role). least r (a .heading .asked) ≤ parts-of p) (role .1) (least-let e) in
+    let most = subst (λ (r : Role). parts-of p ≤ greatest r (a .heading .asked)) (role .1) (most-let (e .before .before)) in
+    passes e _ (role .1) (c .decide-place .result)
+    (c .decide-place .ensures ∙ saving-is (a .settings) (role .0 .0) (a .heading .asked) (a .text .now) (omega (arith, few, many e)) (omega (arith, most, many e)))
+
 pub decide-spec : {M : Type 1} → statement M
 decide-spec =
     tie.close
@@ -196,4 +213,7 @@ decide-spec =
     decide-register-requires
     returns-6
     enum-known-role-2
-    returns-7)
+    returns-7
+    enum-known-role-3
+    decide-place-requires
+    returns-8)

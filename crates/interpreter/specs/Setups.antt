@@ -1,0 +1,47 @@
+-- 02, #108, as laws of what *SAV and *RCL do: what is saved is recalled, "Any single altered byte in a block is noticed", "*SAV touches only its own
+-- block". The store persists between events, over a power-up too (Events.happens).
+use mathlib.Core.Path.{_≡_}
+use mathlib.Core.Bool.{true}
+use Prim.Native.Nat.{ℕ, _+_, _*_, _≤_, _<_}
+use lib.ListN.{length, getD, replicate}
+use Rattle.registers.specs.Check.{refused, passed}
+use Rattle.registers.specs.Settings.{count, possibleSettings}
+use Rattle.registers.specs.Setup.{places, blockSize, checks, blockAt}
+use Rattle.interpreter.specs.Box.{rightSize, alteredIn, Core, withSettings, withMemory}
+use Rattle.interpreter.specs.Perform.{setUp}
+use Rattle.interpreter.specs.declared.deed.Saving.the-variants.{Save, Recall}
+
+-- what *SAV saves in a place *RCL recalls from it, whatever has become of the other blocks and of the box meanwhile
+abbrev pub SavedIsRecalled : Type 0
+SavedIsRecalled =
+    (p : ℕ) (c d e : Core) → p < places → rightSize (c .memory) ≡ true
+    → possibleSettings (c .settings) ≡ true → length (c .settings .values) ≡ count
+    → setUp Save p c ≡ passed d → blockAt p (e .memory .store) ≡ blockAt p (d .memory .store)
+    → setUp Recall p e ≡ passed (withSettings (c .settings) e)
+
+-- "*RCL of a block .. that is all zero .. raises -314"
+abbrev pub ZerosAreRefused : Type 0
+ZerosAreRefused = (p : ℕ) (c : Core) → blockAt p (c .memory .store) ≡ replicate blockSize 0 → setUp Recall p c ≡ refused 314
+
+-- a block whose check holds, with another byte at one place, is not recalled
+abbrev pub AlteredIsNoticed : Type 0
+AlteredIsNoticed =
+    (p i x : ℕ) (c : Core) → i < blockSize → (x ≡ getD (blockAt p (c .memory .store)) i 0 → ⊥)
+    → checks (blockAt p (c .memory .store)) ≡ true
+    → setUp Recall p (withMemory (alteredIn (blockSize * p + i) x (c .memory)) c) ≡ refused 314
+
+-- what *SAV leaves: every byte of the other blocks, and all else of the box
+pub record OnlyItsBlock (p : ℕ) (c d : Core) : Type 0 where
+  pub size : rightSize (d .memory) ≡ true
+  pub before : (j : ℕ) → j < blockSize * p → getD (d .memory .store) j 0 ≡ getD (c .memory .store) j 0
+  pub after : (j : ℕ) → blockSize * p + blockSize ≤ j → getD (d .memory .store) j 0 ≡ getD (c .memory .store) j 0
+  pub rest : d ≡ withMemory (d .memory) c
+
+abbrev pub SavesOnlyItsBlock : Type 0
+SavesOnlyItsBlock = (p : ℕ) (c d : Core) → p < places → rightSize (c .memory) ≡ true → setUp Save p c ≡ passed d → OnlyItsBlock p c d
+
+pub record Setups : Type 0 where
+  pub recalled : SavedIsRecalled
+  pub zeros : ZerosAreRefused
+  pub noticed : AlteredIsNoticed
+  pub only : SavesOnlyItsBlock
