@@ -1,18 +1,19 @@
 // Plays the events of a script, each on a state, and writes the report that answers it, without its
 // newline.
-use crate::field;
 use crate::report;
 use crate::script;
-use bytes::scan;
+use interpreter::state::STORE;
 use interpreter::state::State;
 use registers::group::Group;
 use registers::settings::Settings;
 use registers::status::RegisterSet;
 use registers::status::Status;
 
-// The state after an event, and the report's length: 0 where the line can't be read.
+// What a line leaves: the state, the length of the store that the next event is lent, and the
+// report's length, 0 where the line can't be read.
 pub(crate) struct Played {
     pub(crate) state: State,
+    pub(crate) lent: usize,
     pub(crate) length: usize,
 }
 
@@ -25,16 +26,24 @@ const UNTOUCHED: u8 = 0xAA;
 // The room for a piece: half of that for a line, since two hex digits spell a byte.
 const PIECE: usize = 65536;
 
-// Leaves the state as it is where a line can't be read, and reports nothing.
-pub(crate) fn unreadable(state: State) -> Played {
-    Played { state, length: 0 }
+// Leaves all as it is where a line can't be read, and reports nothing.
+pub(crate) fn unreadable(state: State, lent: usize) -> Played {
+    Played {
+        state,
+        lent,
+        length: 0,
+    }
 }
 
-// Plays a power-up, whatever the state was.
-fn power_up(out: &mut [u8]) -> Played {
+// Plays a power-up, whatever the state was. It is lent no store, so the next event still is.
+pub(crate) fn power_up(lent: usize, out: &mut [u8]) -> Played {
     let length = report::put(out, 0, b'u');
     let state = State::power_up();
-    Played { state, length }
+    Played {
+        state,
+        lent,
+        length,
+    }
 }
 
 // Plays a piece, and reports how many newlines it had.
@@ -46,6 +55,7 @@ fn receive(state: State, store: &mut [u8], piece: &[u8], out: &mut [u8]) -> Play
     let after = fed.state;
     Played {
         state: after,
+        lent: STORE,
         length,
     }
 }
@@ -55,7 +65,7 @@ fn receive_hex(state: State, store: &mut [u8], text: &[u8], out: &mut [u8]) -> P
     let mut bytes = [0u8; PIECE];
     let n = script::unhex(text, &mut bytes);
     if PIECE < n {
-        return unreadable(state);
+        return unreadable(state, store.len());
     }
     receive(state, store, &bytes[0..n], out)
 }
@@ -70,6 +80,7 @@ fn take_into(state: State, store: &[u8], buffer: &mut [u8], out: &mut [u8]) -> P
     let after = taken.state;
     Played {
         state: after,
+        lent: STORE,
         length,
     }
 }
@@ -78,7 +89,7 @@ fn take_into(state: State, store: &[u8], buffer: &mut [u8], out: &mut [u8]) -> P
 fn take(state: State, store: &[u8], text: &[u8], out: &mut [u8]) -> Played {
     let n = script::decimal(text);
     if (BUFFER as u64) < n {
-        return unreadable(state);
+        return unreadable(state, store.len());
     }
     let mut buffer = [UNTOUCHED; BUFFER];
     let end = n as usize;
@@ -98,7 +109,7 @@ fn letter_of(set: RegisterSet) -> u8 {
 fn condition(state: State, store: &[u8], set: RegisterSet, text: &[u8], out: &mut [u8]) -> Played {
     let value = script::decimal(text);
     if script::WIDEST < value {
-        return unreadable(state);
+        return unreadable(state, store.len());
     }
     let reported = state.condition(store, set, value as u16);
     let outcome = reported.outcome;
@@ -106,6 +117,7 @@ fn condition(state: State, store: &[u8], set: RegisterSet, text: &[u8], out: &mu
     let after = reported.state;
     Played {
         state: after,
+        lent: STORE,
         length,
     }
 }
@@ -116,7 +128,31 @@ fn look(state: State, store: &[u8], out: &mut [u8]) -> Played {
     let outcome = seen.outcome;
     let number = report::outcome(out, b'l', outcome);
     let length = report::number(out, number, seen.byte as u64);
-    Played { state, length }
+    Played {
+        state,
+        lent: STORE,
+        length,
+    }
+}
+
+// Plays an event that is lent a store, by its letter and the text that follows. After it the next one
+// is lent the whole store; a line that can't be read leaves the present length.
+pub(crate) fn happen(
+    state: State,
+    store: &mut [u8],
+    letter: u8,
+    text: &[u8],
+    out: &mut [u8],
+) -> Played {
+    match letter {
+        b'p' => receive_hex(state, store, text, out),
+        b't' => take(state, store, text, out),
+        b'c' => condition(state, store, RegisterSet::Operation, text, out),
+        b'k' => condition(state, store, RegisterSet::Lock, text, out),
+        b'w' => condition(state, store, RegisterSet::Warning, text, out),
+        b'l' => look(state, store, out),
+        _ => unreadable(state, store.len()),
+    }
 }
 
 // Writes the five registers of a set.
@@ -169,71 +205,16 @@ fn show_rest(state: State, from: usize, out: &mut [u8]) -> usize {
 }
 
 // Reports the state, in the order that the head of main.rt gives.
-fn show(state: State, out: &mut [u8]) -> Played {
+pub(crate) fn show(state: State, lent: usize, out: &mut [u8]) -> Played {
     let letter = report::put(out, 0, b's');
     let values = show_settings(state.settings, letter, out);
     let registers = show_registers(state.status, values, out);
     let queue = show_queue(state.status, registers, out);
     let line = show_line(state, queue, out);
     let length = show_rest(state, line, out);
-    Played { state, length }
-}
-
-// Plays an overwriting: a blank parts the field's name from its value.
-fn overwrite(state: State, text: &[u8], out: &mut [u8]) -> Played {
-    let end = scan::find(text, 0, text.len(), b' ');
-    if end == text.len() {
-        return unreadable(state);
+    Played {
+        state,
+        lent,
+        length,
     }
-    let overwritten = field::overwrite(state, &text[0..end], &text[end + 1..]);
-    let after = overwritten.state;
-    let readable = overwritten.readable;
-    if readable {
-        let length = report::put(out, 0, b'x');
-        return Played {
-            state: after,
-            length,
-        };
-    }
-    unreadable(after)
-}
-
-// Plays a line of one letter; `p` alone is an empty piece.
-fn play_letter(state: State, store: &mut [u8], letter: u8, out: &mut [u8]) -> Played {
-    match letter {
-        b'u' => power_up(out),
-        b'p' => receive_hex(state, store, &[], out),
-        b'l' => look(state, store, out),
-        b's' => show(state, out),
-        _ => unreadable(state),
-    }
-}
-
-// Plays a letter that a text follows.
-fn play_text(state: State, store: &mut [u8], letter: u8, text: &[u8], out: &mut [u8]) -> Played {
-    match letter {
-        b'p' => receive_hex(state, store, text, out),
-        b't' => take(state, store, text, out),
-        b'c' => condition(state, store, RegisterSet::Operation, text, out),
-        b'k' => condition(state, store, RegisterSet::Lock, text, out),
-        b'w' => condition(state, store, RegisterSet::Warning, text, out),
-        b'x' => overwrite(state, text, out),
-        _ => unreadable(state),
-    }
-}
-
-// Plays the event that a line names by its letter; a blank parts the letter from what follows.
-pub(crate) fn play(state: State, store: &mut [u8], text: &[u8], out: &mut [u8]) -> Played {
-    if text.len() == 0 {
-        return unreadable(state);
-    }
-    let letter = text[0];
-    if text.len() == 1 {
-        return play_letter(state, store, letter, out);
-    }
-    let blank = text[1];
-    if blank != b' ' {
-        return unreadable(state);
-    }
-    play_text(state, store, letter, &text[2..], out)
 }

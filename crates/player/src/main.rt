@@ -12,6 +12,13 @@
 //                                                                EVENT ENABLE PTR NTR QUEUE
 //                                                                OVERLONG LINE ANSWER LOCK WARNING
 //     x FIELD VALUE   a number of the raw record overwritten   x
+//     S 5119          the next event is lent a store of so     S
+//                     many bytes (0 to 8192)
+//     b P O V         V (to 255) added, modulo 256, to byte O  b
+//                     (to 511) of the store's block P
+//     z P             block P (0 to 9) becomes zeros           z
+//     m P Q           block P is copied onto block Q           m
+//     r               the store's good blocks                  r DIGITS
 //
 // NUMBER is 0 or the refusal's in 01's table; COUNT that of the piece's newlines; LENGTH the
 // answer's, also where the buffer is too short for it. Every byte of take's buffer is AA before.
@@ -26,6 +33,12 @@
 // `answer`. VALUE is decimal, of a setting also with a minus: 32 bits signed for a setting, else 0 to
 // 65535.
 //
+// The store of saved setups starts as zeros and outlives a power-up. DIGITS are ten, one for each
+// block: 1 where *RCL would find it good. Every event but a power-up is lent the store. After `S` the
+// next of them, whether refused or not, is lent the store's first bytes, or the store and zeros after
+// it; the last `S` before it counts. All other lines leave the mark, and those that name the store
+// mean the whole of it.
+//
 // A line that can't be read is answered by `?` and its number, from 1, and passed over. One blank
 // parts the fields; a piece may be empty; hex digits may be small letters; a line has at most
 // 131,072 bytes before its newline, and the last may lack the newline.
@@ -34,8 +47,10 @@
 // held to the twin's, on the stored script (tests/make-player-script) and on random ones.
 mod event;
 mod field;
+mod play;
 mod report;
 mod script;
+mod store;
 
 use interpreter::state::STORE;
 use interpreter::state::State;
@@ -44,9 +59,10 @@ use interpreter::state::State;
 // and answer are full and that of take's longest buffer, each of 16,384 hex digits and some more.
 const ROOM: usize = 131072;
 
-// The box, and how far the script was read.
+// The box, the length of the store that the next event is lent, and how far the script was read.
 struct Player {
     state: State,
+    lent: usize,
     // The bytes that are held of the present line, and whether more came than there is room for.
     filled: usize,
     overlong: bool,
@@ -69,19 +85,24 @@ fn write_front(out: &[u8], length: usize) -> bool {
 
 // Plays the event of the line that is held. One that was too long can't be read, like one without a
 // letter; the second test only tells the prover that the line has so many bytes.
-fn play_line(player: Player, store: &mut [u8], line: &[u8], out: &mut [u8]) -> event::Played {
+fn play_line(
+    player: Player,
+    store: &mut [u8; STORE],
+    line: &[u8],
+    out: &mut [u8],
+) -> event::Played {
     if player.overlong {
-        return event::unreadable(player.state);
+        return event::unreadable(player.state, player.lent);
     }
     let end = player.filled;
     if line.len() < end {
-        return event::unreadable(player.state);
+        return event::unreadable(player.state, player.lent);
     }
-    event::play(player.state, store, &line[0..end], out)
+    play::play(player.state, player.lent, store, &line[0..end], out)
 }
 
 // Plays and answers the line that has ended, and makes room for the next.
-fn end_line(player: Player, store: &mut [u8], line: &[u8], out: &mut [u8]) -> Player {
+fn end_line(player: Player, store: &mut [u8; STORE], line: &[u8], out: &mut [u8]) -> Player {
     let lines = next(player.lines);
     let played = play_line(player, store, line, out);
     let length = report::ended(out, played.length, lines);
@@ -89,6 +110,7 @@ fn end_line(player: Player, store: &mut [u8], line: &[u8], out: &mut [u8]) -> Pl
     let after = played.state;
     Player {
         state: after,
+        lent: played.lent,
         filled: 0,
         overlong: false,
         lines,
@@ -99,7 +121,7 @@ fn end_line(player: Player, store: &mut [u8], line: &[u8], out: &mut [u8]) -> Pl
 // Takes in bytes of the script: a newline ends a line, and bytes past a line's room are dropped.
 fn play_bytes(
     start: Player,
-    store: &mut [u8],
+    store: &mut [u8; STORE],
     line: &mut [u8],
     out: &mut [u8],
     bytes: &[u8],
@@ -128,7 +150,7 @@ fn play_bytes(
 // closed.
 fn play_some(
     mut player: Player,
-    store: &mut [u8],
+    store: &mut [u8; STORE],
     chunk: &mut [u8],
     line: &mut [u8],
     out: &mut [u8],
@@ -146,7 +168,7 @@ fn play_some(
 // number that no run uses up.
 fn play_all(
     start: Player,
-    store: &mut [u8],
+    store: &mut [u8; STORE],
     chunk: &mut [u8],
     line: &mut [u8],
     out: &mut [u8],
@@ -173,6 +195,7 @@ fn main() {
     let state = State::power_up();
     let start = Player {
         state,
+        lent: STORE,
         filled: 0,
         overlong: false,
         lines: 0,

@@ -1,4 +1,4 @@
--- The loop over the reads. Invariant: the store and the three buffers keep their lengths. Measure: the turns left.
+-- The loop over the reads. Invariant: the three buffers keep their lengths. Measure: the turns left.
 use mathlib.Core.Path.{_≡_}
 use lib.ListN.{length}
 use borrow.Author.Needs.{needs}
@@ -7,7 +7,7 @@ use Rattle.player.proofs.play_all.Tie as tie
 
 abbrev Inv-loop : tie.InvT-loop
 Inv-loop store₀ chunk₀ line₀ out₀ player₀ turns₀ store chunk line out player turns =
-    (length store ≡ length store₀) × (length chunk ≡ length chunk₀) × (length line ≡ length line₀) × (length out ≡ length out₀)
+    (length chunk ≡ length chunk₀) × (length line ≡ length line₀) × (length out ≡ length out₀)
 
 abbrev μ-loop : tie.MeasureT-loop
 μ-loop store₀ chunk₀ line₀ out₀ player₀ turns₀ store chunk line out player turns = turns
@@ -21,4 +21,4 @@ play-all-spec =
     (λ c. search needs) (λ c. search needs) (λ c κs. search needs) (λ c. search needs)
     (λ c. search needs) (λ c. search needs) (λ c. search needs) (λ c. search needs)
     (λ c. search needs) (λ c. search needs) (λ c. search needs) (λ c. search needs)
-    (λ c. search needs) (λ c. search needs) (λ c. search needs))
+    (λ c. search needs))
