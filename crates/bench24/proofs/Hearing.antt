@@ -1,10 +1,12 @@
 -- What was read is heard part by part, and what one read after another gave is heard as one. What was heard since power-up is a history.
-use mathlib.Core.Path.{_≡_, refl, _∙_}
+use mathlib.Core.Path.{_≡_, refl, sym, _∙_, subst}
 use mathlib.Core.Bool.{Bool, true, false, false≢true}
 use mathlib.Core.List.{[], _++_}
 use Prim.Native.Nat.{ℕ, _+_, _-_, _≤_, _<_, zero-le}
 use native.Mathlib.Omega.{arith}
 use lib.ListN.{length, take, drop, length-drop}
+use lib.IntN.{ℤ}
+use Rattle.io.specs.Counts.{clamped}
 use Rattle.registers.specs.Text.{Text}
 use Rattle.registers.specs.Settings.{count}
 use Rattle.interpreter.specs.Box.{powerUp, mostAnswer}
@@ -17,7 +19,7 @@ use Rattle.interpreter.proofs.Possible.{power-up-fit}
 use Rattle.interpreter.proofs.server.Bytes.{lines-whole, whole-further}
 use Rattle.interpreter.proofs.server.Headway.{reads-within, reads-some}
 use Rattle.interpreter.proofs.server.Heard.{left-long, part-heard, heard-append, heard-on, heard-history}
-use Rattle.bench24.specs.Heard.{HeardPart, HeardSince}
+use Rattle.bench24.specs.Heard.{HeardPart, HeardRead, HeardSince}
 use Rattle.bench24.specs.declared.Bench.{Bench}
 
 -- ---- what was read: a part of it is served, then the rest
@@ -98,6 +100,24 @@ module _ (start state : State) (room at : ℕ) (input output : Text) (g : Hearin
         all = λ _. omega arith;
       }
 
+-- ---- what a read put into the buffer
+
+-- nothing
+pub none-heard : (start : State) (buffer : Text) (got : ℤ) → possibleState start ≡ true → clamped got (length buffer) ≡ 0
+    → HeardRead start buffer got (record { state = start; serving = false })
+unfolding linesOf heard
+none-heard start buffer got p e =
+    let r : Bench = record { state = start; serving = false } in
+    let none : HeardPart start (take 0 buffer) r =
+    record { possible = p; bytes = 0; within = zero-le; whole = refl; box = refl; some = λ h. h; all = λ h. absurd (false≢true h) } in
+    record { part = subst (λ (n : ℕ). HeardPart start (take n buffer) r) (sym e) none; ended = λ _. refl }
+
+pub some-heard : (start : State) (buffer : Text) (got : ℤ) (n : ℕ) (r : Bench) → n ≡ clamped got (length buffer) → (n ≡ 0 → ⊥)
+    → HeardPart start (take (n - 0) (drop 0 buffer)) r → HeardRead start buffer got r
+some-heard start buffer got n r e some w =
+    let same : n - 0 ≡ n = omega arith in
+    record { part = subst (λ (k : ℕ). HeardPart start (take k buffer) r) (same ∙ e) w; ended = λ z. absurd (some (e ∙ z)) }
+
 -- ---- reads one after the other
 
 pub since-begun : (s : State) → Started s → HeardSince s
@@ -108,9 +128,10 @@ quiet-start : powerUp .core .answer ≡ []
 unfolding powerUp
 quiet-start = refl
 
-pub since-on : (s : State) (input : Text) (r : Bench) → HeardSince s → HeardPart s input r → HeardSince (r .state)
-since-on s input r h w =
-    let more = take (w .bytes) input in
+pub since-on : (s : State) (buffer : Text) (got : ℤ) (r : Bench) → HeardSince s → HeardRead s buffer got r → HeardSince (r .state)
+since-on s buffer got r h read =
+    let w = read .part in
+    let more = take (w .bytes) (take (clamped got (length buffer)) buffer) in
     record {
       possible = w .possible;
       bytes = h .bytes ++ more;

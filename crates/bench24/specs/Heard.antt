@@ -1,9 +1,11 @@
 -- "A program over it reads lines from standard input and writes each answer": what the program has heard of one read, and since power-up.
 -- No contract can say which bytes the system read or wrote: the kit's read promises nothing of the bytes, its write nothing of its answer.
 use mathlib.Core.Path.{_≡_}
-use mathlib.Core.Bool.{true}
+use mathlib.Core.Bool.{true, false}
 use Prim.Native.Nat.{ℕ, _≤_, _<_}
 use lib.ListN.{length, take}
+use lib.IntN.{ℤ}
+use Rattle.io.specs.Counts.{clamped}
 use Rattle.registers.specs.Text.{Text}
 use Rattle.interpreter.specs.Box.{powerUp}
 use Rattle.interpreter.specs.State.{boxOf, possibleState}
@@ -21,6 +23,11 @@ pub record HeardPart (start : State) (input : Text) (r : Bench) : Type 0 where
   pub box : boxOf (r .state) ≡ heard (boxOf start) (linesOf (take bytes input))
   pub some : 0 < length input → 0 < bytes
   pub all : r .serving ≡ true → bytes ≡ length input
+
+-- that is so of all bytes that a read put into the buffer, as many as it answered. Where there are none the bench is closed
+pub record HeardRead (start : State) (buffer : Text) (got : ℤ) (r : Bench) : Type 0 where
+  pub part : HeardPart start (take (clamped got (length buffer)) buffer) r
+  pub ended : clamped got (length buffer) ≡ 0 → r .serving ≡ false
 
 -- since power-up the lines of some bytes were heard, however reads cut them
 pub record HeardSince (r : State) : Type 0 where

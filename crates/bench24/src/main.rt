@@ -6,12 +6,13 @@
 // What was read is served at once, so a pipe that waits for an answer gets it, and a long file goes
 // through 64 KB at a time. The first write that fails ends the run.
 //
-// The contracts say that nothing goes wrong and that every run ends; that of what was read a first part
-// was heard, in whole lines, never an empty one, and all of it where the bench still serves; and that
-// what was heard since power-up are the lines of some bytes, each once and in order. No contract can
-// say which bytes the system read or wrote. That what was served is written, and that only the input's
-// end or a failed write ends the run, is to be read below: the kit's write promises nothing of its
-// answer, and its read nothing of the bytes.
+// The contracts say that nothing goes wrong and that every run ends; that of all the bytes that a read
+// put into the buffer a first part was heard, in whole lines, never an empty one, and all of them where
+// the bench still serves; and that what was heard since power-up are the lines of some bytes, each once
+// and in order. No contract can say which bytes the system read or wrote: the kit's write promises
+// nothing of its answer, and its read nothing of the bytes. So what is not proved is kept to two lines
+// below: that `run` serves what it has just read, and that what was served is written to standard output
+// and only a write that fails closes the bench. The stored run holds them to the twin's answers.
 use interpreter::server;
 use interpreter::state::State;
 ghost use mathlib.Core.Path.{_≡_};
@@ -20,7 +21,7 @@ ghost use Prim.Native.Nat.{_≤_};
 ghost use lib.ListN.{length};
 ghost use Rattle.interpreter.specs.Box.{mostAnswer};
 ghost use Rattle.interpreter.specs.State.{possibleState};
-ghost use Rattle.bench24.specs.Heard.{HeardPart, HeardSince};
+ghost use Rattle.bench24.specs.Heard.{HeardPart, HeardRead, HeardSince};
 
 // The box after what was heard, and whether it still serves.
 struct Bench {
@@ -53,8 +54,24 @@ fn serve_all(start: State, input: &[u8], output: &mut [u8]) -> Bench
     }
 }
 
-// Serves from power-up until the input ends, or can't be read, or the bench is closed. A proved loop has
-// to end, so it counts its turns down, from a number that no run uses up.
+// Serves what a read left in the buffer, as many bytes as it answered. At the input's end, or where it
+// can't be read, that is nothing, and the bench is closed.
+fn serve_read(start: State, input: &[u8], got: isize, output: &mut [u8]) -> Bench
+    requires { ⌜ (possibleState start ≡ true) × (mostAnswer ≤ length (now output)) ⌝ }
+    ensures { λ r. ⌜ HeardRead start (now (input .entry)) got r ⌝ }
+{
+    let n = io::count(got, input);
+    if n == 0 {
+        return Bench {
+            state: start,
+            serving: false,
+        };
+    }
+    serve_all(start, &input[0..n], output)
+}
+
+// Serves from power-up until the bench is closed. A proved loop has to end, so it counts its turns down,
+// from a number that no run uses up.
 fn run(input: &mut [u8], output: &mut [u8]) -> State
     requires { ⌜ mostAnswer ≤ length (now output) ⌝ }
     ensures { λ r. ⌜ HeardSince r ⌝ }
@@ -64,11 +81,7 @@ fn run(input: &mut [u8], output: &mut [u8]) -> State
     while turns > 0 {
         turns -= 1;
         let got = libc::read(libc::STDIN_FILENO, input);
-        let n = io::count(got, input);
-        if n == 0 {
-            return state;
-        }
-        let bench = serve_all(state, &input[0..n], output);
+        let bench = serve_read(state, input, got, output);
         state = bench.state;
         if !bench.serving {
             return state;

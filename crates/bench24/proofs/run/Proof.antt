@@ -16,54 +16,52 @@ abbrev μ-loop : tie.MeasureT-loop
 μ-loop input₀ output₀ state₀ turns₀ input output state turns = turns
 
 -- where the loop stands, and the read, as what was read was served
-abbrev loop-at : tie.After-serve-all Inv-loop μ-loop → tie.At-loop Inv-loop μ-loop
-loop-at v = v .before .before .before .before .before .before .before .before .before .before .before .before
+abbrev loop-at : tie.After-serve-read Inv-loop μ-loop → tie.At-loop Inv-loop μ-loop
+loop-at v = v .before .before .before .before .before .before .before .before
 
-abbrev read-at : tie.After-serve-all Inv-loop μ-loop → tie.After-read Inv-loop μ-loop
-read-at v = v .before .before .before .before .before .before .before .before .before
+abbrev read-at : tie.After-serve-read Inv-loop μ-loop → tie.After-read Inv-loop μ-loop
+read-at v = v .before .before .before .before .before
 
 loop-holds : tie.Need-loop-holds Inv-loop μ-loop
 loop-holds c = (refl, refl, since-begun _ (c .power-up .ensures))
 
-returns : tie.Need-returns Inv-loop μ-loop
-returns c = c .before .before .before .before .before .before .before .before .loop .inv .2
-
-serve-all-requires : tie.Need-serve-all-requires Inv-loop μ-loop
-serve-all-requires c κs =
-    let g = c .before .before .before .before .before .before .before .before .before .before .before .loop .inv in
+serve-read-requires : tie.Need-serve-read-requires Inv-loop μ-loop
+serve-read-requires c κs =
+    let l = c .before .before .before .before .before .before .before in
+    let g = l .loop .inv in
     let same = g .1 in
-    let room = c .before .before .before .before .before .before .before .before .before .before .before .before .before .before .before .pre in
+    let room = l .before .before .before .before .pre in
     (g .2 .possible, omega arith)
 
-same-length-3 : tie.Need-same-length-3 Inv-loop μ-loop
-same-length-3 c =
+same-length : tie.Need-same-length Inv-loop μ-loop
+same-length c =
     let v = c .before .before .before .before .before in
     let kept = read-at v .read .kept .1 .0 in
     let same = loop-at v .loop .inv .0 in
     omega arith
 
-same-length-4 : tie.Need-same-length-4 Inv-loop μ-loop
-same-length-4 c =
+same-length-2 : tie.Need-same-length-2 Inv-loop μ-loop
+same-length-2 c =
     let v = c .before .before .before .before .before in
-    let kept = v .serve-all .kept .1 .1 .0 in
+    let kept = v .serve-read .kept .1 .1 .1 .0 in
     let same = loop-at v .loop .inv .1 in
     omega arith
 
-returns-2 : tie.Need-returns-2 Inv-loop μ-loop
-returns-2 c = let v = c .before .before .before .before .before in since-on _ _ _ (loop-at v .loop .inv .2) (v .serve-all .ensures)
+returns : tie.Need-returns Inv-loop μ-loop
+returns c = let v = c .before .before .before .before .before in since-on _ _ _ _ (loop-at v .loop .inv .2) (v .serve-read .ensures)
 
 loop-again : tie.Need-loop-again Inv-loop μ-loop
 loop-again c =
     let v = c .before .before .before .before .before in
     let g = loop-at v .loop .inv in
     let inputs = read-at v .read .kept .1 .0 in
-    let outputs = v .serve-all .kept .1 .1 .0 in
+    let outputs = v .serve-read .kept .1 .1 .1 .0 in
     let same = g .0 in
     let room = g .1 in
-    (omega arith, omega arith, since-on _ _ _ (g .2) (v .serve-all .ensures))
+    (omega arith, omega arith, since-on _ _ _ _ (g .2) (v .serve-read .ensures))
 
-returns-3 : tie.Need-returns-3 Inv-loop μ-loop
-returns-3 c = c .before .loop .inv .2
+returns-2 : tie.Need-returns-2 Inv-loop μ-loop
+returns-2 c = c .before .loop .inv .2
 
 pub run-spec : {M : Type 1} → statement M
 run-spec =
@@ -73,14 +71,12 @@ run-spec =
     μ-loop
     (λ c κs. tt)
     loop-holds
-    (λ c. search needs) (λ c κs. tt) (λ c κs. tt) (λ c. search needs) (λ c. search needs)
+    (λ c. search needs) (λ c κs. tt)
+    serve-read-requires
+    same-length
+    same-length-2
     returns
-    (λ c. search needs) (λ c. search needs) (λ c. search needs)
-    serve-all-requires
-    same-length-3
-    same-length-4
-    returns-2
     (λ c. search needs)
     loop-again
     (λ c. search needs) (λ c. search needs)
-    returns-3)
+    returns-2)
