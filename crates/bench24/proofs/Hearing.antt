@@ -1,10 +1,12 @@
 -- What was read is heard part by part, and what one read after another gave is heard as one. What was heard since power-up is a history.
-use mathlib.Core.Path.{_≡_, refl, _∙_}
+use mathlib.Core.Path.{_≡_, refl, sym, _∙_, subst}
 use mathlib.Core.Bool.{Bool, true, false, false≢true}
 use mathlib.Core.List.{[], _++_}
 use Prim.Native.Nat.{ℕ, _+_, _-_, _≤_, _<_, zero-le}
 use native.Mathlib.Omega.{arith}
 use lib.ListN.{length, take, drop, length-drop}
+use lib.IntN.{ℤ}
+use Rattle.io.specs.Counts.{clamped}
 use Rattle.registers.specs.Text.{Text}
 use Rattle.registers.specs.Settings.{count}
 use Rattle.interpreter.specs.Box.{Memory, memory, storeSize, rightSize, powerUp, mostAnswer}
@@ -18,7 +20,7 @@ use Rattle.interpreter.proofs.state.Events.{size-right}
 use Rattle.interpreter.proofs.server.Bytes.{lines-whole, whole-further}
 use Rattle.interpreter.proofs.server.Headway.{reads-within, reads-some}
 use Rattle.interpreter.proofs.server.Heard.{left-long, part-heard, heard-append, heard-on, heard-history}
-use Rattle.bench24.specs.Heard.{HeardPart, HeardSince}
+use Rattle.bench24.specs.Heard.{HeardPart, HeardRead, HeardSince}
 use Rattle.bench24.specs.declared.Bench.{Bench}
 
 -- ---- what was read: a part of it is served, then the rest
@@ -104,6 +106,24 @@ module _ (start state : State) (store₀ : Text) (room at : ℕ) (input store ou
         all = λ _. omega arith;
       }
 
+-- ---- what a read put into the buffer
+
+-- nothing
+pub none-heard : (start : State) (m : Memory) (buffer : Text) (got : ℤ) → possibleState start ≡ true → clamped got (length buffer) ≡ 0
+    → HeardRead start m buffer got (record { state = start; serving = false }) m
+unfolding linesOf heard
+none-heard start m buffer got p e =
+    let r : Bench = record { state = start; serving = false } in
+    let none : HeardPart start m (take 0 buffer) r m =
+    record { possible = p; bytes = 0; within = zero-le; whole = refl; box = refl; some = λ h. h; all = λ h. absurd (false≢true h) } in
+    record { part = subst (λ (n : ℕ). HeardPart start m (take n buffer) r m) (sym e) none; ended = λ _. refl }
+
+pub some-heard : (start : State) (m : Memory) (buffer : Text) (got : ℤ) (n : ℕ) (r : Bench) (k : Memory) → n ≡ clamped got (length buffer) → (n ≡ 0 → ⊥)
+    → HeardPart start m (take (n - 0) (drop 0 buffer)) r k → HeardRead start m buffer got r k
+some-heard start m buffer got n r k e some w =
+    let same : n - 0 ≡ n = omega arith in
+    record { part = subst (λ (j : ℕ). HeardPart start m (take j buffer) r k) (same ∙ e) w; ended = λ z. absurd (some (e ∙ z)) }
+
 -- ---- reads one after the other
 
 pub since-begun : (m : Memory) (s : State) → Started s → HeardSince m s m
@@ -114,10 +134,11 @@ quiet-start : (m : Memory) → powerUp m .core .answer ≡ []
 unfolding powerUp
 quiet-start m = refl
 
-pub since-on : (m₀ : Memory) (s : State) (m : Memory) (input : Text) (r : Bench) (n : Memory) → HeardSince m₀ s m → HeardPart s m input r n
-    → HeardSince m₀ (r .state) n
-since-on m₀ s m input r n h w =
-    let more = take (w .bytes) input in
+pub since-on : (m₀ : Memory) (s : State) (m : Memory) (buffer : Text) (got : ℤ) (r : Bench) (n : Memory) → HeardSince m₀ s m
+    → HeardRead s m buffer got r n → HeardSince m₀ (r .state) n
+since-on m₀ s m buffer got r n h read =
+    let w = read .part in
+    let more = take (w .bytes) (take (clamped got (length buffer)) buffer) in
     record {
       possible = w .possible;
       bytes = h .bytes ++ more;

@@ -1,9 +1,11 @@
 -- "A program over it reads lines from standard input and writes each answer": what the program has heard of one read, and since power-up.
 -- No contract can say which bytes the system read or wrote: the kit's read promises nothing of the bytes, its write nothing of its answer.
 use mathlib.Core.Path.{_≡_}
-use mathlib.Core.Bool.{true}
+use mathlib.Core.Bool.{true, false}
 use Prim.Native.Nat.{ℕ, _≤_, _<_}
 use lib.ListN.{length, take}
+use lib.IntN.{ℤ}
+use Rattle.io.specs.Counts.{clamped}
 use Rattle.registers.specs.Text.{Text}
 use Rattle.interpreter.specs.Box.{Memory, powerUp}
 use Rattle.interpreter.specs.State.{boxOf, possibleState}
@@ -21,6 +23,11 @@ pub record HeardPart (start : State) (m : Memory) (input : Text) (r : Bench) (n 
   pub box : boxOf (r .state) n ≡ heard (boxOf start m) (linesOf (take bytes input))
   pub some : 0 < length input → 0 < bytes
   pub all : r .serving ≡ true → bytes ≡ length input
+
+-- that is so of all bytes that a read put into the buffer, as many as it answered. Where there are none the bench is closed
+pub record HeardRead (start : State) (m : Memory) (buffer : Text) (got : ℤ) (r : Bench) (n : Memory) : Type 0 where
+  pub part : HeardPart start m (take (clamped got (length buffer)) buffer) r n
+  pub ended : clamped got (length buffer) ≡ 0 → r .serving ≡ false
 
 -- since power-up, with the memory m there, the lines of some bytes were heard, however reads cut them
 pub record HeardSince (m : Memory) (r : State) (n : Memory) : Type 0 where

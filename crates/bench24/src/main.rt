@@ -6,12 +6,13 @@
 // What was read is served at once, so a pipe that waits for an answer gets it, and a long file goes
 // through 64 KB at a time. The first write that fails ends the run.
 //
-// The contracts say that nothing goes wrong and that every run ends; that of what was read a first part
-// was heard, in whole lines, never an empty one, and all of it where the bench still serves; and that
-// what was heard since power-up are the lines of some bytes, each once and in order. No contract can
-// say which bytes the system read or wrote. That what was served is written, and that only the input's
-// end or a failed write ends the run, is to be read below: the kit's write promises nothing of its
-// answer, and its read nothing of the bytes.
+// The contracts say that nothing goes wrong and that every run ends; that of all the bytes that a read
+// put into the buffer a first part was heard, in whole lines, never an empty one, and all of them where
+// the bench still serves; and that what was heard since power-up are the lines of some bytes, each once
+// and in order. No contract can say which bytes the system read or wrote: the kit's write promises
+// nothing of its answer, and its read nothing of the bytes. So what is not proved is kept to two lines
+// below: that `run` serves what it has just read, and that what was served is written to standard output
+// and only a write that fails closes the bench. The stored run holds them to the twin's answers.
 use interpreter::server;
 use interpreter::state::STORE;
 use interpreter::state::State;
@@ -21,7 +22,7 @@ ghost use Prim.Native.Nat.{_≤_};
 ghost use lib.ListN.{length};
 ghost use Rattle.interpreter.specs.Box.{mostAnswer, storeSize, memory};
 ghost use Rattle.interpreter.specs.State.{possibleState};
-ghost use Rattle.bench24.specs.Heard.{HeardPart, HeardSince};
+ghost use Rattle.bench24.specs.Heard.{HeardPart, HeardRead, HeardSince};
 
 // The box after what was heard, and whether it still serves.
 struct Bench {
@@ -54,8 +55,24 @@ fn serve_all(start: State, store: &mut [u8], input: &[u8], output: &mut [u8]) ->
     }
 }
 
-// Serves from power-up until the input ends, or can't be read, or the bench is closed. A proved loop has
-// to end, so it counts its turns down, from a number that no run uses up.
+// Serves what a read left in the buffer, as many bytes as it answered. At the input's end, or where it
+// can't be read, that is nothing, and the bench is closed.
+fn serve_read(start: State, store: &mut [u8], input: &[u8], got: isize, output: &mut [u8]) -> Bench
+    requires { ⌜ (possibleState start ≡ true) × (length (now store) ≡ storeSize) × (mostAnswer ≤ length (now output)) ⌝ }
+    ensures { λ r. ⌜ HeardRead start (memory (now (store .entry))) (now (input .entry)) got r (memory (now (store .exit))) ⌝ }
+{
+    let n = io::count(got, input);
+    if n == 0 {
+        return Bench {
+            state: start,
+            serving: false,
+        };
+    }
+    serve_all(start, store, &input[0..n], output)
+}
+
+// Serves from power-up until the bench is closed. A proved loop has to end, so it counts its turns down,
+// from a number that no run uses up.
 fn run(store: &mut [u8], input: &mut [u8], output: &mut [u8]) -> State
     requires { ⌜ (length (now store) ≡ storeSize) × (mostAnswer ≤ length (now output)) ⌝ }
     ensures { λ r. ⌜ HeardSince (memory (now (store .entry))) r (memory (now (store .exit))) ⌝ }
@@ -65,11 +82,7 @@ fn run(store: &mut [u8], input: &mut [u8], output: &mut [u8]) -> State
     while turns > 0 {
         turns -= 1;
         let got = libc::read(libc::STDIN_FILENO, input);
-        let n = io::count(got, input);
-        if n == 0 {
-            return state;
-        }
-        let bench = serve_all(state, store, &input[0..n], output);
+        let bench = serve_read(state, store, input, got, output);
         state = bench.state;
         if !bench.serving {
             return state;

@@ -18,69 +18,64 @@ abbrev μ-loop : tie.MeasureT-loop
 μ-loop store₀ input₀ output₀ state₀ turns₀ store input output state turns = turns
 
 -- where the loop stands, and the read, as what was read was served
-abbrev loop-at : tie.After-serve-all Inv-loop μ-loop → tie.At-loop Inv-loop μ-loop
-loop-at v = v .before .before .before .before .before .before .before .before .before .before .before .before .before
+abbrev loop-at : tie.After-serve-read Inv-loop μ-loop → tie.At-loop Inv-loop μ-loop
+loop-at v = v .before .before .before .before .before .before .before .before .before
 
-abbrev read-at : tie.After-serve-all Inv-loop μ-loop → tie.After-read Inv-loop μ-loop
-read-at v = v .before .before .before .before .before .before .before .before .before .before
+abbrev read-at : tie.After-serve-read Inv-loop μ-loop → tie.After-read Inv-loop μ-loop
+read-at v = v .before .before .before .before .before .before
 
 loop-holds : tie.Need-loop-holds Inv-loop μ-loop
 loop-holds c = (refl, refl, refl, since-begun _ _ (c .power-up .ensures))
 
-returns : tie.Need-returns Inv-loop μ-loop
-returns c = c .before .before .before .before .before .before .before .before .loop .inv .3
-
-serve-all-requires : tie.Need-serve-all-requires Inv-loop μ-loop
-serve-all-requires c κs =
-    let g = c .before .before .before .before .before .before .before .before .before .before .before .before .loop .inv in
+serve-read-requires : tie.Need-serve-read-requires Inv-loop μ-loop
+serve-read-requires c κs =
+    let l = c .before .before .before .before .before .before .before .before in
+    let g = l .loop .inv in
     let stores = g .0 in
     let same = g .2 in
-    let p = c .before .before .before .before .before .before .before .before .before .before .before .before .before .before .before .before .before .pre in
+    let p = l .before .before .before .before .before .pre in
     let size = p .0 in
     let room = p .1 in
     (g .3 .possible, omega arith, omega arith)
 
-same-length-4 : tie.Need-same-length-4 Inv-loop μ-loop
-same-length-4 c =
+same-length : tie.Need-same-length Inv-loop μ-loop
+same-length c =
     let v = c .before .before .before .before .before .before .before in
-    let kept = v .serve-all .kept .1 .0 in
+    let kept = v .serve-read .kept .1 .0 in
     let same = loop-at v .loop .inv .0 in
     omega arith
 
-same-length-5 : tie.Need-same-length-5 Inv-loop μ-loop
-same-length-5 c =
+same-length-2 : tie.Need-same-length-2 Inv-loop μ-loop
+same-length-2 c =
     let v = c .before .before .before .before .before .before .before in
     let kept = read-at v .read .kept .1 .0 in
     let same = loop-at v .loop .inv .1 in
     omega arith
 
-same-length-6 : tie.Need-same-length-6 Inv-loop μ-loop
-same-length-6 c =
+same-length-3 : tie.Need-same-length-3 Inv-loop μ-loop
+same-length-3 c =
     let v = c .before .before .before .before .before .before .before in
-    let kept = v .serve-all .kept .1 .1 .1 .0 in
+    let kept = v .serve-read .kept .1 .1 .1 .1 .0 in
     let same = loop-at v .loop .inv .2 in
     omega arith
 
-returns-2 : tie.Need-returns-2 Inv-loop μ-loop
-returns-2 c = let v = c .before .before .before .before .before .before .before in since-on _ _ _ _ _ _ (loop-at v .loop .inv .3) (v .serve-all .ensures)
-
-loop-less : tie.Need-loop-less Inv-loop μ-loop
-loop-less c = let more = c .before .before .before .before .before .before .before .before .before .before .before .before .before .before .before .before .before .before .before .loop-test .taken in omega (arith, more)
+returns : tie.Need-returns Inv-loop μ-loop
+returns c = let v = c .before .before .before .before .before .before .before in since-on _ _ _ _ _ _ _ (loop-at v .loop .inv .3) (v .serve-read .ensures)
 
 loop-again : tie.Need-loop-again Inv-loop μ-loop
 loop-again c =
     let v = c .before .before .before .before .before .before .before in
     let g = loop-at v .loop .inv in
-    let stores = v .serve-all .kept .1 .0 in
+    let stores = v .serve-read .kept .1 .0 in
     let inputs = read-at v .read .kept .1 .0 in
-    let outputs = v .serve-all .kept .1 .1 .1 .0 in
+    let outputs = v .serve-read .kept .1 .1 .1 .1 .0 in
     let size = g .0 in
     let same = g .1 in
     let room = g .2 in
-    (omega arith, omega arith, omega arith, since-on _ _ _ _ _ _ (g .3) (v .serve-all .ensures))
+    (omega arith, omega arith, omega arith, since-on _ _ _ _ _ _ _ (g .3) (v .serve-read .ensures))
 
-returns-3 : tie.Need-returns-3 Inv-loop μ-loop
-returns-3 c = c .before .loop .inv .3
+returns-2 : tie.Need-returns-2 Inv-loop μ-loop
+returns-2 c = c .before .loop .inv .3
 
 pub run-spec : {M : Type 1} → statement M
 run-spec =
@@ -90,15 +85,13 @@ run-spec =
     μ-loop
     (λ c κs. tt)
     loop-holds
-    (λ c. search needs) (λ c κs. tt) (λ c κs. tt) (λ c. search needs) (λ c. search needs) (λ c. search needs)
+    (λ c. search needs) (λ c κs. tt)
+    serve-read-requires
+    same-length
+    same-length-2
+    same-length-3
     returns
-    (λ c. search needs) (λ c. search needs) (λ c. search needs)
-    serve-all-requires
-    same-length-4
-    same-length-5
-    same-length-6
-    returns-2
-    loop-less
+    (λ c. search needs)
     loop-again
     (λ c. search needs) (λ c. search needs) (λ c. search needs)
-    returns-3)
+    returns-2)
