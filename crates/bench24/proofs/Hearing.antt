@@ -11,14 +11,14 @@ use Rattle.registers.specs.Text.{Text}
 use Rattle.registers.specs.Settings.{count}
 use Rattle.interpreter.specs.Box.{powerUp, mostAnswer}
 use Rattle.interpreter.specs.State.{boxOf, possibleState, Started}
-use Rattle.interpreter.specs.Server.{linesOf, WholeLines, heard, hearing, Serves}
+use Rattle.interpreter.specs.Server.{linesOf, WholeLines, heard, answersTo, hearing, Serves}
 use Rattle.interpreter.specs.Calls.{Brings}
 use Rattle.interpreter.specs.declared.state.State.{State}
 use Rattle.interpreter.proofs.Lists.{rest-is}
 use Rattle.interpreter.proofs.Possible.{power-up-fit}
 use Rattle.interpreter.proofs.server.Bytes.{lines-whole, whole-further}
 use Rattle.interpreter.proofs.server.Headway.{reads-within, reads-some}
-use Rattle.interpreter.proofs.server.Heard.{left-long, part-heard, heard-append, heard-on, heard-history}
+use Rattle.interpreter.proofs.server.Heard.{left-long, part-heard, part-answered, heard-append, heard-on, heard-history}
 use Rattle.bench24.specs.Heard.{HeardPart, HeardRead, HeardSince}
 use Rattle.bench24.specs.declared.Bench.{Bench}
 
@@ -59,6 +59,11 @@ module _ (start state : State) (room at : ℕ) (input output : Text) (g : Hearin
 
   pub wrote-within : written ≤ length outputs′
   wrote-within = served .possible (g .possible) .2
+
+  pub wrote-answers : take (written - 0) (drop 0 outputs′) ≡ answersTo (boxOf state) (linesOf (take read (take (length input - at) (drop at input))))
+  wrote-answers =
+      let same : written - 0 ≡ written = omega arith in
+      rw same (part-answered _ _ _ _ _ _ _ _ w (g .possible) (g .long))
 
   pub hear-on : length outputs′ ≡ length output → Hearing start room input outputs′ t (at + read)
   hear-on same =

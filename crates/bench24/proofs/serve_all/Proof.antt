@@ -5,7 +5,7 @@ use native.Mathlib.Nat.{le-refl}
 use native.Mathlib.Omega.{arith}
 use lib.ListN.{length}
 use borrow.Author.Needs.{needs}
-use Rattle.bench24.proofs.Hearing.{Hearing, hear-begun, read-within, read-some, wrote-within, hear-on, hear-stop, hear-end}
+use Rattle.bench24.proofs.Hearing.{Hearing, hear-begun, read-within, read-some, wrote-within, wrote-answers, hear-on, hear-stop, hear-end}
 use Rattle.bench24.proofs.serve_all.Statement.{statement}
 use Rattle.bench24.proofs.serve_all.Tie as tie
 
@@ -22,22 +22,27 @@ loop-at v = v .before .before .before .before
 loop-holds : tie.Need-loop-holds Inv-loop μ-loop
 loop-holds c = let a = c .before .before .args in hear-begun (a .start) (a .input .now) (a .output .now) (c .before .before .pre .0) (search needs)
 
-sub-serve : tie.Need-sub-serve Inv-loop μ-loop
-sub-serve c = c .before .loop .inv .within
+sub-rest : tie.Need-sub-rest Inv-loop μ-loop
+sub-rest c = c .before .loop .inv .within
 
-part-serve-start : tie.Need-part-serve-start Inv-loop μ-loop
-part-serve-start c = c .before .loop .inv .within
+part-rest-start : tie.Need-part-rest-start Inv-loop μ-loop
+part-rest-start c = c .before .loop .inv .within
+
+part-write-answers-end : tie.Need-part-write-answers-end Inv-loop μ-loop
+part-write-answers-end c =
+    let v = c .before .before .before in
+    wrote-within _ _ _ _ _ _ (loop-at v .loop .inv) _ _ _ _ _ (v .serve .ensures)
+
+write-answers-requires : tie.Need-write-answers-requires Inv-loop μ-loop
+write-answers-requires c κs =
+    let v = c .before .before .before .before in
+    wrote-answers _ _ _ _ _ _ (loop-at v .loop .inv) _ _ _ _ _ (v .serve .ensures)
 
 add-at : tie.Need-add-at Inv-loop μ-loop
 add-at c =
-    let v = c .before .before .before .before in
+    let v = c .before .before .before .before .before .before .before in
     let w = read-within _ _ _ _ _ _ (loop-at v .loop .inv) _ _ _ _ _ (v .serve .ensures) in
     search needs
-
-part-write-all-end : tie.Need-part-write-all-end Inv-loop μ-loop
-part-write-all-end c =
-    let v = c .before .before .before .before .before in
-    wrote-within _ _ _ _ _ _ (loop-at v .loop .inv) _ _ _ _ _ (v .serve .ensures)
 
 same-length : tie.Need-same-length Inv-loop μ-loop
 same-length c =
@@ -81,13 +86,12 @@ serve-all-spec =
     Inv-loop
     μ-loop
     loop-holds
-    sub-serve
-    part-serve-start
-    (λ c. le-refl _) (λ c κs. tt)
+    sub-rest
+    part-rest-start
+    (λ c. le-refl _) (λ c κs. tt) (λ c. zero-le) (λ c. zero-le)
+    part-write-answers-end
+    write-answers-requires
     add-at
-    (λ c. zero-le) (λ c. zero-le)
-    part-write-all-end
-    (λ c κs. tt)
     same-length
     returns
     loop-less
