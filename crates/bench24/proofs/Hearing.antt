@@ -19,8 +19,8 @@ use Rattle.interpreter.proofs.Possible.{power-up-fit}
 use Rattle.interpreter.proofs.state.Events.{size-right}
 use Rattle.interpreter.proofs.server.Bytes.{lines-whole, whole-further}
 use Rattle.interpreter.proofs.server.Headway.{reads-within, reads-some}
-use Rattle.interpreter.proofs.server.Heard.{left-long, part-heard, heard-append, heard-on, heard-history}
-use Rattle.bench24.specs.Heard.{HeardPart, HeardRead, HeardSince}
+use Rattle.interpreter.proofs.server.Heard.{left-long, part-heard, part-answered, heard-append, heard-on, heard-history}
+use Rattle.bench24.specs.Heard.{Answers, HeardPart, HeardRead, HeardSince}
 use Rattle.bench24.specs.declared.Bench.{Bench}
 
 -- ---- what was read: a part of it is served, then the rest
@@ -64,6 +64,11 @@ module _ (start state : State) (store₀ : Text) (room at : ℕ) (input store ou
 
   pub wrote-within : written ≤ length outputs′
   wrote-within = served .possible right (g .possible) .2
+
+  pub wrote-answers : Answers state (take (length input - at) (drop at input)) read (take (written - 0) (drop 0 outputs′))
+  wrote-answers =
+      let same : written - 0 ≡ written = omega arith in
+      record { store = memory store; are = rw same (part-answered _ _ _ _ _ _ _ _ _ _ w right (g .possible) (g .long)) }
 
   pub hear-on : length stored ≡ length store → length outputs′ ≡ length output → Hearing start store₀ room input stored outputs′ t (at + read)
   hear-on kept same =

@@ -9,9 +9,14 @@ use Rattle.io.specs.Counts.{clamped}
 use Rattle.registers.specs.Text.{Text}
 use Rattle.interpreter.specs.Box.{Memory, powerUp}
 use Rattle.interpreter.specs.State.{boxOf, possibleState}
-use Rattle.interpreter.specs.Server.{linesOf, WholeLines, heard}
+use Rattle.interpreter.specs.Server.{linesOf, WholeLines, heard, answersTo}
 use Rattle.interpreter.specs.declared.state.State.{State}
 use Rattle.bench24.specs.declared.Bench.{Bench}
+
+-- these bytes are the answers to the first part of what was read, with the store as it was then: serving the part has changed it
+pub record Answers (start : State) (input : Text) (read : ℕ) (answers : Text) : Type 0 where
+  pub store : Memory
+  pub are : answers ≡ answersTo (boxOf start store) (linesOf (take read input))
 
 -- of what was read a first part was heard, in whole lines: each line was received once and in order, and an answer that then waited was
 -- taken. The part is never empty, and it is all that was read where the bench still serves

@@ -8,11 +8,12 @@
 //
 // The contracts say that nothing goes wrong and that every run ends; that of all the bytes that a read
 // put into the buffer a first part was heard, in whole lines, never an empty one, and all of them where
-// the bench still serves; and that what was heard since power-up are the lines of some bytes, each once
-// and in order. No contract can say which bytes the system read or wrote: the kit's write promises
-// nothing of its answer, and its read nothing of the bytes. So what is not proved is kept to two lines
-// below: that `run` serves what it has just read, and that what was served is written to standard output
-// and only a write that fails closes the bench. The stored run holds them to the twin's answers.
+// the bench still serves; that what is handed to a write are the answers to the lines just heard; and
+// that what was heard since power-up are the lines of some bytes, each once and in order. No contract can
+// say which bytes the system read or wrote: the kit's write promises nothing of its answer, and its read
+// nothing of the bytes. So what is not proved is kept to three lines below: that `run` serves what it has
+// just read, that `write_answers` writes to standard output, and that only a write that fails closes the
+// bench. The stored run holds them to the twin's answers.
 use interpreter::server;
 use interpreter::state::STORE;
 use interpreter::state::State;
@@ -22,12 +23,20 @@ ghost use Prim.Native.Nat.{_≤_};
 ghost use lib.ListN.{length};
 ghost use Rattle.interpreter.specs.Box.{mostAnswer, storeSize, memory};
 ghost use Rattle.interpreter.specs.State.{possibleState};
-ghost use Rattle.bench24.specs.Heard.{HeardPart, HeardRead, HeardSince};
+ghost use Rattle.bench24.specs.Heard.{Answers, HeardPart, HeardRead, HeardSince};
 
 // The box after what was heard, and whether it still serves.
 struct Bench {
     state: State,
     serving: bool,
+}
+
+// Writes answers. It asks its caller to show that these bytes are the answers to the first part of what
+// was read and nothing else; what they are answers to is handed over for that alone.
+fn write_answers(start: State, input: &[u8], read: usize, answers: &[u8]) -> bool
+    requires { ⌜ Answers start (now input) read (now answers) ⌝ }
+{
+    io::write_all(libc::STDOUT_FILENO, answers)
 }
 
 // Serves what was read, a full output at a time. A write that fails closes the bench.
@@ -38,11 +47,13 @@ fn serve_all(start: State, store: &mut [u8], input: &[u8], output: &mut [u8]) ->
     let mut state = start;
     let mut at: usize = 0;
     while at < input.len() {
-        let served = server::serve(state, store, &input[at..], output);
+        let rest = &input[at..];
+        let served = server::serve(state, store, rest, output);
         let end = served.written;
+        let wrote = write_answers(state, rest, served.read, &output[0..end]);
         state = served.state;
         at += served.read;
-        if !io::write_all(libc::STDOUT_FILENO, &output[0..end]) {
+        if !wrote {
             return Bench {
                 state,
                 serving: false,

@@ -53,6 +53,11 @@ unfoldable pub heard : Box → List Text → Box
 heard b [] = b
 heard b (line ∷ more) = heard (heardLine b line) more
 
+-- what they answer, one after the other
+unfoldable pub answersTo : Box → List Text → Text
+answersTo b [] = []
+answersTo b (line ∷ more) = happens b (received line) .box .core .answer ++ answersTo (heardLine b line) more
+
 -- the first n bytes end where a line does
 abbrev pub WholeLines : ℕ → Text → Type 0
 WholeLines n t = linesOf t ≡ linesOf (take n t) ++ linesOf (drop n t)

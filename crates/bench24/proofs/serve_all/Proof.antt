@@ -5,7 +5,7 @@ use native.Mathlib.Nat.{le-refl}
 use native.Mathlib.Omega.{arith}
 use lib.ListN.{length}
 use borrow.Author.Needs.{needs}
-use Rattle.bench24.proofs.Hearing.{Hearing, hear-begun, read-within, read-some, wrote-within, hear-on, hear-stop, hear-end}
+use Rattle.bench24.proofs.Hearing.{Hearing, hear-begun, read-within, read-some, wrote-within, wrote-answers, hear-on, hear-stop, hear-end}
 use Rattle.bench24.proofs.serve_all.Statement.{statement}
 use Rattle.bench24.proofs.serve_all.Tie as tie
 
@@ -29,22 +29,27 @@ loop-holds c =
     let a = s .args in
     hear-begun (a .start) (a .store .now) (a .input .now) (a .output .now) (s .pre .0) (search needs) (s .pre .1)
 
-sub-serve : tie.Need-sub-serve Inv-loop μ-loop
-sub-serve c = c .before .before .loop .inv .within
+sub-rest : tie.Need-sub-rest Inv-loop μ-loop
+sub-rest c = c .before .loop .inv .within
 
-part-serve-start : tie.Need-part-serve-start Inv-loop μ-loop
-part-serve-start c = c .before .before .loop .inv .within
+part-rest-start : tie.Need-part-rest-start Inv-loop μ-loop
+part-rest-start c = c .before .loop .inv .within
+
+part-write-answers-end : tie.Need-part-write-answers-end Inv-loop μ-loop
+part-write-answers-end c =
+    let v = c .before .before .before .before .before in
+    wrote-within _ _ _ _ _ _ _ _ (loop-at v .loop .inv) _ _ _ _ _ _ (v .serve .ensures)
+
+write-answers-requires : tie.Need-write-answers-requires Inv-loop μ-loop
+write-answers-requires c κs =
+    let v = c .before .before .before .before .before .before in
+    wrote-answers _ _ _ _ _ _ _ _ (loop-at v .loop .inv) _ _ _ _ _ _ (v .serve .ensures)
 
 add-at : tie.Need-add-at Inv-loop μ-loop
 add-at c =
-    let v = c .before .before .before .before .before .before in
+    let v = c .before .before .before .before .before .before .before .before .before in
     let w = read-within _ _ _ _ _ _ _ _ (loop-at v .loop .inv) _ _ _ _ _ _ (v .serve .ensures) in
     omega (arith, w, small (loop-at v))
-
-part-write-all-end : tie.Need-part-write-all-end Inv-loop μ-loop
-part-write-all-end c =
-    let v = c .before .before .before .before .before .before .before in
-    wrote-within _ _ _ _ _ _ _ _ (loop-at v .loop .inv) _ _ _ _ _ _ (v .serve .ensures)
 
 same-length : tie.Need-same-length Inv-loop μ-loop
 same-length c =
@@ -102,13 +107,12 @@ serve-all-spec =
     Inv-loop
     μ-loop
     loop-holds
-    sub-serve
-    part-serve-start
-    (λ c. le-refl _) (λ c κs. tt)
+    sub-rest
+    part-rest-start
+    (λ c. le-refl _) (λ c κs. tt) (λ c. zero-le) (λ c. zero-le)
+    part-write-answers-end
+    write-answers-requires
     add-at
-    (λ c. zero-le) (λ c. zero-le)
-    part-write-all-end
-    (λ c κs. tt)
     same-length
     same-length-2
     returns

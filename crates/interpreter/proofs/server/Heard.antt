@@ -1,7 +1,7 @@
 -- A chunk served: its first lines were heard, by pieces and takes that were not refused. Lines heard are a history, and however the
 -- bytes are cut into chunks they lead to the same box. By induction over the lines (`Goes`): each is served as it is heard, as long as the
 -- output has room for an answer.
-use mathlib.Core.Path.{_≡_, refl, sym, _∙_, ap, subst}
+use mathlib.Core.Path.{_≡_, refl, sym, _∙_, ap, ap₂, subst}
 use mathlib.Core.Bool.{Bool, true, false}
 use mathlib.Core.List.{List, [], _∷_, _++_, append-assoc, append-nil, flatten}
 use Prim.Native.Nat.{ℕ, _+_, _≤_}
@@ -9,6 +9,7 @@ use native.Mathlib.Omega.{arith}
 use lib.Dec.{eqb, leb, ltb}
 use lib.ListN as L
 use lib.ListN.{length, drop}
+use lib.Seq.{take-append-seam}
 use borrow.Author.Tests.{leb-true, le-leb}
 use Rattle.registers.specs.Text.{Text, if_then_else_, empty}
 use Rattle.registers.specs.Settings.{count}
@@ -19,7 +20,7 @@ use Rattle.interpreter.specs.Line.{held, byte, piece}
 use Rattle.interpreter.specs.Events.{Event, received, take as takes, result, Happened, happened, happens, taken, after, results}
 use Rattle.interpreter.specs.State.{boxOf, possibleState}
 use Rattle.interpreter.specs.Histories.{resultsOf, answers, sent, copied}
-use Rattle.interpreter.specs.Server.{linesOf, Service, service, tookAfter, servedLine, serves, heardLine, heard, WholeLines, takingFirst, eventsOf, hearing, begun, Serves}
+use Rattle.interpreter.specs.Server.{linesOf, Service, service, tookAfter, servedLine, serves, heardLine, heard, answersTo, WholeLines, takingFirst, eventsOf, hearing, begun, Serves}
 use Rattle.interpreter.specs.Calls.{Brings, ChunkHistory}
 use Rattle.interpreter.specs.declared.state.State.{State}
 use Rattle.interpreter.proofs.Choices.{if-elim}
@@ -84,6 +85,15 @@ module _ (v : Service) (l : Text) (f : Fit mostAnswer (v .box)) (room : mostAnsw
       if-elim (λ (u : Service). u .box ≡ heardLine (v .box) l) (empty (now .core .answer))
       (λ e. sym (no-answer now (is-empty (now .core .answer) e))) (λ e. ap (λ (h : Happened). h .box) (whole (v .box) l (v .rest) f room e))
 
+  line-told : servedLine v l .answers ≡ v .answers ++ now .core .answer
+  unfolding servedLine
+  line-told =
+      if-elim (λ (u : Service). u .answers ≡ v .answers ++ now .core .answer) (empty (now .core .answer))
+      (λ e. sym (ap (λ (a : Text). v .answers ++ a) (is-empty (now .core .answer) e) ∙ append-nil (v .answers)))
+      (λ e.
+      ap (λ (h : Happened). v .answers ++ L.take (h .result .value) (h .result .buffer)) (whole (v .box) l (v .rest) f room e)
+      ∙ ap (λ (a : Text). v .answers ++ a) (take-append-seam (now .core .answer) _))
+
   -- what the line's take copied comes after the answers before it
   line-answers : (es : List Event) (said : Text) → Follows (servedLine v l) es said → Follows v (received l ∷ takingFirst now (v .rest) es) said
   unfolding servedLine happens resultsOf copied if_then_else_
@@ -110,9 +120,10 @@ record Goes (v : Service) (ls : List Text) (es : List Event) (u : Service) : Typ
   hears : u .box ≡ heard (v .box) done
   events : Brings (flatten done) (v .box) (u .box) es
   answers : Follows v es (u .answers)
+  told : u .answers ≡ v .answers ++ answersTo (v .box) done
 
 none-left : (v : Service) (ls : List Text) → Goes v ls [] v
-unfolding heard flatten after results sent resultsOf copied
+unfolding heard answersTo flatten after results sent resultsOf copied
 none-left v ls =
     record {
       done = [];
@@ -122,10 +133,11 @@ none-left v ls =
       hears = refl;
       events = record { only = refl; accepted = refl; bytes = refl; box = refl };
       answers = append-nil (v .answers);
+      told = sym (append-nil (v .answers));
     }
 
 goes : (v : Service) (ls : List Text) → Fit mostAnswer (v .box) → Goes v ls (eventsOf v ls) (serves v ls)
-unfolding serves eventsOf heard flatten if_then_else_
+unfolding serves eventsOf heard answersTo flatten if_then_else_
 goes v [] f = none-left v []
 goes v (l ∷ ls) f = go (leb mostAnswer (length (v .rest))) refl (goes (servedLine v l) ls (line-fits v l f))
   where
@@ -149,6 +161,7 @@ goes v (l ∷ ls) f = go (leb mostAnswer (length (v .rest))) refl (goes (servedL
           hears = m .hears ∙ ap (λ (b : Box). heard b (m .done)) here;
           events = line-brings (v .box) l (v .rest) f room (flatten (m .done)) (u .box) es (subst (λ (b : Box). Brings (flatten (m .done)) b (u .box) es) here (m .events));
           answers = line-answers v l f room es (u .answers) (m .answers);
+          told = m .told ∙ ap₂ _++_ (line-told v l f room) (ap (λ (b : Box). answersTo b (m .done)) here) ∙ append-assoc (v .answers) (now v l f room .core .answer) _;
         }
 
 -- ---- a chunk
@@ -174,6 +187,10 @@ module _ (s t : State) (m k : Memory) (input output left : Text) (number read wr
   pub part-heard : WholeLines read input × (boxOf t k ≡ heard (boxOf s m) (linesOf (L.take read input)))
   part-heard =
       (rw n (first-whole input (went .done) (went .rest) (went .is)), rw (n, first-lines input (went .done) (went .rest) (went .is)) (went .hears))
+
+  -- and what was written are the answers to them
+  pub part-answered : L.take written left ≡ answersTo (boxOf s m) (linesOf (L.take read input))
+  part-answered = rw (n, first-lines input (went .done) (went .rest) (went .is)) (went .told)
 
   -- a call is a history of pieces and takes: what it answers and leaves is what those events answer and leave
   pub serves-history : ChunkHistory s t m k input left read written (eventsOf (begun s m output) (linesOf input))
