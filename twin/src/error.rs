@@ -36,8 +36,11 @@ errors! {
     InvalidSuffix = 131, "Invalid suffix";
     SuffixNotAllowed = 138, "Suffix not allowed";
     InvalidCharacterData = 141, "Invalid character data";
+    StringDataError = 150, "String data error";
+    InvalidStringData = 151, "Invalid string data";
     SettingsConflict = 221, "Settings conflict";
     DataOutOfRange = 222, "Data out of range";
+    TooMuchData = 223, "Too much data";
     MemoryLost = 314, "Save/recall memory lost";
     QueueOverflow = 350, "Queue overflow";
     InputBufferOverrun = 363, "Input buffer overrun";

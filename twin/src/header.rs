@@ -18,6 +18,8 @@ pub enum Row {
     Query(Query),
     Command(Command),
     Setup(Setup),
+    /// DISPlay:TEXT, the setting that is no number (02, #109).
+    Text,
     /// *OPC and *OPC?, which have both forms and no value.
     OperationComplete,
 }
@@ -88,6 +90,7 @@ pub enum Place {
     PeakLow,
     Display,
     Brightness,
+    Text,
     System,
     KeyLock,
     Exam,
@@ -161,7 +164,10 @@ static PEAK: [Branch; 4] = [
     branch("HIGH", Place::PeakHigh),
     branch("LOW", Place::PeakLow),
 ];
-static DISPLAY: [Branch; 1] = [branch("BRIGhtness", Place::Brightness)];
+static DISPLAY: [Branch; 2] = [
+    branch("BRIGhtness", Place::Brightness),
+    branch("TEXT", Place::Text),
+];
 static SYSTEM: [Branch; 3] = [
     branch("ERRor", Place::ErrorQueue),
     branch("KLOCk", Place::KeyLock),
@@ -248,6 +254,7 @@ impl Place {
             Place::PeakHigh => Row::Setting(Setting::PeakHigh),
             Place::PeakLow => Row::Setting(Setting::PeakLow),
             Place::Brightness => Row::Setting(Setting::Brightness),
+            Place::Text => Row::Text,
             Place::KeyLock => Row::Setting(Setting::KeyLock),
             Place::Exam => Row::Setting(Setting::Exam),
             Place::ErrorQueue => Row::Query(Query::ErrorQueue),

@@ -16,6 +16,8 @@ pub enum Use {
     Both,
     /// A command whose number is a place of the lent store, from 0 to 9 (02, #108).
     StorePlace,
+    /// A string (02, #109).
+    Text,
 }
 
 /// The place of a setting in the record, or none, with the printed header and its use.
@@ -27,7 +29,7 @@ const LIMIT_MODES: Use = Use::Words(&["CONTinuous", "OFF"]);
 /// How many of the headers are 01's own; they come first, and those of 02's requests follow.
 pub const OF_01: usize = 32;
 
-pub static HEADERS: [Printed; 45] = [
+pub static HEADERS: [Printed; 46] = [
     (Some(0), "OUTPut[:STATe]", Use::Bool),
     (Some(1), "OUTPut:PON", Use::Bool),
     (Some(2), "OUTPut:RELay", Use::Bool),
@@ -101,6 +103,7 @@ pub static HEADERS: [Printed; 45] = [
     (None, "STATus:WARNing:PTRansition", Use::Register(32_767)),
     (None, "*SAV", Use::StorePlace),
     (None, "*RCL", Use::StorePlace),
+    (None, "DISPlay:TEXT", Use::Text),
 ];
 
 /// The suffixes that a setting's numbers take (02, #101), each with its power of ten.

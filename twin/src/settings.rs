@@ -1,7 +1,8 @@
-//! The settings: 01's sixteen in the order of its table, then exam mode (02, #107). Numbers are
-//! counted in steps.
+//! The settings: 01's sixteen in the order of its table, then exam mode (02, #107), and beside them
+//! the display's text (#109). Numbers are counted in steps.
 
 use crate::number::{Quantity, Step};
+use crate::string::Text;
 use crate::text::Word;
 
 pub const SETTINGS: usize = 17;
@@ -149,12 +150,16 @@ impl Setting {
 #[derive(Clone, Debug, PartialEq, Eq)]
 pub struct Settings {
     pub values: [i32; SETTINGS],
+    pub text: Text,
 }
 
 impl Settings {
     /// The values at *RST.
     pub(crate) const fn reset() -> Settings {
-        Settings { values: reset() }
+        Settings {
+            values: reset(),
+            text: Text::EMPTY,
+        }
     }
 
     pub(crate) fn get(&self, setting: Setting) -> i32 {
@@ -188,12 +193,15 @@ impl Settings {
         self.get(Setting::Voltage) > R12V_HIGHEST
     }
 
+    #[inline]
     pub(crate) fn keep_their_limits(&self) -> bool {
         let mut outside = false;
         for place in 0..SETTINGS {
             let value = self.values[place];
             outside |= (value < LOWEST[place]) | (value > HIGHEST[place]);
         }
-        !outside && self.get(Setting::Voltage) <= self.highest(Setting::Voltage)
+        !outside
+            && self.get(Setting::Voltage) <= self.highest(Setting::Voltage)
+            && self.text.keeps_its_limits()
     }
 }

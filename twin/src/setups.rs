@@ -1,9 +1,11 @@
 //! Saved setups (02, #108): a lent store of ten blocks of 512 bytes.
 //!
 //! A block holds each setting's value + 256 in two bytes, low byte first, from byte 0 and in the
-//! record's order; then zeros; and in the last four bytes its check, low byte first.
+//! record's order; then the text's 32 bytes (#109), zeros after the text; then zeros; and in the
+//! last four bytes its check, low byte first.
 
 use crate::settings::{Settings, SETTINGS};
+use crate::string::{Text, TEXT_LIMIT};
 
 pub const PLACES: usize = 10;
 pub const BLOCK_LENGTH: usize = 512;
@@ -11,6 +13,9 @@ pub const STORE_LENGTH: usize = PLACES * BLOCK_LENGTH;
 
 /// The check is over as many bytes and stands after them.
 const CHECKED_LENGTH: usize = 508;
+
+/// Where the text's bytes begin, after the values'. A block of #108 has zeros there: no text.
+const TEXT_START: usize = 2 * SETTINGS;
 
 /// What is added to a value, so that none is below zero.
 const OFFSET: i32 = 256;
@@ -28,6 +33,7 @@ pub(crate) fn save(settings: &Settings, store: &mut Store, place: usize) {
     for (stored, value) in block.chunks_exact_mut(2).zip(settings.values) {
         stored.copy_from_slice(&((value + OFFSET) as u16).to_le_bytes());
     }
+    block[TEXT_START..][..TEXT_LIMIT].copy_from_slice(&settings.text.bytes);
     let check = check(block);
     block[CHECKED_LENGTH..].copy_from_slice(&check.to_le_bytes());
 }
@@ -43,7 +49,10 @@ pub(crate) fn recall(store: &Store, place: usize) -> Option<Settings> {
     for (value, stored) in values.iter_mut().zip(block.chunks_exact(2)) {
         *value = i32::from(stored[0]) + 256 * i32::from(stored[1]) - OFFSET;
     }
-    let settings = Settings { values };
+    let mut text = Text::EMPTY;
+    text.bytes
+        .copy_from_slice(&block[TEXT_START..][..TEXT_LIMIT]);
+    let settings = Settings { values, text };
     settings.keep_their_limits().then_some(settings)
 }
 

@@ -9,8 +9,9 @@ use crate::number::{self, Quantity, Rounded, Step, Written};
 use crate::settings::{Setting, Settings, Values, R12V};
 use crate::setups::{self, Store, PLACES};
 use crate::status::{Status, FIFTEEN_BITS};
+use crate::string::{part_length, Text, TEXT_LIMIT};
 use crate::text::{
-    find, is_all_valid, is_white_space, read_name, skip_white_space, trim, Spelling, Word,
+    find, is_white_space, look_over, read_name, skip_white_space, trim, Seen, Spelling, Word,
 };
 
 const IDENTIFICATION: &[u8] = b"COURSE,BENCH24,0,4.00";
@@ -54,21 +55,23 @@ impl Instrument {
     fn run_units(&mut self, line: &[u8], store: &mut Store) -> Result<(), Error> {
         let mut path = Place::Root;
         let mut rest = line;
-        while let Some(end) = find(b';', rest) {
-            path = self.run_unit(&rest[..end], path, store)?;
-            rest = &rest[end + 1..];
+        loop {
+            let unit = Unit::cut(rest);
+            path = self.run_unit(&unit, path, store)?;
+            match rest.get(unit.text.len() + 1..) {
+                Some(further) => rest = further,
+                None => return Ok(()),
+            }
         }
-        self.run_unit(rest, path, store)?;
-        Ok(())
     }
 
     /// Runs one unit after the path and gives the path for the next.
-    fn run_unit(&mut self, unit: &[u8], path: Place, store: &mut Store) -> Result<Place, Error> {
-        if !is_all_valid(unit) {
+    fn run_unit(&mut self, unit: &Unit, path: Place, store: &mut Store) -> Result<Place, Error> {
+        if !unit.seen.valid {
             return Err(Error::InvalidCharacter);
         }
-        let (header, rest) = header::read(skip_white_space(unit), path)?;
-        let parameters = Parameters::read(skip_white_space(rest))?;
+        let (header, rest) = header::read(skip_white_space(unit.text), path)?;
+        let parameters = Parameters::read(skip_white_space(rest), unit.seen.maybe_quoted)?;
         let row = header.row()?;
         if header.query {
             self.answer_query(row, &parameters)?;
@@ -88,6 +91,7 @@ impl Instrument {
                 self.obey_command(command)
             }
             Row::Setup(setup) => self.obey_setup(setup, parameters.one()?, store),
+            Row::Text => self.obey_text(parameters.one()?),
             Row::OperationComplete => {
                 parameters.none()?;
                 self.status.operation_complete();
@@ -106,6 +110,14 @@ impl Instrument {
             }
             Command::Clear => self.status.clear(),
         }
+        Ok(())
+    }
+
+    /// 02, #109: the lock's -221 comes after the string's own errors.
+    fn obey_text(&mut self, parameter: &[u8]) -> Result<(), Error> {
+        let text = Text::read(parameter)?;
+        self.must_not_be_locked()?;
+        self.settings.text = text;
         Ok(())
     }
 
@@ -224,6 +236,10 @@ impl Instrument {
                 parameters.none()?;
                 self.answer.add(b"1")
             }
+            Row::Text => {
+                parameters.none()?;
+                self.answer_text()
+            }
             Row::Command(_) | Row::Setup(_) => Err(Error::UndefinedHeader),
         }
     }
@@ -271,6 +287,16 @@ impl Instrument {
         self.answer.add(written.text())
     }
 
+    /// Always in double quotes, of which the text holds none.
+    fn answer_text(&mut self) -> Result<(), Error> {
+        let shown = self.settings.text.shown();
+        let mut quoted = [b'"'; TEXT_LIMIT + 2];
+        quoted[1..=shown.len()].copy_from_slice(shown);
+        let length = shown.len() + 2;
+        quoted[length - 1] = b'"';
+        self.answer.add(&quoted[..length])
+    }
+
     fn answer_setting(&mut self, setting: Setting, parameters: &Parameters) -> Result<(), Error> {
         let present = self.settings.get(setting);
         match setting.values() {
@@ -297,6 +323,32 @@ impl Instrument {
     }
 }
 
+/// A unit as the line is cut: at every `;` outside quotes (02, #109).
+struct Unit<'line> {
+    text: &'line [u8],
+    seen: Seen,
+}
+
+impl<'line> Unit<'line> {
+    /// The first unit of the rest of a line. Only one that may hold a quote is cut the slower way.
+    #[inline]
+    fn cut(rest: &'line [u8]) -> Unit<'line> {
+        let text = &rest[..find(b';', rest).unwrap_or(rest.len())];
+        let seen = look_over(text);
+        if seen.maybe_quoted {
+            return Unit::cut_outside_quotes(rest);
+        }
+        Unit { text, seen }
+    }
+
+    #[inline(never)]
+    fn cut_outside_quotes(rest: &'line [u8]) -> Unit<'line> {
+        let text = &rest[..part_length(b';', rest)];
+        let seen = look_over(text);
+        Unit { text, seen }
+    }
+}
+
 /// The parameters of a unit. No row of 01 takes more than one, so the first and the count do.
 struct Parameters<'unit> {
     first: &'unit [u8],
@@ -304,8 +356,9 @@ struct Parameters<'unit> {
 }
 
 impl<'unit> Parameters<'unit> {
-    /// 01, check 2: commas part the parameters, and none may be empty.
-    fn read(text: &'unit [u8]) -> Result<Parameters<'unit>, Error> {
+    /// 01, check 2: commas part the parameters, but for those in quotes (02, #109), and no
+    /// parameter may be empty.
+    fn read(text: &'unit [u8], maybe_quoted: bool) -> Result<Parameters<'unit>, Error> {
         let mut parameters = Parameters {
             first: &[],
             count: 0,
@@ -313,17 +366,30 @@ impl<'unit> Parameters<'unit> {
         if text.is_empty() {
             return Ok(parameters);
         }
-        for part in text.split(|&byte| byte == b',') {
-            let parameter = trim(part);
-            if parameter.is_empty() {
-                return Err(Error::SyntaxError);
+        let mut rest = text;
+        loop {
+            let length = if maybe_quoted {
+                part_length(b',', rest)
+            } else {
+                find(b',', rest).unwrap_or(rest.len())
+            };
+            parameters.add(trim(&rest[..length]))?;
+            match rest.get(length + 1..) {
+                Some(further) => rest = further,
+                None => return Ok(parameters),
             }
-            if parameters.count == 0 {
-                parameters.first = parameter;
-            }
-            parameters.count += 1;
         }
-        Ok(parameters)
+    }
+
+    fn add(&mut self, parameter: &'unit [u8]) -> Result<(), Error> {
+        if parameter.is_empty() {
+            return Err(Error::SyntaxError);
+        }
+        if self.count == 0 {
+            self.first = parameter;
+        }
+        self.count += 1;
+        Ok(())
     }
 
     // 01, check 4, for the rows that take none, one, or one as an option.

@@ -125,7 +125,7 @@ fn play(script: &str) -> Vec<String> {
 
 #[test]
 fn player_events() {
-    let reset = "0,0,1,2,0,0,500,10,1,1,1,1,40,-40,50,0,0";
+    let reset = "0,0,1,2,0,0,500,10,1,1,1,1,40,-40,50,0,0,-";
     let script = "l\np 564F4C543F0A\nt 2\nl\nt 6\nt 0\nc 5\nc 32768\ns\nu\np 2a4944\ns\n";
     let expected = [
         "l 0 0".to_string(),
@@ -150,7 +150,7 @@ fn player_hand_made_records() {
                   x queued 17\nx error.0 101\ns\nx queued 2\nx error.1 350\nl\n\
                   x line 4096\ns\nx line 2\nx answer 3\ns";
     let reports = play(script);
-    let settings = "0,0,1,2,0,0,500,10,1,1,1,1,40,-80,50,0,0";
+    let settings = "0,0,1,2,0,0,500,10,1,1,1,1,40,-80,50,0,0,-";
     let rest = "128 0 0 0 0 0 32767 0";
     assert_eq!(reports[1], "l 4 0");
     assert_eq!(reports[2], "t 4 0 AAAAAA");
@@ -241,6 +241,14 @@ fn player_on_what_it_cannot_read() {
         "x line ",
         "x overlong 1",
         "p 41\r",
+        "x text",
+        "x text ",
+        "x text 4",
+        "x text 4G",
+        "x text 41 42",
+        "x text --",
+        "x text 414243444546474849414243444546474849414243444546474849414243444546",
+        "x TEXT 41",
         "S",
         "S ",
         "S 8193",
@@ -276,6 +284,9 @@ fn player_on_what_it_cannot_read() {
         "k 32768",
         "w 65535",
         "x queued 65535",
+        "x text -",
+        "x text 6a",
+        "x text 00",
         "S 0",
         "S 8192",
         "S 0005120",
@@ -415,4 +426,41 @@ fn player_lends_another_store_to_one_event() {
         "x", "l 4 0", "S", "l 5 0", "S", "c 5", "l 4 0", "x", "S", "c 5", "c 3",
     ];
     assert_eq!(reports, expected);
+}
+
+#[test]
+fn player_text() {
+    let text = |reports: &[String], line: usize| {
+        let settings = reports[line].split(' ').nth(1).unwrap();
+        settings.split(',').nth(17).unwrap().to_string()
+    };
+    let full = "41".repeat(32);
+    // DISP:TEXT 'ab'
+    let script = format!(
+        "s\nx text 4142\ns\nl\nx text {full}\ns\nl\nx text 41\ns\nx text -\ns\nl\n\
+         p 444953503A544558542027616227\np 0A\ns"
+    );
+    let reports = play(&script);
+    assert_eq!(text(&reports, 0), "-");
+    assert_eq!(text(&reports, 2), "4142");
+    assert_eq!(text(&reports, 5), full);
+    assert_eq!(text(&reports, 8), "41");
+    assert_eq!(text(&reports, 10), "-");
+    assert_eq!(text(&reports, 14), "6162");
+    // Not the box's: a forbidden byte, one that isn't printable, a zero before the last byte.
+    for (hex, shown) in [
+        ("22", "22"),
+        ("411F", "411F"),
+        ("7F", "7F"),
+        ("410042", "41"),
+    ] {
+        let reports = play(&format!("x text {hex}\nl\np 0A\ns\nx text -\nl"));
+        assert_eq!(reports[1..3], ["l 4 0", "p 4 0"], "{hex}");
+        assert_eq!(text(&reports, 3), shown);
+        assert_eq!(reports[5], "l 0 0");
+    }
+    // A zero at the end is no byte of the text, and a zero alone is the empty text.
+    let reports = play("x text 4100\nl\ns\nx text 0000\nl\ns");
+    assert_eq!((&reports[1][..], text(&reports, 2)), ("l 0 0", "41".into()));
+    assert_eq!((&reports[4][..], text(&reports, 5)), ("l 0 0", "-".into()));
 }

@@ -7,7 +7,7 @@ use bench::*;
 use twin::paper::{nodes, suffixes, Use, HEADERS};
 use twin::{SetName, SETTINGS, STORE_LENGTH};
 
-static UNITS: [&str; 86] = [
+static UNITS: [&str; 99] = [
     "VOLT 5",
     "VOLT 12.04",
     "VOLT 12.05",
@@ -94,6 +94,19 @@ static UNITS: [&str; 86] = [
     "*SAV 9.5",
     "*RCL",
     "*SAV MAX",
+    "DISP:TEXT 'a;b'",
+    "DISP:TEXT \"a,b;c\"",
+    "TEXT ''",
+    "TEXT?",
+    "DISP:TEXT?",
+    "TEXT \"it's\"",
+    "DISP:TEXT 'a:b;c'",
+    "DISP:TEXT 'a",
+    "TEXT \"b",
+    "VOLT '5;6'",
+    "VO\"LT 5",
+    "*ESE \"",
+    "FOO 'a;;b',';'",
 ];
 
 fn random_line(dice: &mut Dice) -> Vec<&'static str> {
@@ -197,6 +210,7 @@ fn every_spelling_reaches_its_row() {
                     // Only *RCL of a good block raises nothing.
                     Use::StorePlace if header.eq_ignore_ascii_case("*RCL") => (" 4", Some(314)),
                     Use::StorePlace => (" 4", None),
+                    Use::Text => (" 'a'", None),
                     _ => ("?", None),
                 };
                 let bench = after(format!("{header}{form}"));
@@ -516,8 +530,28 @@ fn play(bench: &mut Bench, line: &str) -> Vec<u16> {
     bench.errors().to_vec()
 }
 
+/// The units of a line, by 02, #109: no `;` in quotes separates.
+fn cut_outside_quotes(line: &str) -> Vec<&str> {
+    let mut units = Vec::new();
+    let mut start = 0;
+    let mut open = None;
+    for (place, byte) in line.char_indices() {
+        match open {
+            Some(quote) if quote == byte => open = None,
+            None if byte == '"' || byte == '\'' => open = Some(byte),
+            None if byte == ';' => {
+                units.push(&line[start..place]);
+                start = place + 1;
+            }
+            _ => {}
+        }
+    }
+    units.push(&line[start..]);
+    units
+}
+
 fn agrees_with_a_cut(before: &Bench, after: &Bench, line: &str) -> bool {
-    let units: Vec<&str> = line.split(';').collect();
+    let units = cut_outside_quotes(line);
     (0..units.len()).rev().any(|count| {
         let mut cut = before.clone();
         let raised = play(&mut cut, &units[..count].join(";"));
@@ -556,7 +590,7 @@ fn nothing_panics() {
 fn random_byte(dice: &mut Dice) -> u8 {
     match dice.below(3) {
         0 => dice.below(256) as u8,
-        1 => *dice.pick(b"\n\n;:*?, .+-E019#_"),
+        1 => *dice.pick(b"\n\n;:*?, .+-E019#_\"'"),
         _ => *dice.pick(b"VOLTFREQCURSYAIDN"),
     }
 }
@@ -567,7 +601,7 @@ fn overwrite_something(bench: &mut Bench, dice: &mut Dice) {
     ]);
     let state = &mut bench.state;
     let status = &mut state.instrument.status;
-    match dice.below(9) {
+    match dice.below(10) {
         0 => state.instrument.settings.values[dice.below(SETTINGS)] = odd as i32 - 100,
         1 => status.queued = odd,
         2 => status.errors[dice.below(16)] = odd as u16,
@@ -576,6 +610,7 @@ fn overwrite_something(bench: &mut Bench, dice: &mut Dice) {
         5 => status.set_mut(*dice.pick(&SetName::ALL)).ptr = odd as u16,
         6 => state.line.length = odd,
         7 => state.instrument.answer.length = odd,
+        8 => state.instrument.settings.text.bytes[dice.below(32)] = odd as u8,
         _ => bench.store[dice.below(STORE_LENGTH)] = odd as u8,
     }
 }

@@ -114,8 +114,8 @@ mod lines_and_units {
     #[test]
     fn numbers_that_the_queue_may_hold() {
         let allowed = [
-            101, 102, 104, 108, 109, 113, 121, 123, 124, 131, 138, 141, 221, 222, 314, 350, 363,
-            410, 420, 430,
+            101, 102, 104, 108, 109, 113, 121, 123, 124, 131, 138, 141, 150, 151, 221, 222, 223,
+            314, 350, 363, 410, 420, 430,
         ];
         for number in 0..=u16::MAX {
             let mut bench = Bench::power_up();
@@ -439,6 +439,9 @@ mod answers_status_queue {
             (141, "Invalid character data"),
             (221, "Settings conflict"),
             (222, "Data out of range"),
+            (150, "String data error"),
+            (151, "Invalid string data"),
+            (223, "Too much data"),
             (314, "Save/recall memory lost"),
             (350, "Queue overflow"),
             (363, "Input buffer overrun"),

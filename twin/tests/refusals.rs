@@ -206,6 +206,34 @@ fn four_lengths() {
     }
 }
 
+/// 02, #109: the text's limits are its length and the bytes that DISPlay:TEXT accepts.
+#[test]
+fn four_text() {
+    let with = |text: &[u8]| {
+        overwritten(|bench| {
+            let stored = &mut bench.state.instrument.settings.text.bytes;
+            stored[..text.len()].copy_from_slice(text);
+        })
+    };
+    for byte in 0..=255 {
+        let forbidden = b"\\/:*?\"<>|".contains(&byte) || !(32..=126).contains(&byte);
+        for text in [
+            vec![b'a', byte],
+            vec![byte; 32],
+            [vec![b'a'; 31], vec![byte]].concat(),
+        ] {
+            match byte {
+                0 => not_refused_by_four(&with(&text)),
+                _ if forbidden => refused_by_four(&with(&text)),
+                _ => not_refused_by_four(&with(&text)),
+            }
+        }
+    }
+    refused_by_four(&with(b"a\0b"));
+    refused_by_four(&with(b"\0b"));
+    refused_by_four(&with(&[&[0; 31][..], b"b"].concat()));
+}
+
 #[test]
 fn four_not_otherwise() {
     // Odd, but nothing that the table lists.

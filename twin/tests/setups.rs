@@ -279,9 +279,9 @@ fn settings_that_break_a_limit_or_the_range() {
 #[test]
 fn unused_bytes_may_be_anything() {
     let changes: [Change; 5] = [
-        |block| block[34] = 1,
+        |block| block[66] = 1,
         |block| block[507] = 255,
-        |block| block[34..508].fill(255),
+        |block| block[66..508].fill(255),
         |block| block[100..200].fill(b'A'),
         |block| block[300] = 7,
     ];
@@ -386,4 +386,59 @@ fn power_up_and_reset_leave_the_store() {
     bench.state = Bench::power_up().state;
     bench.send("*RCL 5;FREQ?");
     assert_eq!(bench.answer().as_deref(), Some("60.0"));
+}
+
+/// #109: the text's 32 bytes stand from byte 34, zeros after the text.
+mod with_text {
+    use super::*;
+
+    fn with_text(settings: &[i32; SETTINGS], text: &[u8]) -> Block {
+        let mut block = block_of(settings);
+        block[34..34 + text.len()].copy_from_slice(text);
+        with_check(block)
+    }
+
+    #[test]
+    fn saved_and_recalled() {
+        let full = "x".repeat(32);
+        for text in ["", "a", "Bench 7; left, 'off'", &full] {
+            let mut bench = after(format!("DISP:TEXT \"{text}\";*SAV 2;*RST"));
+            assert_eq!(bench.errors(), [], "{text}");
+            assert_eq!(bench.text(), b"");
+            assert_eq!(block(&bench, 2), with_text(&RESET, text.as_bytes()));
+            bench.send("*RCL 2");
+            assert_eq!(bench.text(), text.as_bytes());
+            assert_eq!(bench.errors(), []);
+        }
+    }
+
+    #[test]
+    fn a_block_of_108_has_no_text() {
+        let mut bench = after("DISP:TEXT 'a'");
+        put(&mut bench, 0, &block_of(&FULL));
+        bench.send("*RCL 0");
+        assert_eq!(bench.text(), b"");
+        assert_eq!(bench.settings(), FULL);
+    }
+
+    #[test]
+    fn a_text_outside_its_limits() {
+        for byte in 1..=255 {
+            let good = (32..=126).contains(&byte) && !b"\\/:*?\"<>|".contains(&byte);
+            for text in [vec![byte], [vec![b'a'; 31], vec![byte]].concat()] {
+                let saved = with_text(&RESET, &text);
+                if good {
+                    let mut bench = Bench::power_up();
+                    put(&mut bench, 0, &saved);
+                    bench.send("*RCL 0");
+                    assert_eq!(bench.errors(), [], "{byte}");
+                    assert_eq!(bench.text(), text);
+                } else {
+                    memory_lost(&saved, &format!("byte {byte}"));
+                }
+            }
+        }
+        memory_lost(&with_text(&RESET, b"a\0b"), "a zero inside");
+        memory_lost(&with_text(&RESET, b"\0b"), "a zero before");
+    }
 }

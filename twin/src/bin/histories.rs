@@ -13,6 +13,8 @@ mod mild;
 mod script;
 #[path = "histories/setups.rs"]
 mod setups;
+#[path = "histories/strings.rs"]
+mod strings;
 
 use std::env;
 use std::io::{self, BufWriter, Write};

@@ -4,7 +4,7 @@
 use std::io::{self, BufRead, BufWriter, Write};
 
 use twin::{Refusal, RegisterSet, SetName, State, Table, BLOCK_LENGTH, LONGEST_STORE, PLACES};
-use twin::{QUEUE_LIMIT, SETTINGS};
+use twin::{Settings, Text, QUEUE_LIMIT, SETTINGS, TEXT_LIMIT};
 
 const LONGEST_BUFFER: usize = 8192;
 const LONGEST_LENGTH: usize = 65_535;
@@ -107,6 +107,10 @@ fn overwrite(state: &mut State, field: &str, value: &str) -> Option<()> {
         state.instrument.settings.values[place] = read_signed(value)?;
         return Some(());
     }
+    if field == "text" {
+        state.instrument.settings.text = read_text(value)?;
+        return Some(());
+    }
     let status = &mut state.instrument.status;
     if let Some(place) = read_place(field, "error.", QUEUE_LIMIT) {
         status.errors[place] = read_decimal(value)?;
@@ -125,6 +129,16 @@ fn overwrite(state: &mut State, field: &str, value: &str) -> Option<()> {
         }
     }
     Some(())
+}
+
+/// A text in hex, zeros after it, or `-` for the empty one.
+fn read_text(hex: &str) -> Option<Text> {
+    let mut text = Text::EMPTY;
+    if hex != "-" {
+        let bytes = read_hex(hex).filter(|bytes| (1..=TEXT_LIMIT).contains(&bytes.len()))?;
+        text.bytes[..bytes.len()].copy_from_slice(&bytes);
+    }
+    Some(text)
 }
 
 /// The set in a field such as `lock_ptr`, `warning_ptr`, or plainly `ptr`, and the rest of it.
@@ -241,7 +255,7 @@ fn write_state(state: &State) -> String {
     let line = &state.line;
     format!(
         "s {} {} {} {} {} {} {} {} {} {} {}",
-        write_list(&state.instrument.settings.values),
+        write_settings(&state.instrument.settings),
         status.esr,
         status.ese,
         status.sre,
@@ -253,6 +267,11 @@ fn write_state(state: &State) -> String {
         write_set(status.set(SetName::Lock)),
         write_set(status.set(SetName::Warning)),
     )
+}
+
+fn write_settings(settings: &Settings) -> String {
+    let values = write_list(&settings.values);
+    format!("{values},{}", write_hex(settings.text.shown()))
 }
 
 fn write_set(set: &RegisterSet) -> String {

@@ -82,6 +82,10 @@ impl Bench {
         self.settings()[place]
     }
 
+    pub fn text(&self) -> &[u8] {
+        self.state.instrument.settings.text.shown()
+    }
+
     pub fn esr(&self) -> u16 {
         self.state.instrument.status.esr
     }
@@ -110,6 +114,7 @@ pub fn sets(line: impl AsRef<[u8]>, place: usize, value: i32) {
     settings[place] = value;
     assert_eq!(bench.errors(), [], "{line}");
     assert_eq!(bench.settings(), settings, "{line}");
+    assert_eq!(bench.text(), b"", "{line}");
 }
 
 /// The line of one unit is refused, from power-up, and changes nothing but queue and event bit.

@@ -10,12 +10,13 @@ use crate::dice::Dice;
 use crate::lines::{mix_case, spell, with_suffix, Lines, Manner};
 use crate::script::{Field, Script};
 use crate::setups;
+use crate::strings;
 
 pub fn write(script: &mut Script, count: usize) -> io::Result<()> {
     let lines = Lines::new(Manner::Varied);
     script.power_up()?;
     while script.events < count {
-        match script.dice.below(24) {
+        match script.dice.below(27) {
             0..=3 => send_line(script, |dice| lines.good(dice))?,
             4 => send_line(script, |dice| lines.faulty(dice))?,
             5 => send_line(script, odd_bytes)?,
@@ -32,6 +33,7 @@ pub fn write(script: &mut Script, count: usize) -> io::Result<()> {
             18 => hand_made_on_the_way(script, &lines)?,
             19 | 20 => under_lock(script, &lines)?,
             21 | 22 => setups::hostile(script)?,
+            23..=25 => send_line(script, |dice| strings::odd_line(dice, &lines))?,
             _ => script.between()?,
         }
         let length = match script.dice.below(100) {
@@ -365,7 +367,7 @@ fn query_that_does_not_fit(script: &mut Script) -> io::Result<()> {
 }
 
 /// Lines that a lock blocks, whole or in part, or doesn't block (02, #105).
-static LINES_AND_LOCK: [&str; 46] = [
+static LINES_AND_LOCK: [&str; 51] = [
     "OUTP 0",
     "OUTP OFF",
     "OUTP:STAT 0.4",
@@ -412,6 +414,11 @@ static LINES_AND_LOCK: [&str; 46] = [
     "*RCL 9",
     "*RCL 9.5",
     "VOLT?;*RCL 2;FREQ?",
+    "DISP:TEXT 'a'",
+    "DISP:TEXT ''",
+    "DISP:TEXT 'a:b'",
+    "DISP:TEXT \"a",
+    "DISP:TEXT?;TEXT 'x;y'",
 ];
 
 /// Some lines between the lock's coming and, most often, its going.
@@ -461,9 +468,9 @@ fn full_queue(script: &mut Script) -> io::Result<()> {
     Ok(())
 }
 
-static ALLOWED_ERRORS: [i32; 20] = [
-    101, 102, 104, 108, 109, 113, 121, 123, 124, 131, 138, 141, 221, 222, 314, 350, 363, 410, 420,
-    430,
+static ALLOWED_ERRORS: [i32; 23] = [
+    101, 102, 104, 108, 109, 113, 121, 123, 124, 131, 138, 141, 150, 151, 221, 222, 223, 314, 350,
+    363, 410, 420, 430,
 ];
 
 static REGISTERS: [&str; 3] = ["esr", "ese", "sre"];
@@ -513,7 +520,9 @@ fn number_for_any_time(dice: &mut Dice) -> (Field, i32) {
         _ => {
             let number = match dice.below(3) {
                 0 => dice.below(65_536) as i32,
-                1 => dice.pick(&[0, 100, 103, 114, 130, 132, 150, 220, 223, 313, 351, 440]),
+                1 => dice.pick(&[
+                    0, 100, 103, 114, 130, 132, 149, 152, 220, 224, 313, 351, 440,
+                ]),
                 _ => dice.pick(&ALLOWED_ERRORS),
             };
             (Field::Error(dice.below(16)), number)
@@ -525,7 +534,7 @@ fn number_for_any_time(dice: &mut Dice) -> (Field, i32) {
 fn hand_made_from_power_up(script: &mut Script, lines: &Lines) -> io::Result<()> {
     script.power_up()?;
     for _ in 0..1 + script.dice.below(3) {
-        match script.dice.below(5) {
+        match script.dice.below(6) {
             0 => {
                 let length = script
                     .dice
@@ -537,6 +546,10 @@ fn hand_made_from_power_up(script: &mut Script, lines: &Lines) -> io::Result<()>
                 script.overwrite(Field::Answer, length)?;
             }
             2 => hand_made_queue(script)?,
+            3 => {
+                let text = strings::hand_made(&mut script.dice);
+                script.overwrite_text(&text)?;
+            }
             _ => {
                 let (field, value) = number_for_any_time(&mut script.dice);
                 script.overwrite(field, value)?;

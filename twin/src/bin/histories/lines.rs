@@ -3,6 +3,7 @@
 use twin::paper::{nodes, suffixes, Printed, Use, HEADERS, OF_01};
 
 use crate::dice::Dice;
+use crate::strings;
 
 #[derive(Clone, Copy, PartialEq, Eq)]
 pub enum Manner {
@@ -245,7 +246,7 @@ impl Lines {
         let mut line = self.good(dice);
         let place = dice.below(line.len());
         let byte = match dice.below(4) {
-            0 => dice.pick(b";:,*?. _#\"E-+0\0\t"),
+            0 => dice.pick(b";:,*?. _#\"\"''E-+0\0\t"),
             1 => 127 + dice.below(129) as u8,
             _ => 33 + dice.below(94) as u8,
         };
@@ -323,6 +324,7 @@ impl Lines {
             _ if query => None,
             Use::QueryOnly | Use::CommandOnly | Use::Both => None,
             Use::StorePlace => Some(number(dice, 0, 90, false)),
+            Use::Text => Some(strings::good(dice)),
             Use::Bool if self.manner == Manner::Plain => Some(dice.pick(&PLAIN_BOOLS).into()),
             Use::Bool => Some(dice.pick(&VARIED_BOOLS).into()),
             Use::Words(words) => {

@@ -3,7 +3,7 @@
 
 use std::io::{self, Write};
 
-use twin::{SetName, State, Table, STORE_LENGTH};
+use twin::{SetName, State, Table, Text, STORE_LENGTH};
 
 use crate::dice::Dice;
 
@@ -52,7 +52,7 @@ impl<'output> Script<'output> {
 
     pub fn piece(&mut self, bytes: &[u8]) -> io::Result<()> {
         let _ = self.table.piece(bytes);
-        let hex: String = bytes.iter().map(|byte| format!("{byte:02X}")).collect();
+        let hex = write_hex(bytes);
         writeln!(self.output, "{}", format!("p {hex}").trim_end())?;
         self.count()
     }
@@ -84,6 +84,19 @@ impl<'output> Script<'output> {
     pub fn overwrite(&mut self, field: Field, value: i32) -> io::Result<()> {
         field.overwrite(&mut self.table.state, value);
         writeln!(self.output, "x {} {value}", field.name())?;
+        self.count()
+    }
+
+    /// Overwrites the text of the raw record with up to 32 bytes.
+    pub fn overwrite_text(&mut self, bytes: &[u8]) -> io::Result<()> {
+        let mut text = Text::EMPTY;
+        text.bytes[..bytes.len()].copy_from_slice(bytes);
+        self.table.state.instrument.settings.text = text;
+        let hex = match write_hex(bytes) {
+            empty if empty.is_empty() => "-".to_string(),
+            hex => hex,
+        };
+        writeln!(self.output, "x text {hex}")?;
         self.count()
     }
 
@@ -198,6 +211,10 @@ impl<'output> Script<'output> {
             _ => self.dice.below(8) as u16,
         }
     }
+}
+
+fn write_hex(bytes: &[u8]) -> String {
+    bytes.iter().map(|byte| format!("{byte:02X}")).collect()
 }
 
 /// A number of the raw record.

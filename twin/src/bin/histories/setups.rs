@@ -7,6 +7,7 @@ use twin::{BLOCK_LENGTH, LONGEST_STORE, PLACES, STORE_LENGTH};
 use crate::dice::Dice;
 use crate::hostile::SETTING_LIMITS;
 use crate::script::Script;
+use crate::strings;
 
 /// Of a pupil's kind: something is saved, and later recalled if it is there.
 pub fn mild(script: &mut Script) -> io::Result<()> {
@@ -87,6 +88,8 @@ fn save(dice: &mut Dice) -> String {
         "SYST:EXAM 1;",
         "SYST:KLOC 1;:OUTP:PON 1;REL 0;MON:MODE CURR;",
         "*RST;",
+        "DISP:TEXT \"Bench 7, left; off\";",
+        "DISP:TEXT '';",
     ]);
     let after = dice.pick(&["", "", "", ";*RST", ";:VOLT 1", ";:VOLT 99", ";*STB?"]);
     let place = few(dice);
@@ -174,7 +177,7 @@ fn spoil(script: &mut Script) -> io::Result<()> {
 fn some_byte(dice: &mut Dice) -> usize {
     match dice.below(4) {
         0 => dice.below(BLOCK_LENGTH),
-        1 => dice.pick(&[0, 1, 33, 34, 35, 506, 507, 508, 509, 510, 511]),
+        1 => dice.pick(&[0, 1, 33, 34, 35, 64, 65, 66, 506, 507, 508, 509, 510, 511]),
         _ => dice.below(36),
     }
 }
@@ -208,6 +211,10 @@ fn hand_made(script: &mut Script) -> io::Result<()> {
             _ => between,
         };
         block[2 * setting..][..2].copy_from_slice(&((value + 256) as u16).to_le_bytes());
+    }
+    if script.dice.chance(60) {
+        let text = strings::hand_made(&mut script.dice);
+        block[34..][..text.len()].copy_from_slice(&text);
     }
     if script.dice.chance(30) {
         block[script.dice.below(508)] = script.dice.below(256) as u8;
