@@ -14,6 +14,7 @@ pub mod Number
 pub mod NumberParts
 pub mod Rounding
 pub mod RoundingParts
+pub mod Label
 pub mod Settings
 pub mod SettingsParts
 pub mod Setup

@@ -1,6 +1,8 @@
 -- "The sixteen settings", and SYSTem:EXAM as the seventeenth (02, #107): headers, values, steps, limits and values at *RST, and how a
 -- value is answered. Checks 7 and 8, exam mode, and refusal 4 on the settings, by these limits.
+-- And DISPlay:TEXT (02, #109), whose value is a text and stands beside the table.
 -- A bool is 0 or 1, a word its place in its list from 0, and a number is counted in its steps.
+use mathlib.Core.Path.{_≡_}
 use mathlib.Core.Bool.{Bool, true, false, not, _&&_, _||_}
 use mathlib.Core.List.{List, [], _∷_, map}
 use Prim.Native.Nat.{ℕ, pred}
@@ -10,6 +12,7 @@ use lib.ListN.{length, getD, set}
 use lib.IntN.{ℤ, pos, negsuc, negℤ}
 use lib.Signed.{leZ, ltZ}
 use Rattle.registers.specs.Text.{Text, if_then_else_, below}
+use Rattle.registers.specs.Label.{mostText, padded, heldIn, possibleText}
 use Rattle.registers.specs.Answer.{decimal, tenths, signedText}
 use Rattle.registers.specs.Words.{Node, must, may, shortForm}
 use Rattle.registers.specs.declared.rounding.Side.{Side}
@@ -98,11 +101,23 @@ abbrev pub valueAt : Settings → ℕ → ℤ
 valueAt s i = getD (s .values) i (pos 0)
 
 abbrev pub withValue : ℕ → ℤ → Settings → Settings
-withValue i v s = record { values = set (s .values) i v }
+withValue i v s = record { values = set (s .values) i v; text = s .text }
 
--- "At *RST"
+-- the display's text, and other settings that differ in it alone
+abbrev pub displayed : Settings → Text
+displayed s = heldIn (s .text)
+
+abbrev pub withText : Text → Settings → Settings
+withText t s = record { values = s .values; text = padded mostText t }
+
+-- settings with as many values and bytes of text as their type says
+pub record AsLong (s : Settings) : Type 0 where
+  pub values : length (s .values) ≡ count
+  pub text : length (s .text) ≡ mostText
+
+-- "At *RST"; the text is "empty at *RST"
 unfoldable pub atReset : Settings
-atReset = record { values = map (λ (x : Setting). x .reset) table }
+atReset = record { values = map (λ (x : Setting). x .reset) table; text = padded mostText [] }
 
 -- ---- limits
 
@@ -153,13 +168,20 @@ accepted s x = onStep x || not (examined s)
 unfoldable pub conflict : Settings → ℕ → ℤ → Bool
 conflict s i v = eqb i range && (leZ v (pos 0) && ltZ twelveVolts (valueAt s voltage))
 
--- refusal 4: "a setting outside its limits", "a voltage above its range"
+-- refusal 4: "a setting outside its limits", "a voltage above its range"; the text's limits too
+unfoldable pub possibleValues : Settings → Bool
+possibleValues s = below count (λ i. within s i (valueAt s i))
+
 unfoldable pub possibleSettings : Settings → Bool
-possibleSettings s = below count (λ i. within s i (valueAt s i))
+possibleSettings s = possibleValues s && possibleText (s .text)
 
 -- a value is stored only where checks 7 and 8 let it pass
 unfoldable pub stored : ℕ → ℤ → Settings → Settings
 stored i v s = if within s i v && not (conflict s i v) then withValue i v s else s
+
+-- a text, as the record holds it, is stored only where it is within its limits
+unfoldable pub textStored : Text → Settings → Settings
+textStored t s = if possibleText t then record { values = s .values; text = t } else s
 
 -- ---- "Answers: 0 or 1; plain integers; one decimal for step 0.1 ..; words in short form"
 

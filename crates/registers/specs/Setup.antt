@@ -1,4 +1,4 @@
--- 02, #108: "Saved setups". A block of the lent store holds every setting, and its own check.
+-- 02, #108: "Saved setups". A block of the lent store holds every setting, the display's text among them (#109), and its own check.
 use mathlib.Core.Bool.{Bool, _&&_}
 use mathlib.Core.List.{List, [], _∷_, _++_}
 use Prim.Native.Nat.{ℕ, zero, suc, _+_, _-_, _*_, _/_, _%_}
@@ -6,7 +6,8 @@ use lib.Dec.{eqb, leb}
 use lib.ListN.{length, take, drop, getD, replicate}
 use lib.IntN.{ℤ, pos, negsuc, negℤ}
 use Rattle.registers.specs.Text.{Text, if_then_else_}
-use Rattle.registers.specs.Settings.{atReset, count, valueAt, possibleSettings}
+use Rattle.registers.specs.Label.{mostText, padded}
+use Rattle.registers.specs.Settings.{count, valueAt, possibleSettings, atReset}
 use Rattle.registers.specs.declared.settings.Settings.{Settings}
 
 -- "ten blocks of 512 bytes", of which the check is over "the first 508"
@@ -40,7 +41,8 @@ unfoldable pub checks : Text → Bool
 checks b = eqb (length b) blockSize && eqb (weighted 1 (take checkedSize b)) (lowFirst (drop checkedSize b))
 
 -- ---- the layout, which 02 leaves open: the settings in the order of their table, each in two bytes, low byte first, as its value in steps
--- and 256 more. So a value below zero needs no sign, and no setting can have a block's zeros for its value
+-- and 256 more. So a value below zero needs no sign, and no setting can have a block's zeros for its value. Behind them stands the text as
+-- the settings' record holds it, so that a block that was saved before there was a text has an empty one
 
 unfoldable pub shifted : ℤ → ℕ
 shifted (pos n) = n + 256
@@ -57,8 +59,15 @@ unfoldable pub valuesIn : Text → ℕ → List ℤ
 valuesIn b zero = []
 valuesIn b (suc i) = valuesIn b i ++ valueIn b i ∷ []
 
+-- where the text stands, and what a block says of it
+abbrev pub textPlace : ℕ
+textPlace = 34
+
+unfoldable pub savedText : Text → Text
+savedText b = take mostText (drop textPlace b)
+
 unfoldable pub settingsIn : Text → Settings
-settingsIn b = record { values = valuesIn b count }
+settingsIn b = record { values = valuesIn b count; text = savedText b }
 
 -- the bytes of the first rows
 unfoldable pub bytesOf : Settings → ℕ → Text
@@ -67,7 +76,7 @@ bytesOf s (suc i) = bytesOf s i ++ inBytes 2 (shifted (valueAt s i))
 
 -- "unused bytes are 0"
 unfoldable pub contents : Settings → Text
-contents s = bytesOf s count ++ replicate (checkedSize - 2 * count) 0
+contents s = bytesOf s count ++ (padded mostText (s .text) ++ replicate (checkedSize - (textPlace + mostText)) 0)
 
 -- what *SAV writes
 unfoldable pub blockOf : Settings → Text

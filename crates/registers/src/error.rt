@@ -22,8 +22,11 @@ pub enum Error {
     InvalidSuffix,
     SuffixNotAllowed,
     InvalidCharacterData,
+    StringDataError,
+    InvalidStringData,
     SettingsConflict,
     DataOutOfRange,
+    TooMuchData,
     SaveRecallMemoryLost,
     InputBufferOverrun,
     QueryInterrupted,
@@ -49,8 +52,11 @@ impl Error {
             Error::InvalidSuffix => 131,
             Error::SuffixNotAllowed => 138,
             Error::InvalidCharacterData => 141,
+            Error::StringDataError => 150,
+            Error::InvalidStringData => 151,
             Error::SettingsConflict => 221,
             Error::DataOutOfRange => 222,
+            Error::TooMuchData => 223,
             Error::SaveRecallMemoryLost => 314,
             Error::InputBufferOverrun => 363,
             Error::QueryInterrupted => 410,
@@ -79,7 +85,7 @@ pub(crate) fn event_bit(number: u16) -> u16
 // in an answer, and zeros. The last row is for every number that has no text.
 
 // How many messages there are, and how many bytes the row of one has.
-const MESSAGES: usize = 21;
+const MESSAGES: usize = 24;
 
 const MESSAGE_SIZE: usize = 33;
 
@@ -128,8 +134,11 @@ pub fn write_error(number: u16, tail: &mut [u8]) -> usize
         \x00\x83\x11,\"Invalid suffix\"\0\0\0\0\0\0\0\0\0\0\0\0\0\
         \x00\x8a\x15,\"Suffix not allowed\"\0\0\0\0\0\0\0\0\0\
         \x00\x8d\x19,\"Invalid character data\"\0\0\0\0\0\
+        \x00\x96\x14,\"String data error\"\0\0\0\0\0\0\0\0\0\0\
+        \x00\x97\x16,\"Invalid string data\"\0\0\0\0\0\0\0\0\
         \x00\xdd\x14,\"Settings conflict\"\0\0\0\0\0\0\0\0\0\0\
         \x00\xde\x14,\"Data out of range\"\0\0\0\0\0\0\0\0\0\0\
+        \x00\xdf\x10,\"Too much data\"\0\0\0\0\0\0\0\0\0\0\0\0\0\0\
         \x01\x3a\x1a,\"Save/recall memory lost\"\0\0\0\0\
         \x01\x5e\x11,\"Queue overflow\"\0\0\0\0\0\0\0\0\0\0\0\0\0\
         \x01\x6b\x17,\"Input buffer overrun\"\0\0\0\0\0\0\0\

@@ -6,6 +6,7 @@
 pub mod answer;
 pub mod error;
 pub mod group;
+pub mod label;
 pub mod number;
 mod queue;
 pub mod rounding;

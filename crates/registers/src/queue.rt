@@ -12,7 +12,7 @@ pub(crate) const MOST: usize = 16;
 pub(crate) const LAST: usize = MOST - 1;
 
 // The numbers that 01 and 02 put into the queue.
-const QUEUEABLE: [u16; 20] = [
+const QUEUEABLE: [u16; 23] = [
     101,
     102,
     104,
@@ -25,8 +25,11 @@ const QUEUEABLE: [u16; 20] = [
     131,
     138,
     141,
+    150,
+    151,
     221,
     222,
+    223,
     314,
     350,
     363,

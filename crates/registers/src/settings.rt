@@ -1,9 +1,11 @@
 // The seventeen settings, by their row in 01's table and SYSTem:EXAM after it: bools 0 and 1, words by
 // their place, numbers in steps, the negative peak limit as signed tenths.
+use crate::label;
+use crate::label::TEXT;
 use crate::rounding::Side;
 use crate::suffix::Quantity;
 ghost use mathlib.Core.Path.{_≡_};
-ghost use Rattle.registers.specs.Settings.{valueAt, atReset, lowest, highest, within, conflict, possibleSettings, stored, kindOf, quantityOf, sortOf, meantValues, accepted};
+ghost use Rattle.registers.specs.Settings.{valueAt, atReset, lowest, highest, within, conflict, possibleValues, possibleSettings, stored, textStored, kindOf, quantityOf, sortOf, meantValues, accepted};
 
 // The rows, as every array below has them:
 //
@@ -26,8 +28,10 @@ ghost use Rattle.registers.specs.Settings.{valueAt, atReset, lowest, hig
 //   16  SYSTem:EXAM
 const ROWS: usize = 17;
 
+// The display's text (02, #109) ends before its first zero.
 pub struct Settings {
     pub values: [i32; ROWS],
+    pub text: [u8; TEXT],
 }
 
 // What a row's values are: on or off, words, numbers of step 0.1, numbers of step 1.
@@ -70,6 +74,7 @@ impl Settings {
     {
         Settings {
             values: [0, 0, 1, 2, 0, 0, 500, 10, 1, 1, 1, 1, 40, -40, 50, 0, 0],
+            text: [0; TEXT],
         }
     }
 
@@ -188,9 +193,20 @@ impl Settings {
         self
     }
 
+    // Stores a text as the record holds it, where its limits let it pass, so that no caller can break them.
+    pub fn store_text(self, text: [u8; TEXT]) -> Settings
+        ensures { λ r. ⌜ r ≡ textStored text self ⌝ }
+    {
+        if !label::possible(&text) {
+            return self;
+        }
+        let values = self.values;
+        Settings { values, text }
+    }
+
     // Refusal 4 lets no value pass that is outside its limits.
-    pub fn possible(self) -> bool
-        ensures { λ r. ⌜ r ≡ possibleSettings self ⌝ }
+    fn values_possible(self) -> bool
+        ensures { λ r. ⌜ r ≡ possibleValues self ⌝ }
     {
         let values = self.values;
         let mut row: usize = 0;
@@ -202,5 +218,13 @@ impl Settings {
             row += 1;
         }
         true
+    }
+
+    // Nor a text that is outside its own.
+    pub fn possible(self) -> bool
+        ensures { λ r. ⌜ r ≡ possibleSettings self ⌝ }
+    {
+        let text = self.text;
+        self.values_possible() & label::possible(&text)
     }
 }

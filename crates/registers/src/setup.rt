@@ -1,16 +1,21 @@
 // Saved setups (02, #108): a block of the lent store holds every setting, and its own check.
+use crate::answer;
+use crate::label::TEXT;
 use crate::settings::Settings;
 ghost use mathlib.Core.Path.{_≡_};
 ghost use mathlib.Core.Bool.{true};
 ghost use Prim.Native.Nat.{ℕ, _+_, _*_, _≤_, _<_};
 ghost use lib.ListN.{length};
 ghost use Rattle.registers.specs.Settings.{count};
-ghost use Rattle.registers.specs.Setup.{blockSize, checkedSize, weighted, lowFirst, checks, shifted, unshifted, blockOf, valueIn, saidIn, recallable};
+ghost use Rattle.registers.specs.Setup.{blockSize, checkedSize, weighted, lowFirst, checks, shifted, unshifted, blockOf, valueIn, savedText, saidIn, recallable};
 
 // The bytes of a block, and those that its check is over.
 pub const BLOCK: usize = 512;
 
 const CHECKED: usize = 508;
+
+// Where the text stands in a block, behind the values.
+const TEXT_AT: usize = 34;
 
 // What a block says: whether *RCL takes it, and its settings.
 pub struct Recalled {
@@ -95,6 +100,16 @@ fn value_in(block: &[u8], row: usize) -> i32
     unshift(wide(block[at]) + wide(block[at + 1]) * 256)
 }
 
+// Reads the text, as the record of the settings holds it.
+fn text_in(block: &[u8]) -> [u8; TEXT]
+    requires { ⌜ length (now block) ≡ blockSize ⌝ }
+    ensures { λ r. ⌜ r ≡ savedText (now (block .entry)) ⌝ }
+{
+    let mut text = [0u8; TEXT];
+    answer::text_at(&block[TEXT_AT..TEXT_AT + TEXT], &mut text, 0);
+    text
+}
+
 // Reads every setting of a block, and tells whether its check holds and each is within its limits. A block whose check fails is
 // read as what *RST leaves.
 pub fn recall(block: &[u8]) -> Recalled
@@ -113,6 +128,7 @@ pub fn recall(block: &[u8]) -> Recalled
         settings.values[row] = value_in(block, row);
         row += 1;
     }
+    settings.text = text_in(block);
     Recalled {
         good: settings.possible(),
         settings,
@@ -124,6 +140,7 @@ pub fn block_of(settings: Settings) -> [u8; BLOCK]
     ensures { λ r. ⌜ r ≡ blockOf settings ⌝ }
 {
     let values = settings.values;
+    let text = settings.text;
     let mut block = [0u8; BLOCK];
     let mut row: usize = 0;
     while row < Settings::COUNT {
@@ -133,6 +150,7 @@ pub fn block_of(settings: Settings) -> [u8; BLOCK]
         block[at + 1] = (n / 256 % 256) as u8;
         row += 1;
     }
+    answer::text_at(&text, &mut block, TEXT_AT);
     let sum = weigh(&block[0..CHECKED]);
     block[CHECKED] = (sum % 256) as u8;
     block[CHECKED + 1] = (sum / 256 % 256) as u8;

@@ -6,7 +6,7 @@ use lib.Dec.{eqb}
 use Rattle.registers.specs.Text.{if_then_else_}
 use Rattle.registers.specs.Error.{numberOf}
 use Rattle.registers.specs.declared.error.Error.{Error}
-use Rattle.registers.specs.declared.error.Error.the-variants.{InvalidCharacter, Syntax, DataType, ParameterNotAllowed, MissingParameter, UndefinedHeader, InvalidCharacterInNumber, ExponentTooLarge, TooManyDigits, InvalidSuffix, SuffixNotAllowed, InvalidCharacterData, SettingsConflict, DataOutOfRange, SaveRecallMemoryLost, InputBufferOverrun, QueryInterrupted, QueryUnterminated, QueryDeadlocked}
+use Rattle.registers.specs.declared.error.Error.the-variants.{InvalidCharacter, Syntax, DataType, ParameterNotAllowed, MissingParameter, UndefinedHeader, InvalidCharacterInNumber, ExponentTooLarge, TooManyDigits, InvalidSuffix, SuffixNotAllowed, InvalidCharacterData, StringDataError, InvalidStringData, SettingsConflict, DataOutOfRange, TooMuchData, SaveRecallMemoryLost, InputBufferOverrun, QueryInterrupted, QueryUnterminated, QueryDeadlocked}
 
 errors : List Error
 errors =
@@ -22,8 +22,11 @@ errors =
     ∷ InvalidSuffix
     ∷ SuffixNotAllowed
     ∷ InvalidCharacterData
+    ∷ StringDataError
+    ∷ InvalidStringData
     ∷ SettingsConflict
     ∷ DataOutOfRange
+    ∷ TooMuchData
     ∷ SaveRecallMemoryLost
     ∷ InputBufferOverrun
     ∷ QueryInterrupted
@@ -51,8 +54,11 @@ back TooManyDigits = refl
 back InvalidSuffix = refl
 back SuffixNotAllowed = refl
 back InvalidCharacterData = refl
+back StringDataError = refl
+back InvalidStringData = refl
 back SettingsConflict = refl
 back DataOutOfRange = refl
+back TooMuchData = refl
 back SaveRecallMemoryLost = refl
 back InputBufferOverrun = refl
 back QueryInterrupted = refl

@@ -14,7 +14,7 @@ use mir.Val.{SFits, toZ, ofZ}
 use mir.Facts.{toZ-ofZ}
 use borrow.Author.Tests.{ltb-true, ltb-false}
 use Rattle.registers.specs.Text.{if_then_else_, below}
-use Rattle.registers.specs.Settings.{Kind, bool, Setting, table, row, kindOf, quantityOf, settingAt, lowestOf, highestOf, lowest, highest, wideRange, voltage, range, twelveVolts, valueAt, Sort, bools, someWords, numbers, sortOf, meantValues, within, conflict, stored, withValue, count, possibleSettings}
+use Rattle.registers.specs.Settings.{Kind, bool, Setting, table, row, kindOf, quantityOf, settingAt, lowestOf, highestOf, lowest, highest, wideRange, voltage, range, twelveVolts, valueAt, Sort, bools, someWords, numbers, sortOf, meantValues, within, conflict, stored, withValue, count, possibleValues}
 use Rattle.registers.specs.SettingsParts.{lows, highs, kinds, valuesFrom, quantities, quantityFrom}
 use Rattle.registers.specs.declared.settings.Settings.{Settings}
 use Rattle.registers.specs.declared.settings.Values.{Values}
@@ -164,10 +164,10 @@ module _ (i : ℕ) (v : ℤ) (s : Settings) where
 
 -- ---- refusal 4 on the settings, row by row
 
-pub impossible : (s : Settings) (i : ℕ) → i < count → within s i (valueAt s i) ≡ false → false ≡ possibleSettings s
-unfolding possibleSettings
+pub impossible : (s : Settings) (i : ℕ) → i < count → within s i (valueAt s i) ≡ false → false ≡ possibleValues s
+unfolding possibleValues
 impossible s i h e = sym (below-fails count (λ k. within s k (valueAt s k)) i h e)
 
-pub all-possible : (s : Settings) (i : ℕ) → i ≡ count → below i (λ k. within s k (valueAt s k)) ≡ true → true ≡ possibleSettings s
-unfolding possibleSettings
+pub all-possible : (s : Settings) (i : ℕ) → i ≡ count → below i (λ k. within s k (valueAt s k)) ≡ true → true ≡ possibleValues s
+unfolding possibleValues
 all-possible s i e h = sym (rw e at h)

@@ -12,9 +12,10 @@ use lib.IntN.{ℤ, pos, negsuc}
 use lib.Signed.{leZ, ltZ}
 use borrow.Author.Tests.{eqb-true, eqb-false, leb-true, le-leb, not-false, ltb-true, ltb-false}
 use Rattle.registers.specs.Text.{if_then_else_}
-use Rattle.registers.specs.Settings.{table, settingAt, kindOf, highestOf, within, lowest, highest, valueAt, withValue, voltage, range, count, twelveVolts, wideRange, conflict, stored, possibleSettings, atReset}
+use Rattle.registers.specs.Settings.{table, settingAt, kindOf, highestOf, within, lowest, highest, valueAt, withValue, voltage, range, count, twelveVolts, wideRange, conflict, stored, possibleValues, possibleSettings, atReset}
+use Rattle.registers.specs.Label.{padded, possibleText}
 use Rattle.registers.specs.declared.settings.Settings.{Settings}
-use Rattle.registers.proofs.Tests.{and-both, below-at, below-from, ltZ-not}
+use Rattle.registers.proofs.Tests.{and-both, and-true, below-at, below-from, ltZ-not}
 use Rattle.registers.proofs.settings.Laws.{stored-yes, stored-outside, stored-conflict}
 
 -- the highest value goes by the range, and of the voltage alone
@@ -65,12 +66,16 @@ abbrev pub Good : Settings → Type 0
 Good s = (j : ℕ) → j < count → within s j (valueAt s j) ≡ true
 
 pub good-from : (s : Settings) → possibleSettings s ≡ true → Good s
-unfolding possibleSettings
-good-from s e = below-at count (λ j. within s j (valueAt s j)) e
+unfolding possibleSettings possibleValues
+good-from s e = below-at count (λ j. within s j (valueAt s j)) (and-both (possibleValues s) (possibleText (s .text)) e .0)
 
-pub good-to : (s : Settings) → Good s → possibleSettings s ≡ true
+pub text-from : (s : Settings) → possibleSettings s ≡ true → possibleText (s .text) ≡ true
 unfolding possibleSettings
-good-to s g = below-from count (λ j. within s j (valueAt s j)) g
+text-from s e = and-both (possibleValues s) (possibleText (s .text)) e .1
+
+pub good-to : (s : Settings) → Good s → possibleText (s .text) ≡ true → possibleSettings s ≡ true
+unfolding possibleSettings possibleValues
+good-to s g t = and-true (below-from count (λ j. within s j (valueAt s j)) g) t
 
 -- the voltage, where the range is what changes
 voltage-fits : (s : Settings) (v : ℤ) → length (s .values) ≡ count → conflict s range v ≡ false
@@ -114,7 +119,7 @@ module _ (s : Settings) (i : ℕ) (v : ℤ) (long : length (s .values) ≡ count
       go false q = rw (getD-set-other (s .values) i j v (pos 0) (eqb-false j i q)) (there-fits j h)
 
 pub reset-possible : possibleSettings atReset ≡ true
-unfolding possibleSettings atReset table within lowest highest wideRange settingAt if_then_else_
+unfolding possibleSettings possibleValues possibleText padded atReset table within lowest highest wideRange settingAt if_then_else_
 reset-possible = refl
 
 -- whatever is stored, whether or not checks 7 and 8 let it pass
@@ -122,10 +127,10 @@ pub stored-possible : (i : ℕ) (v : ℤ) (s : Settings) → length (s .values) 
 stored-possible i v s long p = go (within s i v) refl (conflict s i v) refl
   where
     inside : within s i v ≡ true → conflict s i v ≡ false → (t : Bool) → ltb i count ≡ t → possibleSettings (withValue i v s) ≡ true
-    inside w c true e = good-to (withValue i v s) (value-good s i v long (good-from s p) w c (ltb-true i count e))
+    inside w c true e = good-to (withValue i v s) (value-good s i v long (good-from s p) w c (ltb-true i count e)) (text-from s p)
     inside w c false e =
         let out : set (s .values) i v ≡ s .values = set-out (s .values) i v (let h = ltb-false i count e in omega arith) in
-        ap (λ (l : List ℤ). possibleSettings (record { values = l })) out ∙ p
+        ap (λ (l : List ℤ). possibleSettings (record { values = l; text = s .text })) out ∙ p
 
     go : (a : Bool) → within s i v ≡ a → (b : Bool) → conflict s i v ≡ b → possibleSettings (stored i v s) ≡ true
     go true w false c = rw (stored-yes i v s w c) (inside w c (ltb i count) refl)

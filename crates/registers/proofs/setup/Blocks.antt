@@ -6,7 +6,7 @@ use Prim.Native.Nat.{ℕ, zero, suc, _+_, _-_, _*_, _/_, _%_, _^_, _≤_, _<_, z
 use native.Mathlib.Omega.{arith}
 use native.Mathlib.Numerals.{add-one}
 use lib.Dec.{leb, eqb}
-use lib.ListN.{length, take, drop, set, getD, replicate, length-append, length-replicate}
+use lib.ListN.{length, take, drop, set, getD, replicate, length-take, length-drop, length-append, length-replicate}
 use lib.Seq.{set-at, take-at, take-suc-set, take-all, append-snoc}
 use lib.IntN.{ℤ, pos, negsuc, negℤ, natAbs}
 use lib.Signed.{ltZ}
@@ -14,12 +14,15 @@ use mir.Syntax.{w32}
 use mir.Val.{SFits}
 use borrow.Author.Tests.{eqb-true, ltb-true, le-leb, lt-leb, not-true, not-false}
 use Rattle.registers.specs.Text.{Text, if_then_else_}
+use Rattle.registers.specs.Answer.{over}
+use Rattle.registers.specs.AnswerParts.{overAt, LaidAt}
+use Rattle.registers.specs.Label.{mostText, padded}
 use Rattle.registers.specs.Settings.{table, atReset, count, valueAt, possibleSettings}
-use Rattle.registers.specs.Setup.{blockSize, checkedSize, weighted, inBytes, checks, shifted, unshifted, valueIn, valuesIn, settingsIn, bytesOf, contents, blockOf, recallable, saidIn}
+use Rattle.registers.specs.Setup.{blockSize, checkedSize, weighted, inBytes, checks, shifted, unshifted, valueIn, valuesIn, textPlace, savedText, settingsIn, bytesOf, contents, blockOf, recallable, saidIn}
 use Rattle.registers.specs.declared.settings.Settings.{Settings}
 use Rattle.registers.proofs.Tests.{and-both}
 use Rattle.registers.proofs.answer.Signs.{neg-fits}
-use Rattle.registers.proofs.setup.Laws.{bytes-long, contents-long}
+use Rattle.registers.proofs.setup.Laws.{bytes-long, contents-long, padded-whole}
 
 -- ---- a value shifted
 
@@ -92,13 +95,14 @@ read-on b values more row v g h e s l =
     let long = g .long in
     record { within = omega arith; long = l; is = rw (s, add-one row, take-suc-set values row v (omega arith), g .is, e) }
 
-pub read-end : (b : Text) (s : Settings) (row : ℕ) → Reading b (s .values) row → count ≤ row → s ≡ settingsIn b
+pub read-end : (b : Text) (values : List ℤ) (text : Text) (row : ℕ) → Reading b values row → count ≤ row → text ≡ savedText b
+    → record { values = values; text = text } ≡ settingsIn b
 unfolding settingsIn
-read-end b s row g h =
+read-end b values text row g h is =
     let k = g .within in
     let long = g .long in
     let e : row ≡ count = omega arith in
-    ap (λ (l : List ℤ). record { values = l }) (sym (take-all count (s .values) (omega arith)) ∙ (rw e at (g .is)))
+    ap₂ (λ (l : List ℤ) (t : Text). record { values = l; text = t }) (sym (take-all count values (omega arith)) ∙ (rw e at (g .is))) is
 
 pub recall-no : (b : Text) (t : Bool) → t ≡ checks b → not t ≡ true → false ≡ recallable b
 unfolding recallable
@@ -125,39 +129,72 @@ fill xs n k a b e =
     let l : length (xs ++ a ∷ []) ≡ k + 1 = rw length-append (omega arith) in
     rw (set-at xs 0 (0 ∷ replicate n 0) a k e, ← append-snoc xs a (0 ∷ replicate n 0), set-at (xs ++ a ∷ []) 0 (replicate n 0) b (k + 1) l, append-assoc xs (a ∷ []) (b ∷ replicate n 0), append-assoc xs (a ∷ b ∷ []) (replicate n 0))
 
-pub record Filling (values : List ℤ) (block : Text) (row : ℕ) : Type 0 where
+pub record Filling (s : Settings) (block : Text) (row : ℕ) : Type 0 where
   pub within : row ≤ count
-  pub is : block ≡ bytesOf (record { values = values }) row ++ replicate (blockSize - 2 * row) 0
+  pub is : block ≡ bytesOf s row ++ replicate (blockSize - 2 * row) 0
 
-pub fill-long : (values : List ℤ) (block : Text) (row : ℕ) → Filling values block row → length block ≡ blockSize
-fill-long values block row g =
+pub fill-long : (s : Settings) (block : Text) (row : ℕ) → Filling s block row → length block ≡ blockSize
+fill-long s block row g =
     let k = g .within in
-    let n = bytes-long (record { values = values }) row in
+    let n = bytes-long s row in
     let z : length (replicate {A = ℕ} (blockSize - 2 * row) 0) ≡ blockSize - 2 * row = length-replicate {A = ℕ} (blockSize - 2 * row) 0 in
     rw (g .is, length-append, z) (omega arith)
 
-pub fill-begun : (values : List ℤ) → Filling values (replicate blockSize 0) 0
+pub fill-begun : (s : Settings) → Filling s (replicate blockSize 0) 0
 unfolding bytesOf
-fill-begun values = record { within = zero-le; is = refl }
+fill-begun s = record { within = zero-le; is = refl }
 
-pub fill-on : (values : List ℤ) (block : Text) (row n : ℕ) → Filling values block row → row < count → n ≡ shifted (getD values row (pos 0))
-    → Filling values (set (set block (row * 2) (n % 256)) (row * 2 + 1) (n / 256 % 256)) (row + 1)
+pub fill-on : (s : Settings) (block : Text) (row n : ℕ) → Filling s block row → row < count → n ≡ shifted (valueAt s row)
+    → Filling s (set (set block (row * 2) (n % 256)) (row * 2 + 1) (n / 256 % 256)) (row + 1)
 unfolding bytesOf inBytes
-fill-on values block row n g h e =
-    let s : Settings = record { values = values } in
+fill-on s block row n g h e =
     let k : blockSize - 2 * row ≡ suc (suc (blockSize - 2 * (suc row))) = omega arith in
     let l = bytes-long s row in
     record { within = omega arith; is = rw (g .is, k, add-one row, fill (bytesOf s row) (blockSize - 2 * suc row) (row * 2) (n % 256) (n / 256 % 256) (omega arith), e) }
 
--- the whole block, with its sum in the last four bytes
-pub block-made : (s : Settings) (block : Text) (row sum : ℕ) → Filling (s .values) block row → count ≤ row → sum ≡ weighted 1 (take (checkedSize - 0) (drop 0 block))
-    → set (set (set (set block 508 (sum % 256)) 509 (sum / 256 % 256)) 510 (sum / 256 / 256 % 256)) 511 (sum / 256 / 256 / 256 % 256) ≡ blockOf s
-unfolding blockOf contents inBytes
-block-made s block row sum g h e =
+-- a text laid over zeros
+over-zeros : (t : Text) (m n : ℕ) → m ≡ length t + n → over t (replicate m 0) ≡ t ++ replicate n 0
+unfolding over
+over-zeros [] m n e = let k : m ≡ n = omega arith in ap (λ (i : ℕ). replicate i 0) k
+over-zeros (b ∷ t) zero n e = absurd (omega arith)
+over-zeros (b ∷ t) (suc m) n e = ap (λ (l : Text). b ∷ l) (over-zeros t m n (omega arith))
+
+over-behind : (xs t tail : Text) → overAt (length xs) t (xs ++ tail) ≡ xs ++ over t tail
+unfolding overAt
+over-behind [] t tail = refl
+over-behind (x ∷ xs) t tail = ap (λ (l : Text). x ∷ l) (over-behind xs t tail)
+
+-- the text of a block read over zeros
+pub text-read : (b laid : Text) (end : ℕ) → length b ≡ blockSize → LaidAt 0 (take (66 - textPlace) (drop textPlace b)) (replicate mostText 0) end laid → laid ≡ savedText b
+unfolding savedText overAt
+text-read b laid end h w =
+    let t = take mostText (drop textPlace b) in
+    let n : length t ≡ mostText = rw (length-take, length-drop) (omega arith) in
+    w .bytes ∙ over-zeros t mostText 0 (omega arith) ∙ append-nil t
+
+-- the text laid behind the values
+pub text-filled : (s : Settings) (block laid : Text) (row end : ℕ) → Filling s block row → count ≤ row → length (s .text) ≡ mostText
+    → LaidAt textPlace (s .text) block end laid → laid ≡ contents s ++ replicate 4 0
+unfolding contents
+text-filled s block laid row end g h long w =
     let k = g .within in
     let r : row ≡ count = omega arith in
+    let l = bytes-long s count in
+    let rest = checkedSize - (textPlace + mostText) in
+    let whole : padded mostText (s .text) ≡ s .text = ap (λ (n : ℕ). padded n (s .text)) (sym long) ∙ padded-whole (s .text) in
+    let zeros : blockSize - 2 * count ≡ length (s .text) + (rest + 4) = omega arith in
+    let is : block ≡ bytesOf s count ++ replicate (blockSize - 2 * count) 0 = rw r at (g .is) in
+    let at : textPlace ≡ length (bytesOf s count) = omega arith in
+    w .bytes ∙ ap₂ (λ (n : ℕ) (b : Text). overAt n (s .text) b) at is ∙ over-behind (bytesOf s count) (s .text) (replicate (blockSize - 2 * count) 0)
+    ∙ ap (λ (t : Text). bytesOf s count ++ t) (over-zeros (s .text) (blockSize - 2 * count) (rest + 4) zeros ∙ ap (λ (t : Text). t ++ replicate (rest + 4) 0) (sym whole) ∙ sym (append-assoc (padded mostText (s .text)) (replicate rest 0) (replicate 4 0)))
+    ∙ sym (append-assoc (bytesOf s count) (padded mostText (s .text) ++ replicate rest 0) (replicate 4 0))
+
+-- the whole block, with its sum in the last four bytes
+pub block-made : (s : Settings) (block : Text) (sum : ℕ) → block ≡ contents s ++ replicate 4 0 → sum ≡ weighted 1 (take (checkedSize - 0) (drop 0 block))
+    → set (set (set (set block 508 (sum % 256)) 509 (sum / 256 % 256)) 510 (sum / 256 / 256 % 256)) 511 (sum / 256 / 256 / 256 % 256) ≡ blockOf s
+unfolding blockOf inBytes
+block-made s block sum is e =
     let l = contents-long s in
-    let is : block ≡ contents s ++ replicate 4 0 = (rw r at (g .is)) ∙ sym (append-assoc (bytesOf s count) (replicate (checkedSize - 2 * count) 0) (replicate 4 0)) in
     let n : sum ≡ weighted 1 (contents s) = e ∙ ap (λ (b : Text). weighted 1 (take checkedSize b)) is ∙ ap (weighted 1) (take-at (contents s) (replicate 4 0) checkedSize l) in
     let m : length (contents s ++ sum % 256 ∷ sum / 256 % 256 ∷ []) ≡ 510 = rw length-append (omega arith) in
     rw (is, fill (contents s) 2 508 (sum % 256) (sum / 256 % 256) l, fill (contents s ++ sum % 256 ∷ sum / 256 % 256 ∷ []) 0 510 (sum / 256 / 256 % 256) (sum / 256 / 256 / 256 % 256) m, append-nil, append-assoc, n)

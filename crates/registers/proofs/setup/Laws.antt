@@ -11,12 +11,14 @@ use lib.Seq.{take-set-lt, take-set-le, drop-set-lt, drop-set-add, getD-take, get
 use lib.IntN.{ℤ, pos, negsuc}
 use lib.Signed.{leZ}
 use borrow.Author.Tests.{eqb-true, eqb-false, eq-eqb, ltb-true, ltb-false, le-leb, lt-leb, leb-true}
-use Rattle.registers.specs.Text.{Text, if_then_else_, every, below}
-use Rattle.registers.specs.Settings.{table, settingAt, count, voltage, kindOf, highestOf, twelveVolts, wideRange, valueAt, within, lowest, highest, possibleSettings}
-use Rattle.registers.specs.Setup.{blockSize, checkedSize, weighted, lowFirst, inBytes, checks, shifted, unshifted, valueIn, valuesIn, settingsIn, bytesOf, contents, blockOf, recallable, blockAt, savedAt, saidIn}
+use Rattle.registers.specs.Text.{Text, if_then_else_, every, below, between}
+use Rattle.registers.specs.Label.{mostText, mayStand, forbidden, padded, heldIn, possibleText}
+use Rattle.registers.specs.Settings.{table, settingAt, count, voltage, kindOf, highestOf, twelveVolts, wideRange, valueAt, displayed, AsLong, within, lowest, highest, possibleValues, possibleSettings}
+use Rattle.registers.specs.Setup.{blockSize, checkedSize, weighted, lowFirst, inBytes, checks, shifted, unshifted, valueIn, valuesIn, textPlace, savedText, settingsIn, bytesOf, contents, blockOf, recallable, blockAt, savedAt, saidIn}
 use Rattle.registers.specs.declared.settings.Settings.{Settings}
 use Rattle.registers.proofs.Tests.{and-both, and-true, below-at}
-use Rattle.registers.proofs.settings.Possible.{good-from}
+use Rattle.registers.proofs.settings.Possible.{good-from, text-from}
+use Rattle.registers.proofs.label.Record.{padded-length}
 
 -- ---- "Any single altered byte in a block is noticed"
 
@@ -83,7 +85,7 @@ module _ (b : Text) (i x : ℕ) (h : i < blockSize) (other : x ≡ getD b i 0 �
 
 -- nor does it take a block that is all zero
 pub zeros-not-recalled : recallable (replicate blockSize 0) ≡ false
-unfolding recallable checks weighted lowFirst settingsIn valuesIn valueIn unshifted possibleSettings within lowest highest wideRange settingAt table if_then_else_
+unfolding recallable checks weighted lowFirst settingsIn valuesIn valueIn unshifted possibleSettings possibleValues within lowest highest wideRange settingAt table if_then_else_
 zeros-not-recalled = refl
 
 -- ---- lengths
@@ -96,9 +98,9 @@ bytes-long s (suc i) = let ih = bytes-long s i in simp length-append (omega arit
 pub contents-long : (s : Settings) → length (contents s) ≡ checkedSize
 unfolding contents
 contents-long s =
-    let n = bytes-long s count in
-    let z : length (replicate {A = ℕ} (checkedSize - 2 * count) 0) ≡ checkedSize - 2 * count = length-replicate {A = ℕ} (checkedSize - 2 * count) 0 in
-    rw (length-append, z) (omega arith)
+    let k = checkedSize - (textPlace + mostText) in
+    length-append (bytesOf s count) (padded mostText (s .text) ++ replicate k 0)
+    ∙ ap₂ _+_ (bytes-long s count) (length-append (padded mostText (s .text)) (replicate k 0) ∙ ap₂ _+_ (padded-length mostText (s .text)) (length-replicate {A = ℕ} k 0))
 
 pub block-long : (s : Settings) → length (blockOf s) ≡ blockSize
 unfolding blockOf inBytes
@@ -126,9 +128,41 @@ unfolding bytesOf
 bytes-sized s zero = refl
 bytes-sized s (suc i) = every-append (bytesOf s i) _ (bytes-sized s i) (two-sized (shifted (valueAt s i)))
 
-contents-sized : (s : Settings) → every byteSized (contents s) ≡ true
+stands-sized : (b : ℕ) → mayStand b ≡ true → byteSized b ≡ true
+unfolding mayStand
+stands-sized b e =
+    let s = and-both (between 32 126 b) (not (forbidden b)) e .0 in
+    let h = leb-true b 126 (and-both (leb 32 b) (leb b 126) s .1) in
+    le-leb b 255 (omega arith)
+
+nothing-sized : (t : Text) → every (λ x. eqb x 0) t ≡ true → every byteSized t ≡ true
+nothing-sized [] e = refl
+nothing-sized (b ∷ t) e =
+    let p = and-both (eqb b 0) (every (λ x. eqb x 0) t) e in
+    let z = eqb-true b 0 (p .0) in
+    and-true (le-leb b 255 (omega arith)) (nothing-sized t (p .1))
+
+text-sized : (t : Text) → possibleText t ≡ true → every byteSized t ≡ true
+unfolding possibleText if_then_else_
+text-sized [] e = refl
+text-sized (b ∷ t) e = go (eqb b 0) refl e (λ k. text-sized t k)
+  where
+    go : (z : Bool) → eqb b 0 ≡ z → (if z then every (λ x. eqb x 0) t else mayStand b && possibleText t) ≡ true
+        → (possibleText t ≡ true → every byteSized t ≡ true) → every byteSized (b ∷ t) ≡ true
+    go true q k more = let z = eqb-true b 0 q in and-true (le-leb b 255 (omega arith)) (nothing-sized t k)
+    go false q k more = let p = and-both (mayStand b) (possibleText t) k in and-true (stands-sized b (p .0)) (more (p .1))
+
+padded-sized : (n : ℕ) (t : Text) → every byteSized t ≡ true → every byteSized (padded n t) ≡ true
+unfolding padded
+padded-sized zero t e = refl
+padded-sized (suc n) [] e = padded-sized n [] refl
+padded-sized (suc n) (b ∷ t) e = let p = and-both (byteSized b) (every byteSized t) e in and-true (p .0) (padded-sized n t (p .1))
+
+contents-sized : (s : Settings) → possibleText (s .text) ≡ true → every byteSized (contents s) ≡ true
 unfolding contents
-contents-sized s = every-append (bytesOf s count) _ (bytes-sized s count) (zeros-sized (checkedSize - 2 * count))
+contents-sized s p =
+    every-append (bytesOf s count) _ (bytes-sized s count)
+    (every-append (padded mostText (s .text)) _ (padded-sized mostText (s .text) (text-sized (s .text) p)) (zeros-sized (checkedSize - (textPlace + mostText))))
 
 -- the term of a place
 pub term : (k b : ℕ) → k ≤ checkedSize → b ≤ 255 → k * b ≤ 129540
@@ -148,11 +182,11 @@ four-back : (n : ℕ) → n < 4294967296 → lowFirst (inBytes 4 n) ≡ n
 unfolding lowFirst inBytes
 four-back n h = omega arith
 
-pub block-checks : (s : Settings) → checks (blockOf s) ≡ true
+pub block-checks : (s : Settings) → possibleText (s .text) ≡ true → checks (blockOf s) ≡ true
 unfolding checks blockOf
-block-checks s =
+block-checks s p =
     let n = contents-long s in
-    let few = weigh-most 1 (contents s) (omega arith) (contents-sized s) in
+    let few = weigh-most 1 (contents s) (omega arith) (contents-sized s p) in
     rw (eq-eqb (length (blockOf s)) blockSize (block-long s), take-at (contents s) (inBytes 4 (weighted 1 (contents s))) checkedSize n, drop-at (contents s) (inBytes 4 (weighted 1 (contents s))) checkedSize n, four-back (weighted 1 (contents s)) (omega arith))
     (eq-eqb (weighted 1 (contents s)) (weighted 1 (contents s)) refl)
 
@@ -205,8 +239,9 @@ module _ (s : Settings) (i : ℕ) (h : i < count) (held : Held (valueAt s i)) wh
   pub value-back : valueIn (blockOf s) i ≡ valueAt s i
   unfolding valueIn blockOf contents
   value-back =
-      let rest = replicate (checkedSize - 2 * count) 0 ++ inBytes 4 (weighted 1 (contents s)) in
-      let whole : blockOf s ≡ bytesOf s count ++ rest = append-assoc (bytesOf s count) (replicate (checkedSize - 2 * count) 0) (inBytes 4 (weighted 1 (contents s))) in
+      let behind : Text = padded mostText (s .text) ++ replicate (checkedSize - (textPlace + mostText)) 0 in
+      let rest = behind ++ inBytes 4 (weighted 1 (contents s)) in
+      let whole : blockOf s ≡ bytesOf s count ++ rest = append-assoc (bytesOf s count) behind (inBytes 4 (weighted 1 (contents s))) in
       let two = row-bytes s count i h rest in
       let back = shift-back (valueAt s i) held in
       ap₂ (λ (x y : ℕ). unshifted (x + 256 * y)) (ap (λ (b : Text). getD b (2 * i) 0) whole ∙ two .0) (ap (λ (b : Text). getD b (2 * i + 1) 0) whole ∙ two .1)
@@ -252,12 +287,36 @@ values-back s long held (suc n) h =
     rw (values-back s long held n (omega arith), value-back s n (omega arith) (held n (omega arith)))
     (sym (take-suc (s .values) n (pos 0) (omega arith)))
 
-pub saved-back : (s : Settings) → length (s .values) ≡ count → possibleSettings s ≡ true → (recallable (blockOf s) ≡ true) × (settingsIn (blockOf s) ≡ s)
+pub padded-whole : (t : Text) → padded (length t) t ≡ t
+unfolding padded
+padded-whole [] = refl
+padded-whole (b ∷ t) = ap (λ (l : Text). b ∷ l) (padded-whole t)
+
+-- the text of the record, as it is
+pub text-back : (s : Settings) → length (s .text) ≡ mostText → savedText (blockOf s) ≡ s .text
+unfolding savedText blockOf contents
+text-back s long =
+    let zeros = replicate {A = ℕ} (checkedSize - (textPlace + mostText)) 0 in
+    let sum = inBytes 4 (weighted 1 (contents s)) in
+    let text = padded mostText (s .text) in
+    let n = bytes-long s count in
+    let behind : drop textPlace (blockOf s) ≡ text ++ (zeros ++ sum) =
+    ap (drop textPlace) (append-assoc (bytesOf s count) (text ++ zeros) sum) ∙ drop-at (bytesOf s count) ((text ++ zeros) ++ sum) textPlace (omega arith) ∙ append-assoc text zeros sum in
+    let whole : text ≡ s .text = ap (λ (k : ℕ). padded k (s .text)) (sym long) ∙ padded-whole (s .text) in
+    ap (take mostText) behind ∙ take-at text (zeros ++ sum) mostText (padded-length mostText (s .text)) ∙ whole
+
+pub saved-back : (s : Settings) → AsLong s → possibleSettings s ≡ true → (recallable (blockOf s) ≡ true) × (settingsIn (blockOf s) ≡ s)
 unfolding recallable settingsIn
 saved-back s long p =
-    let values = values-back s long (good-held s p) count (omega arith) ∙ take-all count (s .values) (omega arith) in
-    let same : settingsIn (blockOf s) ≡ s = ap (λ (l : List ℤ). record { values = l }) values in
-    (and-true (block-checks s) (ap possibleSettings same ∙ p), same)
+    let n = long .values in
+    let values = values-back s n (good-held s p) count (omega arith) ∙ take-all count (s .values) (omega arith) in
+    let same : settingsIn (blockOf s) ≡ s = ap₂ (λ (l : List ℤ) (t : Text). record { values = l; text = t }) values (text-back s (long .text)) in
+    (and-true (block-checks s (text-from s p)) (ap possibleSettings same ∙ p), same)
+
+-- a block that was saved before there was a text has an empty one
+pub older-empty : (b : Text) → savedText b ≡ replicate mostText 0 → displayed (settingsIn b) ≡ []
+unfolding settingsIn if_then_else_
+older-empty b e = ap heldIn e
 
 -- ---- "*SAV touches only its own block"
 
@@ -308,9 +367,11 @@ unfolding valuesIn
 values-long b zero = refl
 values-long b (suc n) = let ih = values-long b n in rw length-append (omega arith)
 
-pub recalled-long : (b : Text) → length (settingsIn b .values) ≡ count
-unfolding settingsIn
-recalled-long b = values-long b count
+pub recalled-long : (b : Text) → recallable b ≡ true → AsLong (settingsIn b)
+unfolding settingsIn savedText recallable checks
+recalled-long b e =
+    let l = eqb-true (length b) blockSize (and-both (eqb (length b) blockSize) _ (and-both (checks b) _ e .0) .0) in
+    record { values = values-long b count; text = rw (length-take, length-drop) (omega arith) }
 
 -- a block that *RCL takes is read as its settings
 pub said-recalled : (b : Text) → recallable b ≡ true → saidIn b ≡ settingsIn b

@@ -35,12 +35,15 @@ loop-again c =
     rw (toZ-ofZ {w = w32} {z = c .value-in .result} (rw (w .1 .2) (unshift-fits (w .1 .0) (w .1 .1))))
     (read-on _ (l .settings .values) _ (l .row) (c .value-in .result) (l .inv) (c .before .loop-test .taken) (w .0) refl (length-set (l .settings .values) (l .row) (c .value-in .result) ∙ l .inv .long))
 
+text-in-requires : tie.Need-text-in-requires Inv-loop μ-loop
+text-in-requires c κs = checked-long _ _ (c .before .before .before .holds .ensures) (c .before .before .if1 .left)
+
 returns-2 : tie.Need-returns-2 Inv-loop μ-loop
 returns-2 c =
-    let l = c .before .before .loop in
-    let is = read-end _ (l .settings) (l .row) (l .inv) (c .before .loop-test .left) in
-    let held = c .before .before .before .before .holds .ensures in
-    let left = c .before .before .before .if1 .left in
+    let l = c .before .before .before .loop in
+    let is = read-end _ (l .settings .values) (c .before .text-in .result) (l .row) (l .inv) (c .before .before .loop-test .left) (c .before .text-in .ensures) in
+    let held = c .before .before .before .before .before .holds .ensures in
+    let left = c .before .before .before .before .if1 .left in
     (recall-yes _ _ _ _ held left is (c .possible .ensures), is ∙ sym (said-yes _ _ held left))
 
 pub recall-spec : {M : Type 1} → statement M
@@ -55,5 +58,6 @@ recall-spec =
     value-in-requires
     (λ c. omega arith) (λ c. search needs) (λ c. omega arith) (λ c. omega arith)
     loop-again
+    text-in-requires
     (λ c κs. tt)
     returns-2)

@@ -40,7 +40,7 @@ returns-4 c =
     let s = c .before .args .t1 in
     let long : length (s .values) ≡ count = search needs in
     let out : set (s .values) (c .before .args .row) (c .before .args .value) ≡ s .values = set-out (s .values) (c .before .args .row) (c .before .args .value) (omega arith) in
-    sym (if-same _ _ s (λ i. record { values = out i }))
+    sym (if-same _ _ s (λ i. record { values = out i; text = s .text }))
 
 pub store-spec : {M : Type 1} → statement M
 store-spec =
