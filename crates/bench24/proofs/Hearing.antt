@@ -8,7 +8,7 @@ use lib.ListN.{length, take, drop, length-drop}
 use lib.IntN.{ℤ}
 use Rattle.io.specs.Counts.{clamped}
 use Rattle.registers.specs.Text.{Text}
-use Rattle.registers.specs.Settings.{count}
+use Rattle.registers.specs.Settings.{AsLong}
 use Rattle.interpreter.specs.Box.{Memory, memory, storeSize, rightSize, powerUp, mostAnswer}
 use Rattle.interpreter.specs.State.{boxOf, possibleState, Started}
 use Rattle.interpreter.specs.Server.{linesOf, WholeLines, heard, hearing, Serves}
@@ -31,11 +31,11 @@ pub record Hearing (start : State) (store₀ : Text) (room : ℕ) (input store o
   pub outputs : length output ≡ room
   pub within : at ≤ length input
   pub possible : possibleState state ≡ true
-  pub long : length (state .settings .values) ≡ count
+  pub long : AsLong (state .settings)
   pub whole : WholeLines at input
   pub box : boxOf state (memory store) ≡ heard (boxOf start (memory store₀)) (linesOf (take at input))
 
-pub hear-begun : (start : State) (store input output : Text) → possibleState start ≡ true → length (start .settings .values) ≡ count
+pub hear-begun : (start : State) (store input output : Text) → possibleState start ≡ true → AsLong (start .settings)
     → length store ≡ storeSize → Hearing start store (length output) input store output start 0
 unfolding linesOf heard
 hear-begun start store input output p long l = record { sized = l; outputs = refl; within = zero-le; possible = p; long = long; whole = refl; box = refl }

@@ -11,13 +11,14 @@ use Rattle.registers.specs.Error.{eventBit}
 use Rattle.registers.specs.Settings.{table, settingAt, atReset, wideRange, lowest, highest, within, conflict, examined, accepted, answerOf}
 use Rattle.registers.specs.Group.{rises, falls, eventsAfter, conditionIs, eventRead}
 use Rattle.registers.specs.Status.{raised, completed, withoutBit6, setBits, summary, statusByte, storedIn, registerIn, atStart}
-use Rattle.interpreter.specs.Cuts.{cutAt, trimEnd, trim}
+use Rattle.registers.specs.Label.{mayStand, closes, undoubled, padded, possibleText}
+use Rattle.interpreter.specs.Cuts.{cutAt, quoteNext, cutOpen, trimEnd, trim}
 use Rattle.interpreter.specs.Header.{name, placed, header, spells, bodyOf, byFirst}
 use Rattle.interpreter.specs.Rows.{settingRows, otherRows, rows, fitsRow, findRow}
-use Rattle.interpreter.specs.Parameter.{parameters, least, greatest, findWord, parameter, valueGiven, settingDeed, limitDeed, registerDeed, deedOf, storeGiven, placeGiven, savingDeed, readFigure, readWord}
+use Rattle.interpreter.specs.Parameter.{labelDeed, parameters, least, greatest, findWord, parameter, valueGiven, settingDeed, limitDeed, registerDeed, deedOf, storeGiven, placeGiven, savingDeed, readFigure, readWord}
 use Rattle.interpreter.specs.Unit.{readUnit}
 use Rattle.registers.specs.Settings as limits
-use Rattle.registers.specs.Setup.{weighted, lowFirst, inBytes, checks, shifted, unshifted, valueIn, valuesIn, settingsIn, bytesOf, contents, blockOf, recallable, blockAt, savedAt}
+use Rattle.registers.specs.Setup.{weighted, lowFirst, inBytes, checks, shifted, unshifted, valueIn, valuesIn, savedText, settingsIn, bytesOf, contents, blockOf, recallable, blockAt, savedAt}
 use Rattle.interpreter.specs.Box.{powerUp, blank}
 use Rattle.interpreter.specs.Perform.{permitted, changed, setUp, perform}
 use Rattle.interpreter.specs.Reply.{replyTo, inquiryText, joined, fitsAnswer, reply}
@@ -30,9 +31,9 @@ unfolding if_then_else_ bytes same white printable digit letter wordByte small c
     afterSign fractionOf afterFraction exponentOf afterExponent lowering written numeralFrom decimalOf valueOf scaled suffixes noSuffix powerIn remains number
     switchedOn nearest sizeIn rounded sizeSide sideIn inPlaces decimal tenths eventBit
     table settingAt atReset wideRange lowest highest within conflict examined accepted answerOf raised completed withoutBit6 rises falls eventsAfter conditionIs eventRead setBits summary statusByte storedIn registerIn atStart
-    cutAt trimEnd trim name placed bodyOf byFirst header spells settingRows otherRows rows fitsRow findRow
+    mayStand closes undoubled padded labelDeed cutAt quoteNext cutOpen trimEnd trim name placed bodyOf byFirst header spells settingRows otherRows rows fitsRow findRow
     parameters least greatest findWord parameter readWord readFigure valueGiven settingDeed limitDeed registerDeed storeGiven placeGiven savingDeed deedOf readUnit powerUp blank
-    permitted changed setUp weighted lowFirst inBytes checks shifted unshifted valueIn valuesIn settingsIn bytesOf contents blockOf recallable blockAt savedAt limits.possibleSettings replyTo inquiryText joined fitsAnswer reply perform
+    permitted changed setUp weighted lowFirst inBytes checks shifted unshifted valueIn valuesIn savedText settingsIn bytesOf contents blockOf recallable blockAt savedAt limits.possibleSettings limits.possibleValues possibleText replyTo inquiryText joined fitsAnswer reply perform
     attempt refuse runUnits interrupted finished unitsOf runLine endLine held byte piece reported happens after
     examples outcome ran allSet expected
 all-hold = refl

@@ -11,7 +11,7 @@ use borrow.Author.Tests.{leb-true, le-leb, ltb-true}
 use Rattle.registers.specs.Text.{Text, empty}
 use Rattle.registers.specs.Queue.{mayBeQueued, queueable}
 use Rattle.registers.specs.Group.{widestGroup, possibleGroup}
-use Rattle.registers.specs.Settings.{count, atReset, possibleSettings}
+use Rattle.registers.specs.Settings.{atReset, possibleSettings, AsLong}
 use Rattle.registers.specs.Status.{possibleRegisters, possibleTrouble, atStart}
 use Rattle.registers.proofs.Tests.{and-both, and-true}
 use Rattle.registers.proofs.settings.Possible as limits
@@ -85,6 +85,7 @@ power-up-fit m =
     record {
       core = record {
         settings = limits.good-from atReset reset-possible;
+        text = limits.text-from atReset reset-possible;
         long = reset-long;
         registers = status.fit-from _ (start-fits m .0);
         line = zero-le;
@@ -122,7 +123,7 @@ history-fit b (e ∷ es) f = history-fit (happens b e .box) es (event-fit b e f)
 
 -- ---- the same as the test of number 4
 
-pub fit-from : (b : Box) → length (b .core .settings .values) ≡ count → possible b ≡ true → Fit mostAnswer b
+pub fit-from : (b : Box) → AsLong (b .core .settings) → possible b ≡ true → Fit mostAnswer b
 unfolding possible possibleCore
 fit-from b long e =
     let c = b .core in
@@ -133,6 +134,7 @@ fit-from b long e =
     record {
       core = record {
         settings = limits.good-from (c .settings) (q .0);
+        text = limits.text-from (c .settings) (q .0);
         long = long;
         registers = status.fit-from (c .registers) (r .0);
         line = leb-true (length (c .line)) mostLine (s .0);
@@ -146,7 +148,7 @@ unfolding possible possibleCore
 fit-to b f =
     let c = f .core in
     let sizes = and-true (le-leb _ _ (c .line)) (le-leb _ _ (c .answer)) in
-    and-true (and-true (limits.good-to _ (c .settings)) (and-true (status.fit-to _ (c .registers)) sizes)) (status.good-to _ (f .trouble))
+    and-true (and-true (limits.good-to _ (c .settings) (c .text)) (and-true (status.fit-to _ (c .registers)) sizes)) (status.good-to _ (f .trouble))
 
 pub own-fit : (b : Box) → Own b → Fit mostAnswer b
 own-fit b o = fit-from b (o .values) (o .could)
@@ -154,13 +156,13 @@ own-fit b o = fit-from b (o .values) (o .could)
 pub fit-own : (b : Box) → Fit mostAnswer b → Own b
 fit-own b f = record { could = fit-to b f; values = f .core .long }
 
--- what an event leaves could again be the box's, and still has seventeen settings
-pub still-possible : (b : Box) (e : Event) → length (b .core .settings .values) ≡ count → possible b ≡ true
+-- what an event leaves could again be the box's, and its settings are as long as before
+pub still-possible : (b : Box) (e : Event) → AsLong (b .core .settings) → possible b ≡ true
     → possible (happens b e .box) ≡ true
 still-possible b e long p = fit-to _ (event-fit b e (fit-from b long p))
 
-pub still-counted : (b : Box) (e : Event) → length (b .core .settings .values) ≡ count → possible b ≡ true
-    → length (happens b e .box .core .settings .values) ≡ count
+pub still-counted : (b : Box) (e : Event) → AsLong (b .core .settings) → possible b ≡ true
+    → AsLong (happens b e .box .core .settings)
 still-counted b e long p = event-fit b e (fit-from b long p) .core .long
 
 pub power-up-own : (m : Memory) → Own (powerUp m)

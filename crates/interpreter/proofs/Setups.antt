@@ -9,11 +9,11 @@ use borrow.Author.Tests.{eqb-true, eq-eqb}
 use Rattle.registers.specs.Text.{Text}
 use Rattle.registers.specs.Check.{Checked, refused, passed, check, _>>_}
 use Rattle.registers.specs.Setup.{blockSize, places, blockOf, settingsIn, recallable, blockAt, savedAt}
-use Rattle.registers.proofs.setup.Laws.{saved-back, zeros-not-recalled, not-recalled, saved-long, saved-here, saved-before, saved-after}
+use Rattle.registers.proofs.setup.Laws.{saved-back, older-empty, not-recalled, saved-long, saved-here, saved-before, saved-after, zeros-not-recalled}
 use Rattle.interpreter.specs.Box.{Memory, storeSize, rightSize, withStore, Core, withMemory}
 use Rattle.interpreter.specs.Perform.{setUp}
+use Rattle.interpreter.specs.Setups.{SavedIsRecalled, OlderHasNoText, AlteredIsNoticed, SavesOnlyItsBlock, Setups, ZerosAreRefused}
 use Rattle.interpreter.specs.declared.deed.Saving.the-variants.{Save}
-use Rattle.interpreter.specs.Setups.{SavedIsRecalled, ZerosAreRefused, AlteredIsNoticed, SavesOnlyItsBlock, Setups}
 
 store-long : (m : Memory) → rightSize m ≡ true → length (m .store) ≡ storeSize
 unfolding rightSize
@@ -71,5 +71,8 @@ only p c d h size saved =
       rest = left ∙ ap (λ (m : Memory). withMemory m c) (sym (ap (λ (f : Core). f .memory) left));
     }
 
+older : OlderHasNoText
+older p c e = older-empty (blockAt p (c .memory .store)) e
+
 pub setups : Setups
-setups = record { recalled = recalled; zeros = zeros; noticed = noticed; only = only }
+setups = record { recalled = recalled; zeros = zeros; older = older; noticed = noticed; only = only }

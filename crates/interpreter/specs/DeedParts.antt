@@ -15,10 +15,10 @@ use Rattle.interpreter.specs.declared.deed.Role.the-variants.{Setting, R
 
 -- how many rows there are, how many of 'Registers and queue' stand before those of the register sets, and how many a set has
 abbrev pub rowCount : ℕ
-rowCount = 46
+rowCount = 47
 
 abbrev pub commonRows : ℕ
-commonRows = 14
+commonRows = 15
 
 abbrev pub setRows : ℕ
 setRows = 5

@@ -9,7 +9,7 @@ use lib.ListN.{length}
 use Rattle.registers.specs.Text.{Text, if_then_else_, every, white, empty}
 use Rattle.registers.specs.Check.{refused}
 use Rattle.registers.specs.Group.{widestGroup}
-use Rattle.interpreter.specs.Cuts.{cutAt}
+use Rattle.interpreter.specs.Cuts.{cutOpen}
 use Rattle.interpreter.specs.Box.{Memory, Box, box, raise, answerIs}
 use Rattle.interpreter.specs.Unit.{raisable}
 use Rattle.interpreter.specs.Line.{atNewline, attempt, refuse, runUnits, finished}
@@ -77,8 +77,8 @@ pub record LineRefused (b after : Box) : Type 0 where
   pub blank : b .core .overlong ≡ false → every white (b .core .line) ≡ true → after ≡ atNewline b
   -- "Otherwise the line is cut at every `;`"; a unit raises no -363 and no -410
   pub units : b .core .overlong ≡ false → every white (b .core .line) ≡ false
-      → after ≡ finished (unitsLeave (cutAt (code ";") (b .core .line)) (atNewline b))
-  pub ofUnit : let n = refusal (cutAt (code ";") (b .core .line)) [] (atNewline b) in (n ≡ 0 → ⊥) → raisable n ≡ true
+      → after ≡ finished (unitsLeave (cutOpen (code ";") 0 (b .core .line)) (atNewline b))
+  pub ofUnit : let n = refusal (cutOpen (code ";") 0 (b .core .line)) [] (atNewline b) in (n ≡ 0 → ⊥) → raisable n ≡ true
 
 abbrev pub LineRefusals : Type 0
 LineRefusals = (b : Box) → LineRefused b (happens b newline .box)

@@ -8,7 +8,7 @@ use lib.Dec.{leb}
 use lib.ListN.{length, drop}
 use Rattle.registers.specs.Text.{Text, if_then_else_, empty}
 use Rattle.registers.specs.Group.{widestGroup}
-use Rattle.registers.specs.Settings.{count, possibleSettings}
+use Rattle.registers.specs.Settings.{possibleSettings, AsLong}
 use Rattle.registers.specs.Status.{setReported, statusByte, possibleRegisters, possibleTrouble}
 use Rattle.registers.specs.declared.status.RegisterSet.{RegisterSet}
 use Rattle.interpreter.specs.Box.{Core, Box, box, raise, withRegisters, withMemory, alteredIn, answerIs, powerUp, mostLine, mostAnswer}
@@ -93,10 +93,10 @@ possibleCore c =
 unfoldable pub possible : Box → Bool
 possible b = possibleCore (b .core) && possibleTrouble (b .trouble)
 
--- a state that could be the box's, with as many values as its type says
+-- a state that could be the box's, with settings as long as their type says
 pub record Own (b : Box) : Type 0 where
   pub could : possible b ≡ true
-  pub values : length (b .core .settings .values) ≡ count
+  pub values : AsLong (b .core .settings)
 
 -- ---- histories: events one after the other, the box that they leave and their results
 

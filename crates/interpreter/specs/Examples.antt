@@ -1,5 +1,6 @@
 -- 01's "Lines to try" that are marked P, and lines of 02: exam mode (#107), suffixes (#101), the lock and warning registers (#104),
--- the lock (#105) and saved setups (#108). One table: each line is run from power-up, after other events where its row says so, and compared with what it
+-- 01's "Lines to try" that are marked P, and lines of 02: exam mode (#107), suffixes (#101), the lock and warning registers (#104),
+-- the lock (#105), saved setups (#108) and strings (#109). One table: each line is run from power-up, after other events where its row says so, and compared with what it
 -- must leave.
 use mathlib.Core.Path.{_≡_}
 use mathlib.Core.List.{List, [], _∷_, _++_, map}
@@ -156,6 +157,46 @@ examples =
     ∷ following (keyTurned ∷ []) "*RCL 1" "" (221 ∷ []) [] 0
     -- an event that is lent a store of the wrong length changes nothing, and raises nothing
     ∷ following (sent "VOLT 5" ∷ mislent [] ∷ []) "VOLT?" "5.0\n" [] ((voltage, pos 50) ∷ []) 0
+    -- strings (02, #109): a `;` or `,` inside quotes separates nothing, on any row, and an unclosed quote takes the rest of the line
+    ∷ example "VOLT 5;FOO \"a;FREQ 60\";FREQ 70" "" (113 ∷ []) ((voltage, pos 50) ∷ [])
+    ∷ example "FOO 'a,,b'" "" (113 ∷ []) []
+    ∷ example "VOLT \"5;FREQ 60" "" (104 ∷ []) []
+    ∷ example "VOLT '5,6'" "" (104 ∷ []) []
+    ∷ example "VOLT 5;\"FREQ 60;FREQ 70\"" "" (102 ∷ []) ((voltage, pos 50) ∷ [])
+    ∷ example "VO\"LT 5;FREQ 60\"" "" (102 ∷ []) []
+    -- but a newline still ends the line
+    ∷ example "DISP:TEXT 'a\nVOLT 5" "" (151 ∷ []) ((voltage, pos 50) ∷ [])
+    -- DISPlay:TEXT: either quote, doubled inside to mean itself; its query always uses double quotes; empty at *RST
+    ∷ example "DISP:TEXT?" "\"\"\n" [] []
+    ∷ example "DISP:TEXT \"a;b, c\";TEXT?" "\"a;b, c\"\n" [] []
+    ∷ example "display:text 'it''s';TEXT?" "\"it's\"\n" [] []
+    ∷ example "DISP:TEXT 'a';TEXT '';TEXT?" "\"\"\n" [] []
+    ∷ example "DISP:TEXT 'a';*RST;TEXT?" "\"\"\n" [] []
+    ∷ example "DISP:TEXT 'a';TEXT 'b*';TEXT?" "" (150 ∷ []) []
+    ∷ example "DISP:TEXT ''''''''''''''''''''''''''''''''''''''''''''''''''''''''''''''''''" "" [] []
+    ∷ example "DISP:TEXT '12345678901234567890123456789012'" "" [] []
+    -- -151, -150 and -223 in that order, in place of check 5, after -108 and -109
+    ∷ example "DISP:TEXT 'a" "" (151 ∷ []) []
+    ∷ example "DISP:TEXT 'a' 'b'" "" (151 ∷ []) []
+    ∷ example "DISP:TEXT 'a'b" "" (151 ∷ []) []
+    ∷ example "DISP:TEXT '*" "" (151 ∷ []) []
+    ∷ example "DISP:TEXT \"\"\"\"" "" (150 ∷ []) []
+    ∷ example "DISP:TEXT '\"'" "" (150 ∷ []) []
+    ∷ example "DISP:TEXT '12345678901234567890123456789012*'" "" (150 ∷ []) []
+    ∷ example "DISP:TEXT '123456789012345678901234567890123'" "" (223 ∷ []) []
+    ∷ example "DISP:TEXT abc" "" (104 ∷ []) []
+    ∷ example "DISP:TEXT 5" "" (104 ∷ []) []
+    ∷ example "DISP:TEXT 'a','b'" "" (108 ∷ []) []
+    ∷ example "DISP:TEXT? 'a'" "" (108 ∷ []) []
+    ∷ example "DISP:TEXT" "" (109 ∷ []) []
+    -- *SAV stores the text and *RCL sets it; a block without one has an empty text, and one whose text is outside its limits is lost
+    ∷ example "DISP:TEXT 'a;b';*SAV 3;*RST;*RCL 3;:DISP:TEXT?" "\"a;b\"\n" [] []
+    ∷ example "*SAV 0;:DISP:TEXT 'a';*RCL 0;:DISP:TEXT?" "\"\"\n" [] []
+    ∷ following (sent "*SAV 0" ∷ altered 34 65 ∷ altered 508 190 ∷ altered 509 55 ∷ []) "*RCL 0;:DISP:TEXT?" "\"A\"\n" [] [] 0
+    ∷ following (sent "*SAV 0" ∷ altered 34 42 ∷ altered 508 153 ∷ altered 509 52 ∷ []) "*RCL 0" "" (314 ∷ []) [] 0
+    -- the lock comes after them
+    ∷ following (sent "DISP:TEXT 'a'" ∷ keyTurned ∷ []) "DISP:TEXT?;TEXT 'b'" "\"a\"\n" (221 ∷ []) [] 0
+    ∷ following (keyTurned ∷ []) "DISP:TEXT '123456789012345678901234567890123'" "" (223 ∷ []) [] 0
     ∷ []
 
 -- what is compared: the answer, the queue, every setting, and the status byte that look then sees

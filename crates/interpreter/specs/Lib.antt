@@ -1,6 +1,7 @@
 -- The definitions that the contracts cite, in the words of document 01. A file whose name ends in `Parts` holds only what private
 -- functions say, and defines nothing of 01.
 pub mod Cuts
+pub mod CutsParts
 pub mod Header
 pub mod Rows
 pub mod NameParts

@@ -6,7 +6,7 @@ use mathlib.Core.List.{List}
 use Prim.Native.Nat.{ℕ}
 use lib.IntN.{pos}
 use Rattle.registers.specs.Text.{every}
-use Rattle.registers.specs.Settings.{output, valueAt}
+use Rattle.registers.specs.Settings.{output, valueAt, displayed}
 use Rattle.registers.specs.Status.{Registers, registersOf, locked}
 use Rattle.registers.specs.declared.settings.Settings.{Settings}
 use Rattle.registers.specs.declared.status.RegisterSet.the-variants.{Operation, Lock, Warning}
@@ -32,6 +32,8 @@ leavesKey (mislent buffer) = true
 pub record UnderLock (before later : Settings) (registers : Registers) : Type 0 where
   -- no line changes any setting but the output
   pub others : (i : ℕ) → (i ≡ output → ⊥) → valueAt later i ≡ valueAt before i
+  -- nor the display's text
+  pub text : displayed later ≡ displayed before
   -- and that only to off: "switching off is never blocked"
   pub onlyOff : (valueAt later output ≡ valueAt before output → ⊥) → valueAt later output ≡ pos 0
   -- and the lock still holds

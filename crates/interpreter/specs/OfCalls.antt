@@ -2,24 +2,25 @@
 use mathlib.Core.Path.{_≡_}
 use mathlib.Core.Bool.{true, false}
 use mathlib.Core.List.{List, [], _∷_, _++_}
-use Prim.Native.Nat.{ℕ, _<_}
+use Prim.Native.Nat.{ℕ, _≤_, _<_}
 use lib.ListN.{length, drop}
 use lib.Signed.{leZ}
-use Rattle.registers.specs.Text.{Text}
-use Rattle.registers.specs.Settings.{count, voltage, twelveVolts, wideRange, kindOf, valueAt, within, answerOf}
+use Rattle.registers.specs.Text.{Text, every}
+use Rattle.registers.specs.Settings.{count, voltage, twelveVolts, wideRange, valueAt, displayed, AsLong, within}
+use Rattle.registers.specs.Label.{mostText, mayStand}
 use Rattle.interpreter.specs.Box.{Memory}
 use Rattle.interpreter.specs.Events.{Event, Result, after}
 use Rattle.interpreter.specs.Histories.{newline, Recut, isTake, isPiece, noPiece, howMany, chosen, summed}
 use Rattle.interpreter.specs.State.{boxOf, possibleState, Started}
 use Rattle.interpreter.specs.Calls.{Calls}
-use Rattle.interpreter.specs.Demand2.{Asks, queried, sentBack, Premises, Back}
+use Rattle.interpreter.specs.Demand2.{Which, answerTo, Asks, queried, sentBack, Premises, Back}
 use Rattle.interpreter.specs.Demand3.{asSent, asCut, ALine, Demand3}
 use Rattle.interpreter.specs.declared.state.State.{State}
 
--- calls led from s to t. The state s could be the box's, and has as many values as its type says: a power-up hands back such a state
+-- calls led from s to t. The state s could be the box's, and has settings as long as their type says: a power-up hands back such a state
 pub record Ran (s : State) (m : Memory) (t : State) (n : Memory) (es : List Event) (rs : List Result) : Type 0 where
   pub could : possibleState s ≡ true
-  pub values : length (s .settings .values) ≡ count
+  pub values : AsLong (s .settings)
   pub calls : Calls t n s m es rs
 
 -- ---- demand 2
@@ -27,6 +28,10 @@ pub record Ran (s : State) (m : Memory) (t : State) (n : Memory) (es : List Even
 abbrev pub LimitsOfCalls : Type 0
 LimitsOfCalls = (s t : State) (m n : Memory) (es : List Event) (rs : List Result) → Ran s m t n es rs
     → (i : ℕ) → i < count → within (t .settings) i (valueAt (t .settings) i) ≡ true
+
+abbrev pub TextOfCalls : Type 0
+TextOfCalls = (s t : State) (m n : Memory) (es : List Event) (rs : List Result) → Ran s m t n es rs
+    → (every mayStand (displayed (t .settings)) ≡ true) × (length (displayed (t .settings)) ≤ mostText)
 
 abbrev pub RangeOfCalls : Type 0
 RangeOfCalls = (s t : State) (m n : Memory) (es : List Event) (rs : List Result) → Ran s m t n es rs
@@ -41,13 +46,13 @@ PiecesOfCalls = (s t t′ : State) (m n n′ : Memory) (h g : List Event) (rs qs
 
 -- after the newline of a query alone in its line
 abbrev pub AnsweredOfCalls : Type 0
-AnsweredOfCalls = (s t : State) (m n : Memory) (i : ℕ) (before h : List Event) (rs : List Result) → Ran s m t n h rs → Recut h (queried before)
+AnsweredOfCalls = (s t : State) (m n : Memory) (i : Which) (before h : List Event) (rs : List Result) → Ran s m t n h rs → Recut h (queried before)
     → Asks i (after (boxOf s m) before)
-    → boxOf t n .core .answer ≡ answerOf (kindOf i) (valueAt (after (boxOf s m) before .core .settings) i) ++ 10 ∷ []
+    → boxOf t n .core .answer ≡ answerTo i (after (boxOf s m) before .core .settings) ++ 10 ∷ []
 
 -- r is what the take between the two lines told the caller
 abbrev pub RoundTripOfCalls : Type 0
-RoundTripOfCalls = (s t : State) (m n : Memory) (i : ℕ) (a buffer : Text) (before early late h : List Event) (rs more : List Result) (r : Result)
+RoundTripOfCalls = (s t : State) (m n : Memory) (i : Which) (a buffer : Text) (before early late h : List Event) (rs more : List Result) (r : Result)
     → Ran s m t n h rs
     → Recut h (sentBack before early buffer late ++ newline ∷ [])
     → drop (howMany isTake (queried before ++ early)) (chosen isTake h rs) ≡ r ∷ more
@@ -56,6 +61,7 @@ RoundTripOfCalls = (s t : State) (m n : Memory) (i : ℕ) (a buffer : Text) (bef
 
 pub record Demand2OfCalls : Type 0 where
   pub limits : LimitsOfCalls
+  pub text : TextOfCalls
   pub range : RangeOfCalls
   pub pieces : PiecesOfCalls
   pub answered : AnsweredOfCalls

@@ -12,7 +12,7 @@ use Rattle.registers.specs.declared.status.RegisterSet.{RegisterSet}
 use Rattle.registers.specs.declared.status.RegisterSet.the-variants.{Operation, Lock, Warning}
 use Rattle.interpreter.specs.Header.{spells}
 use Rattle.interpreter.specs.declared.deed.Role.{Role}
-use Rattle.interpreter.specs.declared.deed.Role.the-variants.{Setting as setting, Register as register, Only, Saving as saving}
+use Rattle.interpreter.specs.declared.deed.Role.the-variants.{Setting as setting, Register as register, Only, Saving as saving, Label as label}
 use Rattle.interpreter.specs.declared.deed.Saving.the-variants.{Save, Recall}
 use Rattle.interpreter.specs.declared.deed.Deed.{Deed}
 use Rattle.interpreter.specs.declared.deed.Deed.the-variants.{Change, Complete, Clear, Query, Inquire, Saving}
@@ -46,7 +46,7 @@ unfoldable pub settingRows : ℕ → List Setting → List Row
 settingRows i [] = []
 settingRows i (s ∷ ss) = plain (s .nodes) (setting i) ∷ settingRows (suc i) ss
 
--- "Registers and queue", and what 02 adds: *SAV and *RCL (#108), and two sets (#104)
+-- "Registers and queue", and what 02 adds: *SAV and *RCL (#108), DISPlay:TEXT (#109), and two sets (#104)
 unfoldable pub otherRows : List Row
 otherRows =
     starred "IDN" (Only (Query Identity))
@@ -63,6 +63,7 @@ otherRows =
     ∷ plain (must "SYSTem" ∷ must "ERRor" ∷ []) (Only (Inquire NextError))
     ∷ starred "SAV" (saving Save)
     ∷ starred "RCL" (saving Recall)
+    ∷ plain (must "DISPlay" ∷ must "TEXT" ∷ []) label
     ∷ ofSet Operation "OPERation" ++ ofSet Lock "LOCK" ++ ofSet Warning "WARNing"
 
 unfoldable pub rows : List Row
@@ -81,6 +82,7 @@ isQuery (Saving x p) = false
 abbrev pub hasForm : Bool → Role → Bool
 hasForm asked (setting i) = true
 hasForm asked (register r) = true
+hasForm asked label = true
 hasForm asked (Only d) = sameBool asked (isQuery d)
 hasForm asked (saving x) = sameBool asked false
 

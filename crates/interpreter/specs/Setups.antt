@@ -2,11 +2,13 @@
 -- block". The store persists between events, over a power-up too (Events.happens).
 use mathlib.Core.Path.{_≡_}
 use mathlib.Core.Bool.{true}
+use mathlib.Core.List.{[]}
 use Prim.Native.Nat.{ℕ, _+_, _*_, _≤_, _<_}
-use lib.ListN.{length, getD, replicate}
+use lib.ListN.{getD, replicate}
 use Rattle.registers.specs.Check.{refused, passed}
-use Rattle.registers.specs.Settings.{count, possibleSettings}
-use Rattle.registers.specs.Setup.{places, blockSize, checks, blockAt}
+use Rattle.registers.specs.Label.{mostText}
+use Rattle.registers.specs.Settings.{displayed, AsLong, possibleSettings}
+use Rattle.registers.specs.Setup.{places, blockSize, checks, savedText, settingsIn, blockAt}
 use Rattle.interpreter.specs.Box.{rightSize, alteredIn, Core, withSettings, withMemory}
 use Rattle.interpreter.specs.Perform.{setUp}
 use Rattle.interpreter.specs.declared.deed.Saving.the-variants.{Save, Recall}
@@ -15,13 +17,17 @@ use Rattle.interpreter.specs.declared.deed.Saving.the-variants.{Save, Re
 abbrev pub SavedIsRecalled : Type 0
 SavedIsRecalled =
     (p : ℕ) (c d e : Core) → p < places → rightSize (c .memory) ≡ true
-    → possibleSettings (c .settings) ≡ true → length (c .settings .values) ≡ count
+    → possibleSettings (c .settings) ≡ true → AsLong (c .settings)
     → setUp Save p c ≡ passed d → blockAt p (e .memory .store) ≡ blockAt p (d .memory .store)
     → setUp Recall p e ≡ passed (withSettings (c .settings) e)
 
 -- "*RCL of a block .. that is all zero .. raises -314"
 abbrev pub ZerosAreRefused : Type 0
 ZerosAreRefused = (p : ℕ) (c : Core) → blockAt p (c .memory .store) ≡ replicate blockSize 0 → setUp Recall p c ≡ refused 314
+
+-- the text of a block that was saved before there was one (02, #109), with zeros in its place, is empty
+abbrev pub OlderHasNoText : Type 0
+OlderHasNoText = (p : ℕ) (c : Core) → savedText (blockAt p (c .memory .store)) ≡ replicate mostText 0 → displayed (settingsIn (blockAt p (c .memory .store))) ≡ []
 
 -- a block whose check holds, with another byte at one place, is not recalled
 abbrev pub AlteredIsNoticed : Type 0
@@ -42,6 +48,7 @@ SavesOnlyItsBlock = (p : ℕ) (c d : Core) → p < places → rightSize (c .memo
 
 pub record Setups : Type 0 where
   pub recalled : SavedIsRecalled
+  pub older : OlderHasNoText
   pub zeros : ZerosAreRefused
   pub noticed : AlteredIsNoticed
   pub only : SavesOnlyItsBlock

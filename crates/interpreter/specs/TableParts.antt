@@ -20,11 +20,11 @@ nodeList =
     "OUTPut" ∷ "STATe" ∷ "PON" ∷ "RELay" ∷ "MONitor" ∷ "MODE" ∷ "SOURce" ∷ "VOLTage" ∷ "LEVel" ∷ "IMMediate" ∷ "AMPLitude" ∷ "RANGe"
     ∷ "FREQuency" ∷ "CURRent" ∷ "LIMit" ∷ "RMS" ∷ "PEAK" ∷ "TIME" ∷ "HIGH" ∷ "LOW" ∷ "DISPlay" ∷ "BRIGhtness" ∷ "SYSTem" ∷ "KLOCk"
     ∷ "IDN" ∷ "TST" ∷ "OPC" ∷ "WAI" ∷ "RST" ∷ "CLS" ∷ "ESE" ∷ "SRE" ∷ "ESR" ∷ "STB" ∷ "STATus" ∷ "OPERation" ∷ "CONDition" ∷ "EVENt"
-    ∷ "ENABle" ∷ "NTRansition" ∷ "PTRansition" ∷ "ERRor" ∷ "EXAM" ∷ "LOCK" ∷ "WARNing" ∷ "SAV" ∷ "RCL" ∷ []
+    ∷ "ENABle" ∷ "NTRansition" ∷ "PTRansition" ∷ "ERRor" ∷ "EXAM" ∷ "LOCK" ∷ "WARNing" ∷ "SAV" ∷ "RCL" ∷ "TEXT" ∷ []
 
 -- how many there are
 abbrev pub nodeCount : ℕ
-nodeCount = 47
+nodeCount = 48
 
 -- how many bytes a row takes in the table, and the two numbers of a node's word
 abbrev pub rowSize : ℕ

@@ -7,7 +7,8 @@ ghost use mathlib.Core.Path.{_≡_};
 ghost use Prim.Native.Nat.{_<_};
 ghost use Rattle.interpreter.specs.DeedParts.{rowCount, roleAt, setAt, roleOfSet};
 
-// A change of settings or registers, and what was rounded off the number that it was given.
+// A change of settings or registers, and what was rounded off the number that it was given. An enum holds no array: the text of a
+// label goes beside it.
 pub enum Change {
     Nothing,
     Put {
@@ -21,6 +22,7 @@ pub enum Change {
         value: u16,
         side: Side,
     },
+    Label,
 }
 
 // A query that sees settings and registers alone.
@@ -33,6 +35,7 @@ pub enum Query {
     Stored(Register),
     Condition(RegisterSet),
     SetEvents(RegisterSet),
+    Label,
 }
 
 // The three queries that see the event status register or the error queue.
@@ -64,12 +67,13 @@ pub(crate) struct Heading {
     pub(crate) asked: bool,
 }
 
-// A setting or a register is set and asked; every other header has only one form, and one deed, or is given a place.
+// A setting, a register or the display's text is set and asked; every other header has only one form, and one deed, or is given a place.
 pub enum Role {
     Setting(usize),
     Register(Register),
     Only(Deed),
     Saving(Saving),
+    Label,
 }
 
 // Names a register set by its place; past the last place it is the last set.
@@ -97,7 +101,7 @@ fn of_set(set: RegisterSet, place: usize) -> Role
 }
 
 // How many rows of 'Registers and queue' stand before those of the register sets, and how many a set has.
-const COMMON_ROWS: usize = 14;
+const COMMON_ROWS: usize = 15;
 
 const SET_ROWS: usize = 5;
 
@@ -128,6 +132,7 @@ pub(crate) fn role_of(row: usize) -> Role
         10 => return Role::Only(Deed::Inquire(Inquiry::StatusByte)),
         11 => return Role::Only(Deed::Inquire(Inquiry::NextError)),
         12 => return Role::Saving(Saving::Save),
-        _ => return Role::Saving(Saving::Recall),
+        13 => return Role::Saving(Saving::Recall),
+        _ => return Role::Label,
     }
 }

@@ -1,4 +1,5 @@
 // A line: its units left to right, and its end.
+use crate::cuts;
 use crate::deed::Deed;
 use crate::deed::Saving;
 use crate::flow;
@@ -21,13 +22,14 @@ ghost use Rattle.registers.specs.Text.{Text};
 ghost use Rattle.registers.specs.Check.{passed};
 ghost use Rattle.registers.specs.Queue.{most};
 ghost use Rattle.registers.specs.Setup.{places};
+ghost use Rattle.registers.specs.Label.{textIn};
 ghost use Rattle.interpreter.specs.Box.{mostAnswer, storeSize, Memory, memory};
 ghost use Rattle.interpreter.specs.Perform.{permitted};
 ghost use Rattle.interpreter.specs.PresentParts.{coreIn};
 ghost use Rattle.interpreter.specs.ReplyParts.{ordinary};
 ghost use Rattle.interpreter.specs.TableParts.{commandTable};
 ghost use Rattle.interpreter.specs.HeaderParts.{Holds, Held};
-ghost use Rattle.interpreter.specs.UnitParts.{Allowed};
+ghost use Rattle.interpreter.specs.UnitParts.{Allowed, AllowedText};
 ghost use Rattle.interpreter.specs.LineParts.{StoppedWith, CarriedOut, UnitRan, UnitsRan, LineRan};
 
 // What the units so far leave: how many names the path has, and whether the last one was obeyed.
@@ -52,7 +54,7 @@ fn stop(present: Present, error: Error) -> Done
 fn set_up(present: Present, saving: Saving, place: usize, used: usize, store: &mut [u8]) -> Done
     requires { ⌜ (permitted (Deed.Saving saving place) (coreIn (present .settings) (present .status)) ≡ passed tt) × (place < places) × (length (now store) ≡ storeSize) ⌝ }
     requires { ⌜ (present .answered < mostAnswer) × (present .status .queued ≤ most) ⌝ }
-    ensures { λ r. ⌜ ((out : Text) → CarriedOut (Deed.Saving saving place) used present out (memory (now (store .entry))) r out (memory (now (store .exit)))) ⌝ }
+    ensures { λ r. ⌜ ((t out : Text) → CarriedOut (Deed.Saving saving place) t used present out (memory (now (store .entry))) r out (memory (now (store .exit)))) ⌝ }
 {
     let at = place * setup::BLOCK;
     match saving {
@@ -88,13 +90,13 @@ fn set_up(present: Present, saving: Saving, place: usize, used: usize, store: &m
 }
 
 // Carries out any other unit that the lock and check 8 let pass: what it does, and check 9. Where check 9 refuses, "the query isn't
-// performed", and what it would have left is forgotten.
-fn do_deed(present: Present, deed: Deed, used: usize, out: &mut [u8]) -> Done
+// performed", and what it would have left is forgotten. The string is the unit's parameter, if it has one.
+fn do_deed(present: Present, deed: Deed, string: &[u8], used: usize, out: &mut [u8]) -> Done
     requires { ⌜ (permitted deed (coreIn (present .settings) (present .status)) ≡ passed tt) × Allowed (present .settings) deed × (ordinary deed ≡ true) ⌝ }
-    requires { ⌜ (present .answered < mostAnswer) × (length (now out) ≡ mostAnswer) × (present .status .queued ≤ most) ⌝ }
-    ensures { λ r. ⌜ ((m : Memory) → CarriedOut deed used present (now (out .entry)) m r (now (out .exit)) m) ⌝ }
+    requires { ⌜ (present .answered < mostAnswer) × (length (now out) ≡ mostAnswer) × (present .status .queued ≤ most) × AllowedText deed (textIn (now string)) ⌝ }
+    ensures { λ r. ⌜ ((m : Memory) → CarriedOut deed (textIn (now (string .entry))) used present (now (out .entry)) m r (now (out .exit)) m) ⌝ }
 {
-    let mut next = perform::after(present, deed);
+    let mut next = perform::after(present, deed, string);
     let told = reply::answer(present, deed, out);
     match told {
         Told::Refused(error) => return stop(present, error),
@@ -110,17 +112,24 @@ fn do_deed(present: Present, deed: Deed, used: usize, out: &mut [u8]) -> Done
 }
 
 // Carries out a unit that was read, after those before it: the lock and check 8, and what it does.
-fn carry_out(present: Present, deed: Deed, used: usize, out: &mut [u8], store: &mut [u8]) -> Done
-    requires { ⌜ Allowed (present .settings) deed × (present .answered < mostAnswer) ⌝ }
+fn carry_out(
+    present: Present,
+    deed: Deed,
+    string: &[u8],
+    used: usize,
+    out: &mut [u8],
+    store: &mut [u8],
+) -> Done
+    requires { ⌜ Allowed (present .settings) deed × (present .answered < mostAnswer) × AllowedText deed (textIn (now string)) ⌝ }
     requires { ⌜ (length (now out) ≡ mostAnswer) × (present .status .queued ≤ most) × (length (now store) ≡ storeSize) ⌝ }
-    ensures { λ r. ⌜ CarriedOut deed used present (now (out .entry)) (memory (now (store .entry))) r (now (out .exit)) (memory (now (store .exit))) ⌝ }
+    ensures { λ r. ⌜ CarriedOut deed (textIn (now (string .entry))) used present (now (out .entry)) (memory (now (store .entry))) r (now (out .exit)) (memory (now (store .exit))) ⌝ }
 {
     if !perform::is_permitted(present, deed) {
         return stop(present, Error::SettingsConflict);
     }
     match deed {
         Deed::Saving { saving, place } => return set_up(present, saving, place, used, store),
-        _ => return do_deed(present, deed, used, out),
+        _ => return do_deed(present, deed, string, used, out),
     }
 }
 
@@ -142,11 +151,16 @@ fn run_unit(
     let decision = reading.decision;
     match decision {
         Decision::Refused(error) => return stop(present, error),
-        Decision::Obey(deed) => return carry_out(present, deed, reading.used, out, store),
+        Decision::Obey(deed) => {
+            let given = reading.given;
+            let from = given.from;
+            let to = given.to;
+            return carry_out(present, deed, &unit[from..to], reading.used, out, store);
+        }
     }
 }
 
-// Runs the units of a line, which is cut at every `;`, up to the first that is refused. The path lives as long as
+// Runs the units of a line, which is cut at every `;` outside quotes, up to the first that is refused. The path lives as long as
 // its line: it starts at the root, and is gone at the newline.
 fn run_units(
     table: &[u8],
@@ -167,7 +181,7 @@ fn run_units(
     let mut path = [0u64; MOST_NAMES];
     let mut at: usize = 0;
     loop {
-        let end = bytes::scan::find(line, at, line.len(), b';');
+        let end = cuts::part_end(line, at, b';');
         done = run_unit(table, done, &mut path, &line[at..end], out, store);
         let more = done.obeyed & (end < line.len());
         if !more {

@@ -1,4 +1,5 @@
 // Checks 4 to 7: how many parameters a unit has, what each is, and the value that it gives.
+use crate::cuts;
 use crate::deed::Change;
 use crate::deed::Deed;
 use crate::deed::Heading;
@@ -58,7 +59,7 @@ struct Takes {
     quantity: Quantity,
 }
 
-// Counts the parameters of a text without white space around it.
+// Counts the parameters of a text without white space around it; a comma inside quotes separates nothing.
 pub(crate) fn count(text: &[u8]) -> Counted
     ensures { λ r. ⌜ CountedIn (now (text .entry)) r ⌝ }
 {
@@ -71,17 +72,19 @@ pub(crate) fn count(text: &[u8]) -> Counted
     let mut parts: usize = 1;
     let mut full = true;
     let mut visible = false;
+    let mut mark: u8 = 0;
     let mut i: usize = 0;
     while i < text.len() {
         let b = text[i];
         i += 1;
-        if b == b',' {
+        if (mark == 0) & (b == b',') {
             full = full & visible;
             visible = false;
             parts += 1;
             continue;
         }
         visible = visible | !text::is_white(b);
+        mark = cuts::quote_next(mark, b);
     }
     Counted {
         parts,
@@ -197,6 +200,7 @@ pub(crate) fn most(role: Role, asked: bool) -> usize
         Role::Register(_) => !asked as usize,
         Role::Only(_) => 0,
         Role::Saving(_) => !asked as usize,
+        Role::Label => !asked as usize,
     }
 }
 

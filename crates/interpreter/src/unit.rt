@@ -7,6 +7,7 @@ use crate::header::Looked;
 use crate::header::MOST_NAMES;
 use crate::parameter;
 use crate::parameter::Decision;
+use crate::quoted;
 use crate::table::ROWS;
 use registers::error::Error;
 use registers::settings::Settings;
@@ -23,11 +24,18 @@ ghost use Rattle.interpreter.specs.TableParts.{commandTable};
 ghost use Rattle.interpreter.specs.HeaderParts.{Holds, Held};
 ghost use Rattle.interpreter.specs.ParameterParts.{meantDeed};
 ghost use Rattle.interpreter.specs.Unit.{allowed};
-ghost use Rattle.interpreter.specs.UnitParts.{decided, decidedText, headerRefusal, UnitRead};
+ghost use Rattle.interpreter.specs.UnitParts.{decided, decidedText, headerRefusal, SpanOf, UnitRead};
 
-// What checks 1 to 7 say of a unit, and how many names the path has that it leaves.
+// A part of a text, by its places.
+pub(crate) struct Span {
+    pub(crate) from: usize,
+    pub(crate) to: usize,
+}
+
+// What checks 1 to 7 say of a unit, where its parameters stand in it, and how many names the path has that it leaves.
 pub(crate) struct Reading {
     pub(crate) decision: Decision,
+    pub(crate) given: Span,
     pub(crate) used: usize,
 }
 
@@ -90,6 +98,7 @@ fn decide(table: &[u8], settings: Settings, heading: Heading, text: &[u8]) -> De
         }
         Role::Only(deed) => return Decision::Obey(deed),
         Role::Saving(saving) => return parameter::decide_place(table, saving, asked, text),
+        Role::Label => return quoted::decide(asked, text),
     }
 }
 
@@ -104,15 +113,17 @@ fn decide_text(table: &[u8], settings: Settings, heading: Heading, text: &[u8]) 
     decide(table, settings, heading, text)
 }
 
-// Makes the same checks on all that follows the header.
-fn decide_rest(table: &[u8], settings: Settings, heading: Heading, rest: &[u8]) -> Decision
-    requires { ⌜ (now table ≡ commandTable) × (heading .row ≤ rowCount) ⌝ }
-    ensures { λ r. ⌜ meantDeed r ≡ decidedText settings (heading .row) (heading .asked) (trim (now (rest .entry))) ⌝ }
+// Finds the parameters' text of a unit whose header ends at a place: all that follows, without white space around it.
+fn span_after(unit: &[u8], at: usize) -> Span
+    requires { ⌜ at ≤ length (now unit) ⌝ }
+    ensures { λ r. ⌜ SpanOf (now (unit .entry)) at r ⌝ }
 {
-    let start = text::white_end(rest, 0);
-    let text = &rest[start..];
-    let end = trimmed_end(text);
-    decide_text(table, settings, heading, &text[0..end])
+    let from = text::white_end(unit, at);
+    let long = trimmed_end(&unit[from..]);
+    Span {
+        from,
+        to: from + long,
+    }
 }
 
 // Tells which of checks 1 and 2 refuses a unit that starts with no header.
@@ -134,7 +145,7 @@ pub(crate) fn read(
     unit: &[u8],
 ) -> Reading
     requires { ⌜ (now table ≡ commandTable) × Held (now path) used ⌝ }
-    ensures { λ r. ⌜ ((names : List Text) → Holds names (now (path .entry)) used → UnitRead settings names (now (unit .entry)) (r .decision) (r .used) (now (path .exit))) ⌝ }
+    ensures { λ r. ⌜ ((names : List Text) → Holds names (now (path .entry)) used → UnitRead settings names (now (unit .entry)) (r .decision) (r .given) (r .used) (now (path .exit))) ⌝ }
 {
     let start = text::white_end(unit, 0);
     let looked = header::look_up(table, path, used, &unit[start..]);
@@ -142,6 +153,7 @@ pub(crate) fn read(
         Looked::Bad => {
             return Reading {
                 decision: Decision::Refused(header_error(unit)),
+                given: Span { from: 0, to: 0 },
                 used,
             };
         }
@@ -150,9 +162,12 @@ pub(crate) fn read(
             used: left,
             end,
         } => {
-            let after = start + end;
+            let given = span_after(unit, start + end);
+            let from = given.from;
+            let to = given.to;
             return Reading {
-                decision: decide_rest(table, settings, heading, &unit[after..]),
+                decision: decide_text(table, settings, heading, &unit[from..to]),
+                given,
                 used: left,
             };
         }

@@ -12,11 +12,22 @@ use Rattle.registers.specs.Settings.{voltage, range, conflict, twelveVolts, wid
 use Rattle.registers.specs.declared.settings.Settings.{Settings}
 use Rattle.registers.proofs.Tests.{and-both, ltZ-not}
 use Rattle.registers.proofs.settings.Possible.{Good}
-use Rattle.interpreter.specs.Demand2.{WithinLimits, WithinRange}
+use Rattle.registers.proofs.label.Record.{held-right}
+use Rattle.interpreter.specs.Demand2.{WithinLimits, TextWithinLimits, WithinRange}
+use Rattle.interpreter.specs.Events.{after}
 use Rattle.interpreter.proofs.Possible.{history-fit, own-fit}
 
 pub within-limits : WithinLimits
 within-limits b own es i h = history-fit b es (own-fit b own) .core .settings i h
+
+pub text-within : TextWithinLimits
+text-within b own es =
+    let f = history-fit b es (own-fit b own) .core in
+    let t = after b es .core .settings .text in
+    let h = held-right t (f .text) in
+    let short = h .short in
+    let long = f .long .text in
+    (h .accepted, omega arith)
 
 -- the voltage in the lower range
 pub narrow-voltage : (s : Settings) → Good s → wideRange s ≡ false → leZ (valueAt s voltage) twelveVolts ≡ true

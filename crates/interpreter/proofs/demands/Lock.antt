@@ -34,9 +34,9 @@ use Rattle.interpreter.specs.Lock.{leavesKey, UnderLock, LockHolds}
 use Rattle.interpreter.specs.declared.deed.Deed.{Deed}
 use Rattle.interpreter.specs.declared.deed.Deed.the-variants.{Change, Complete, Clear, Query, Inquire, Saving}
 use Rattle.interpreter.specs.declared.deed.Change as changes
-use Rattle.interpreter.specs.declared.deed.Change.the-variants.{Nothing, Put, Reset, Store}
+use Rattle.interpreter.specs.declared.deed.Change.the-variants.{Nothing, Put, Reset, Store, Label as labelled}
 use Rattle.interpreter.specs.declared.deed.Query as queries
-use Rattle.interpreter.specs.declared.deed.Query.the-variants.{Identity, SelfTest, Completed, Limit, Value, Stored, Condition, SetEvents}
+use Rattle.interpreter.specs.declared.deed.Query.the-variants.{Identity, SelfTest, Completed, Limit, Value, Stored, Condition, SetEvents, Label as labelAsked}
 use Rattle.interpreter.specs.declared.state.State.{State}
 use Rattle.interpreter.proofs.demands.calls.AsHistory.{chunk-after}
 use Rattle.interpreter.proofs.Choices.{if-elim}
@@ -71,24 +71,26 @@ module _ (s : Settings) where
 
   -- the lock looks at a condition alone
   with-registers : (c : Core) (r : Registers) → conditionIn Lock r ≡ conditionIn Lock (c .registers) → HeldCore c → HeldCore (withRegisters r c)
-  with-registers c r e h = record { others = h .others; onlyOff = h .onlyOff; still = ap (λ (n : ℕ). not (eqb n 0)) e ∙ h .still }
+  with-registers c r e h = record { others = h .others; text = h .text; onlyOff = h .onlyOff; still = ap (λ (n : ℕ). not (eqb n 0)) e ∙ h .still }
 
   -- ---- deeds
 
-  change-held : (x : changes.Change) (c : Core) → AllowedChange (c .settings) x → blockedChange x ≡ false → HeldCore c → HeldCore (changed x c)
+  change-held : (x : changes.Change) (t : Text) (c : Core) → AllowedChange (c .settings) x → blockedChange x ≡ false → HeldCore c → HeldCore (changed x t c)
   unfolding changed
-  change-held Nothing c a n h = h
-  change-held (Put i v side) c a n h =
+  change-held Nothing t c a n h = h
+  change-held (Put i v side) t c a n h =
       let p = and-both (eqb i output) (leZ v (pos 0)) (not-false _ n) in
       let here = eqb-true i output (p .0) in
       let off = off-value (c .settings) v (rw here at (a .1)) (p .1) in
       rw (here, off) (record {
         others = λ j apart. getD-set-other (c .settings .values) output j (pos 0) (pos 0) apart ∙ h .others j apart;
+        text = h .text;
         onlyOff = λ _. off-set (c .settings .values);
         still = h .still;
       })
-  change-held Reset c a n h = absurd (false≢true (sym n))
-  change-held (Store r n side) c a free h = with-registers c _ (stored-kept Lock (c .registers) r n) h
+  change-held Reset t c a n h = absurd (false≢true (sym n))
+  change-held (Store r n side) t c a free h = with-registers c _ (stored-kept Lock (c .registers) r n) h
+  change-held labelled t c a n h = absurd (false≢true (sym n))
 
   query-held : (q : queries.Query) (c : Core) → HeldCore c → HeldCore (afterQuery q c)
   query-held Identity c h = h
@@ -99,26 +101,27 @@ module _ (s : Settings) where
   query-held (Stored r) c h = h
   query-held (Condition x) c h = h
   query-held (SetEvents x) c h = with-registers c _ (event-kept Lock (c .registers) x) h
+  query-held labelAsked c h = h
 
   reply-held : (t : Text) (c : Core) → HeldCore c → Holds HeldCore (reply t c)
   unfolding reply mayBeQueued queueable
   reply-held t c h = hold-check HeldCore 430 _ _ refl (λ _. passes h)
 
-  perform-held : (d : Deed) (b : Box) → Allowed (b .core .settings) d → blocked d ≡ false → HeldBox b → Holds HeldBox (perform d b)
+  perform-held : (d : Deed) (t : Text) (b : Box) → Allowed (b .core .settings) d → blocked d ≡ false → HeldBox b → Holds HeldBox (perform d t b)
   unfolding perform
-  perform-held (Change x) b a n h = passes (change-held x (b .core) a n h)
-  perform-held Complete b a n h = passes h
-  perform-held Clear b a n h = passes (with-registers (b .core) _ (clear-kept Lock (b .core .registers)) h)
-  perform-held (Query q) b a n h = hold-bind HeldCore HeldBox _ _ (reply-held _ _ (query-held q (b .core) h)) (λ c g. passes g)
-  perform-held (Inquire q) b a n h = hold-bind HeldCore HeldBox _ _ (reply-held _ _ h) (λ c g. passes g)
-  perform-held (Saving x p) b a n h = absurd (false≢true (sym n))
+  perform-held (Change x) t b a n h = passes (change-held x t (b .core) a n h)
+  perform-held Complete t b a n h = passes h
+  perform-held Clear t b a n h = passes (with-registers (b .core) _ (clear-kept Lock (b .core .registers)) h)
+  perform-held (Query q) t b a n h = hold-bind HeldCore HeldBox _ _ (reply-held _ _ (query-held q (b .core) h)) (λ c g. passes g)
+  perform-held (Inquire q) t b a n h = hold-bind HeldCore HeldBox _ _ (reply-held _ _ h) (λ c g. passes g)
+  perform-held (Saving x p) t b a n h = absurd (false≢true (sym n))
 
   -- ---- lines
 
   newline-held : (b : Box) → HeldBox b → HeldBox (endLine b)
   unfolding interrupted
   newline-held b h =
-      line-keeps HeldBox (λ d b a l h. perform-held d b a (let-pass d (b .core) l (h .still)) h) (λ n b e h. h) (λ b h. h) (λ a b h. h) b
+      line-keeps HeldBox (λ d t b a x l h. perform-held d t b a (let-pass d (b .core) l (h .still)) h) (λ n b e h. h) (λ b h. h) (λ a b h. h) b
       (if-elim HeldBox (empty (b .core .answer)) (λ _. h) (λ _. h))
 
   -- ---- bytes and events
@@ -204,7 +207,7 @@ module _ (s : Settings) where
 -- ---- the law
 
 start : (s : Settings) (r : Registers) → locked r ≡ true → UnderLock s s r
-start s r l = record { others = λ i apart. refl; onlyOff = λ changes. absurd (changes refl); still = l }
+start s r l = record { others = λ i apart. refl; text = refl; onlyOff = λ changes. absurd (changes refl); still = l }
 
 pub lock-holds : LockHolds
 lock-holds =

@@ -20,7 +20,6 @@ use Rattle.interpreter.specs.Line.{held, byte, piece, newlines}
 use Rattle.interpreter.specs.FlowParts.{flowBox, FlowFits, firstLine, FlowFed}
 use Rattle.interpreter.specs.declared.flow.Flow.{Flow}
 use Rattle.interpreter.proofs.Lists.{rest-is}
-use Rattle.interpreter.proofs.line.Units.{place}
 use Rattle.interpreter.proofs.line.Pieces.{piece-append, newlines-append}
 
 -- ---- a text laid over another
@@ -37,6 +36,11 @@ module _ (d : Text) (at : ℕ) (s : Text) (n : ℕ) (has : n ≤ length s) (room
       (omega arith, rw (is, sub-zero, take-length (take n s), l, all, none, append-nil, append-assoc, drop-drop n at d))
 
 -- ---- the first newline
+
+-- where a byte stands in the rest of a text
+place : (x : ℕ) (l : Text) (at end : ℕ) → end ≡ at + indexOf x (slice at (length l) l) → end - at ≡ indexOf x (drop at l)
+unfolding slice
+place x l at end is = let e : end ≡ at + indexOf x (drop at l) = rw (take-length l) at is in omega arith
 
 none-before : (l : Text) → newlines (take (indexOf 10 l) l) ≡ 0
 unfolding newlines indexOf indexAfter if_then_else_

@@ -45,34 +45,34 @@ block-read place at end store e f =
 
 module _ (p : Present) (place used : ℕ) (store : Text) (short : p .status .queued ≤ most) (room : p .answered < mostAnswer) where
   pub saved : permitted (Saving Save place) (coreIn (p .settings) (p .status)) ≡ passed tt → (left : Text) → left ≡ savedAt place (p .settings) store
-      → (out : Text) → CarriedOut (Saving Save place) used p out (memory store) (record { present = p; used = used; obeyed = true }) out (memory left)
+      → (t out : Text) → CarriedOut (Saving Save place) t used p out (memory store) (record { present = p; used = used; obeyed = true }) out (memory left)
   unfolding perform setUp _>>=_ _>>_
-  saved l left is out =
+  saved l left is t out =
       record {
         queued = short;
         room = room;
-        goes = λ _. (rw (seen p (Saving Save place) used out (memory store) l, is), refl);
+        goes = λ _. (rw (seen p (Saving Save place) t used out (memory store) l, is), refl);
         stops = λ t. absurd (false≢true (sym t));
       }
 
   module _ (l : permitted (Saving Recall place) (coreIn (p .settings) (p .status)) ≡ passed tt) (good : Bool)
       (tells : good ≡ recallable (blockAt place store)) where
-    pub recalled : not good ≡ false → (s : Settings) → s ≡ saidIn (blockAt place store) → (out : Text)
-        → CarriedOut (Saving Recall place) used p out (memory store)
+    pub recalled : not good ≡ false → (s : Settings) → s ≡ saidIn (blockAt place store) → (t out : Text)
+        → CarriedOut (Saving Recall place) t used p out (memory store)
         (record { present = record { settings = s; status = p .status; answered = p .answered }; used = used; obeyed = true }) out (memory store)
     unfolding perform setUp _>>=_ _>>_ check
-    recalled n s is out =
+    recalled n s is t out =
         let yes = not-false good n in
         record {
           queued = short;
           room = room;
-          goes = λ _. (rw (seen p (Saving Recall place) used out (memory store) l, sym tells ∙ yes, is ∙ said-recalled (blockAt place store) (sym tells ∙ yes)), refl);
+          goes = λ _. (rw (seen p (Saving Recall place) t used out (memory store) l, sym tells ∙ yes, is ∙ said-recalled (blockAt place store) (sym tells ∙ yes)), refl);
           stops = λ t. absurd (false≢true (sym t));
         }
 
-    pub lost : not good ≡ true → (r : Done) → StoppedWith SaveRecallMemoryLost p r → (out : Text)
-        → CarriedOut (Saving Recall place) used p out (memory store) r out (memory store)
+    pub lost : not good ≡ true → (r : Done) → StoppedWith SaveRecallMemoryLost p r → (t out : Text)
+        → CarriedOut (Saving Recall place) t used p out (memory store) r out (memory store)
     unfolding perform setUp _>>=_ _>>_ check
-    lost n r w out =
-        stopped p (Saving Recall place) used out (memory store) short room SaveRecallMemoryLost r w out
-        (rw (seen p (Saving Recall place) used out (memory store) l, sym tells ∙ not-true good n)) refl
+    lost n r w t out =
+        stopped p (Saving Recall place) t used out (memory store) short room SaveRecallMemoryLost r w out
+        (rw (seen p (Saving Recall place) t used out (memory store) l, sym tells ∙ not-true good n)) refl

@@ -32,11 +32,11 @@ use Rattle.registers.specs.declared.status.Register.the-variants.{Ese, Sre, Ena
 use Rattle.registers.proofs.rounding.Laws.{rounded-once}
 use Rattle.registers.proofs.rounding.Meaning.{fit-is, side-is}
 use Rattle.interpreter.specs.Parameter.{placeGiven, savingDeed, Given, Word, Figure, parameter, wordsOf, takesNumbers, asksLimits, limitWords, limitAt, limitGiven, valueGiven, sideGiven, least, greatest, settingDeed, limitDeed, registerDeed, deedOf, storeGiven}
-use Rattle.interpreter.specs.ParameterParts.{meantGiven, fitIn, roundedTo, putFit, registerTo, savingTo, partsOf}
+use Rattle.interpreter.specs.ParameterParts.{meantGiven, fitIn, roundedTo, putFit, registerTo, savingTo, partsOf, labelTo}
 use Rattle.interpreter.specs.declared.deed.Deed.the-variants.{Change, Query, Saving}
 use Rattle.interpreter.specs.declared.deed.Change.the-variants.{Put, Store}
 use Rattle.interpreter.specs.declared.deed.Query.the-variants.{Limit, Value}
-use Rattle.interpreter.specs.declared.deed.Role.the-variants.{Setting, Register as register, Saving as saving}
+use Rattle.interpreter.specs.declared.deed.Role.the-variants.{Setting, Register as register, Saving as saving, Label as label}
 use Rattle.interpreter.specs.declared.deed.Saving as savings
 use Rattle.interpreter.specs.declared.parameter.Parameter.{Parameter}
 use Rattle.interpreter.specs.declared.parameter.Parameter.the-variants.{Refused as noParameter, Word as wordGiven, Figure as figureGiven}
@@ -217,3 +217,9 @@ unfolding registerTo deedOf least if_then_else_
 register-is s x true t h = refl
 register-is s x false [] h = absurd (omega arith)
 register-is s x false (b ∷ t) h = refl
+
+pub label-is : (s : Settings) (asked : Bool) (t : Text) → least label asked ≤ length (partsOf t) → labelTo asked t ≡ deedOf s label asked (partsOf t)
+unfolding labelTo deedOf least if_then_else_
+label-is s true t h = refl
+label-is s false [] h = absurd (omega arith)
+label-is s false (b ∷ t) h = refl

@@ -21,7 +21,7 @@ use Rattle.interpreter.specs.declared.deed.Deed.{Deed}
 use Rattle.interpreter.specs.declared.deed.Deed.the-variants.{Change, Complete, Clear, Query, Inquire, Saving}
 use Rattle.interpreter.specs.declared.deed.Saving as savings
 use Rattle.interpreter.specs.declared.deed.Change as changes
-use Rattle.interpreter.specs.declared.deed.Change.the-variants.{Nothing, Put, Reset, Store}
+use Rattle.interpreter.specs.declared.deed.Change.the-variants.{Nothing, Put, Reset, Store, Label as labelled}
 use Rattle.interpreter.proofs.deed.Deed as deeds
 use Rattle.interpreter.proofs.deed.Change as orders
 use Rattle.interpreter.proofs.Checks.{Holds, refuses-by}
@@ -90,9 +90,19 @@ reset-permitted c = go (locked (c .registers))
     go true = refl
     go false = refl
 
+-- *SAV and *RCL
 pub saving-permitted : (x : savings.Saving) (p : ℕ) (c : Core) → permitted (Saving x p) c ≡ check 221 (not (locked (c .registers)))
 unfolding permitted check _>>_
 saving-permitted x p c = go (locked (c .registers))
+  where
+    go : (locks : Bool) → (check 221 (not locks) >> check 221 true) ≡ check 221 (not locks)
+    go true = refl
+    go false = refl
+
+-- and so for the display's text
+pub label-permitted : (c : Core) → permitted (Change labelled) c ≡ check 221 (not (locked (c .registers)))
+unfolding permitted check _>>_
+label-permitted c = go (locked (c .registers))
   where
     go : (locks : Bool) → (check 221 (not locks) >> check 221 true) ≡ check 221 (not locks)
     go true = refl
@@ -105,6 +115,7 @@ free-change Nothing h c = refl
 free-change (Put i v side) h c = absurd (miss (0 ∷ 3 ∷ []) 1 tt h)
 free-change Reset h c = absurd (miss (0 ∷ 3 ∷ []) 2 tt h)
 free-change (Store x n side) h c = refl
+free-change labelled h c = absurd (miss (0 ∷ 3 ∷ []) 4 tt h)
 
 pub free-other : (d : Deed) → OneOf (1 ∷ 2 ∷ 3 ∷ 4 ∷ []) (tagOf deeds.the-type d) → (c : Core) → permitted d c ≡ check 221 true
 unfolding permitted check _>>_

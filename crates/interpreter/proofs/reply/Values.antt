@@ -49,13 +49,13 @@ answer-is (number k low high) v = go (eqb k 10)
 
 -- the reply to a value that came as its bits, by the kind v that the code was told
 module _ (k : Kind) {z : ℤ} (h : SFits w32 z) {told : Values} (is : told ≡ valuesIn k) where
-  pub told-value : {v : Values} {r : Reply} → told ≡ v → RepliesWith (answerAs v (wordsOf k) (toZ w32 (ofZ w32 z))) r → RepliesWith (answerOf k z) r
-  told-value f e = rw (answer-is k z, sym is ∙ f) (rw (toZ-ofZ {w = w32} h) at e)
+  pub told-value : {v : Values} {r : Reply} → told ≡ v → ((label : Text) → RepliesWith label (answerAs v (wordsOf k) (toZ w32 (ofZ w32 z))) r) → (label : Text) → RepliesWith label (answerOf k z) r
+  told-value f e label = rw (answer-is k z, sym is ∙ f) (rw (toZ-ofZ {w = w32} h) at (e label))
 
   -- a bool is answered as a whole number is
-  pub told-whole : OneOf (3 ∷ 0 ∷ []) (tagOf values.the-type told) → RepliesWith (answerOf k z) (said-whole (toZ w32 (ofZ w32 z)))
+  pub told-whole : OneOf (3 ∷ 0 ∷ []) (tagOf values.the-type told) → (label : Text) → RepliesWith label (answerOf k z) (said-whole (toZ w32 (ofZ w32 z)))
   unfolding textOf
-  told-whole o = told-value refl (record { is = whole told o; some = refl })
+  told-whole o = told-value refl (λ label. record { is = whole told o; some = refl })
     where
       whole : (v : Values) → OneOf (3 ∷ 0 ∷ []) (tagOf values.the-type v)
           → signedText decimal (toZ w32 (ofZ w32 z)) ≡ answerAs v (wordsOf k) (toZ w32 (ofZ w32 z))
@@ -63,6 +63,11 @@ module _ (k : Kind) {z : ℤ} (h : SFits w32 z) {told : Values} (is : told ≡ v
       whole Word h = absurd (miss (3 ∷ 0 ∷ []) 1 tt h)
       whole Tenths h = absurd (miss (3 ∷ 0 ∷ []) 2 tt h)
       whole Whole h = refl
+
+-- a value that came as its bits, answered
+pub value-back : (k : Kind) {z : ℤ} → SFits w32 z → {r : Reply} → ((label : Text) → RepliesWith label (answerOf k (toZ w32 (ofZ w32 z))) r)
+    → (label : Text) → RepliesWith label (answerOf k z) r
+value-back k h e label = rw (toZ-ofZ {w = w32} h) at (e label)
 
 -- a row whose values are words is one of the table: past it rows count as bools
 pub word-row : (i : ℕ) {told : Values} → told ≡ valuesIn (kindOf i) → told ≡ Word → i < count

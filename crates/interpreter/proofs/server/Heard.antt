@@ -12,7 +12,7 @@ use lib.ListN.{length, drop}
 use lib.Seq.{take-append-seam}
 use borrow.Author.Tests.{leb-true, le-leb}
 use Rattle.registers.specs.Text.{Text, if_then_else_, empty}
-use Rattle.registers.specs.Settings.{count}
+use Rattle.registers.specs.Settings.{AsLong}
 use Rattle.registers.proofs.Tests.{and-true}
 use Rattle.interpreter.specs.Cuts.{joinFirst}
 use Rattle.interpreter.specs.Box.{Memory, rightSize, Core, Box, answerIs, mostLine, mostAnswer}
@@ -167,7 +167,7 @@ goes v (l ∷ ls) f = go (leb mostAnswer (length (v .rest))) refl (goes (servedL
 -- ---- a chunk
 
 module _ (s t : State) (m k : Memory) (input output left : Text) (number read written : ℕ) (w : Serves s m input output number read written t k left)
-    (q : rightSize m ≡ true) (p : possibleState s ≡ true) (long : length (s .settings .values) ≡ count) where
+    (q : rightSize m ≡ true) (p : possibleState s ≡ true) (long : AsLong (s .settings)) where
   fits : Fit mostAnswer (boxOf s m)
   fits = fit-from (boxOf s m) long (box-from s m p)
 
@@ -180,7 +180,7 @@ module _ (s t : State) (m k : Memory) (input output left : Text) (number read wr
   n : read ≡ total (went .done)
   n = omega (arith, went .read)
 
-  pub left-long : length (t .settings .values) ≡ count
+  pub left-long : AsLong (t .settings)
   left-long = rw (ap (λ (v : Service). v .box .core .settings) is) (serves-fit (begun s m output) (linesOf input) fits .core .long)
 
   -- what was read was heard, in whole lines

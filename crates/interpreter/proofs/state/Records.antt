@@ -6,7 +6,7 @@ use lib.Dec.{leb}
 use lib.ListN.{length}
 use borrow.Author.Tests.{leb-true, le-leb, not-true, not-false}
 use Rattle.registers.specs.Text.{Text}
-use Rattle.registers.specs.Settings.{possibleSettings, count}
+use Rattle.registers.specs.Settings.{possibleSettings, AsLong}
 use Rattle.registers.specs.Status.{registersOf, troubleOf, possibleStatus, possibleRegisters, possibleTrouble}
 use Rattle.registers.specs.Queue.{most}
 use Rattle.registers.proofs.Tests.{and-both, front-within}
@@ -74,7 +74,7 @@ pub short-of : (f : Flow) (line answer : Text) → FlowFits f → Short (stateOf
 short-of f line answer w = record { queued = w .queued; filled = w .filled; waiting = w .waiting }
 
 -- what an event leaves could again be the box's, from what happened to the box and from the new record's lengths
-pub happens-so : (s : State) (m : Memory) (e : Event) (r : Result) (t : State) (n : Memory) → length (s .settings .values) ≡ count → Short t
+pub happens-so : (s : State) (m : Memory) (e : Event) (r : Result) (t : State) (n : Memory) → AsLong (s .settings) → Short t
     → happened r (boxOf t n) ≡ happens (boxOf s m) e → possibleState s ≡ true → possibleState t ≡ true
 happens-so s m e r t n long short is p =
     let still = still-possible (boxOf s m) e long (box-from s m p) in

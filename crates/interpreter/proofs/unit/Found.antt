@@ -13,7 +13,7 @@ use Rattle.interpreter.specs.DeedParts.{rowCount, roleAt}
 use Rattle.interpreter.specs.RowsParts.{rowOf}
 use Rattle.interpreter.specs.UnitParts.{roleFound}
 use Rattle.interpreter.specs.declared.deed.Role.{Role}
-use Rattle.interpreter.specs.declared.deed.Role.the-variants.{Setting, Register, Only, Saving}
+use Rattle.interpreter.specs.declared.deed.Role.the-variants.{Setting, Register, Only, Saving, Label}
 use Rattle.registers.proofs.Tests.{below-at, and-both}
 use Rattle.interpreter.proofs.header.Laws.{found-none, found-role}
 
@@ -34,6 +34,7 @@ settled row (Setting i) = eqb i row && ltb row count
 settled row (Register r) = true
 settled row (Only d) = true
 settled row (Saving x) = true
+settled row Label = true
 
 settled-at : (row : ℕ) → row < rowCount → settled row (roleAt row) ≡ true
 unfolding roleAt rows settingRows otherRows table

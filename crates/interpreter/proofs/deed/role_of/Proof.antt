@@ -28,15 +28,15 @@ returns-2 c =
     rw (c .of-set .ensures, c .before .set-at .ensures) (rw whole at (role-of-sets (row - count - commonRows) (omega (arith, s .pre))))
 
 -- the last arm is for the one place that is left
-returns-16 : tie.Need-returns-16
+returns-17 : tie.Need-returns-17
 unfolding roleAt rows settingRows otherRows table
-returns-16 c =
+returns-17 c =
     let place = c .before .before .before .args .row - count in
     let n = c .match .rest in
-    let from-4 : 4 ≤ place = omega (arith, n .0 .0 .0 .0 .0 .0 .0 .0 .0 .0 .0 .0 .1, n .0 .0 .0 .0 .0 .0 .0 .0 .0 .0 .0 .1, n .0 .0 .0 .0 .0 .0 .0 .0 .0 .0 .1, n .0 .0 .0 .0 .0 .0 .0 .0 .0 .1) in
-    let from-8 : 8 ≤ place = omega (arith, n .0 .0 .0 .0 .0 .0 .0 .0 .1, n .0 .0 .0 .0 .0 .0 .0 .1, n .0 .0 .0 .0 .0 .0 .1, n .0 .0 .0 .0 .0 .1) in
-    let from-12 : 12 ≤ place = omega (arith, n .0 .0 .0 .0 .1, n .0 .0 .0 .1, n .0 .0 .1, n .0 .1) in
-    let last : place ≡ 13 = omega (arith, c .before .if2 .left, n .1) in
+    let from-4 : 4 ≤ place = omega (arith, n .0 .0 .0 .0 .0 .0 .0 .0 .0 .0 .0 .0 .0 .1, n .0 .0 .0 .0 .0 .0 .0 .0 .0 .0 .0 .0 .1, n .0 .0 .0 .0 .0 .0 .0 .0 .0 .0 .0 .1, n .0 .0 .0 .0 .0 .0 .0 .0 .0 .0 .1) in
+    let from-8 : 8 ≤ place = omega (arith, n .0 .0 .0 .0 .0 .0 .0 .0 .0 .1, n .0 .0 .0 .0 .0 .0 .0 .0 .1, n .0 .0 .0 .0 .0 .0 .0 .1, n .0 .0 .0 .0 .0 .0 .1) in
+    let from-12 : 12 ≤ place = omega (arith, n .0 .0 .0 .0 .0 .1, n .0 .0 .0 .0 .1, n .0 .0 .0 .1, n .0 .0 .1) in
+    let last : place ≡ 14 = omega (arith, c .before .if2 .left, n .0 .1, n .1) in
     rw (numbered (c .before .before .if1 .left) last)
 
 pub role-of-spec : {M : Type 1} → statement M
@@ -60,4 +60,5 @@ role-of-spec =
     (λ c. rw (numbered (c .before .before .if1 .left) (c .match .keys11)))
     (λ c. rw (numbered (c .before .before .if1 .left) (c .match .keys12)))
     (λ c. rw (numbered (c .before .before .if1 .left) (c .match .keys13)))
-    returns-16)
+    (λ c. rw (numbered (c .before .before .if1 .left) (c .match .keys14)))
+    returns-17)

@@ -3,11 +3,13 @@
 use mathlib.Core.Path.{_≡_, refl, sym, _∙_, ap, subst, subst₂}
 use mathlib.Core.Bool.{Bool, true, false}
 use mathlib.Core.List.{List, [], _∷_, _++_, append-assoc, head-eq-of-cons-eq}
+use Prim.Native.Nat.{_≤_}
 use lib.ListN.{length, drop}
 use lib.Seq.{drop-at}
 use lib.Signed.{leZ}
-use Rattle.registers.specs.Text.{Text, if_then_else_}
-use Rattle.registers.specs.Settings.{valueAt, within, wideRange, twelveVolts, voltage}
+use Rattle.registers.specs.Text.{Text, if_then_else_, every}
+use Rattle.registers.specs.Label.{mostText, mayStand}
+use Rattle.registers.specs.Settings.{valueAt, displayed, AsLong, within, wideRange, twelveVolts, voltage}
 use Rattle.interpreter.specs.Box.{Memory, Box, powerUp}
 use Rattle.interpreter.specs.Events.{Event, take, Result, happens, Own, after, results}
 use Rattle.interpreter.specs.Histories.{newline, Recut, isTake, isPiece, noPiece, howMany, resultsOf, chosen, summed}
@@ -15,7 +17,7 @@ use Rattle.interpreter.specs.State.{boxOf, Started}
 use Rattle.interpreter.specs.Calls.{Calls, History}
 use Rattle.interpreter.specs.Demand2.{queried, takenFrom}
 use Rattle.interpreter.specs.Demand3.{asSent, watch, Agree, AgreeAnswers, others}
-use Rattle.interpreter.specs.OfCalls.{Ran, LimitsOfCalls, RangeOfCalls, PiecesOfCalls, AnsweredOfCalls, RoundTripOfCalls, Demand2OfCalls, Demand3OfCalls}
+use Rattle.interpreter.specs.OfCalls.{Ran, LimitsOfCalls, TextOfCalls, RangeOfCalls, PiecesOfCalls, AnsweredOfCalls, RoundTripOfCalls, Demand2OfCalls, Demand3OfCalls}
 use Rattle.interpreter.specs.declared.state.State.{State}
 use Rattle.interpreter.proofs.Possible.{power-up-own}
 use Rattle.interpreter.proofs.state.Records.{box-from}
@@ -29,7 +31,7 @@ use Rattle.interpreter.proofs.demands.Demand3.{demand3}
 
 pub started-ran : (s t : State) (m n : Memory) (es : List Event) (rs : List Result) → Started s → Calls t n s m es rs → Ran s m t n es rs
 started-ran s t m n es rs h c =
-    record { could = h .possible; values = ap (λ (b : Box). length (b .core .settings .values)) (h .first m) ∙ power-up-own m .values; calls = c }
+    record { could = h .possible; values = subst (λ (b : Box). AsLong (b .core .settings)) (sym (h .first m)) (power-up-own m .values); calls = c }
 
 chosen-results : (p : Event → Bool) (b : Box) (es : List Event) → chosen p es (results b es) ≡ resultsOf p b es
 unfolding chosen results resultsOf
@@ -53,6 +55,11 @@ limits : LimitsOfCalls
 limits s t m n es rs ran i h =
     subst (λ (b : Box). within (b .core .settings) i (valueAt (b .core .settings) i) ≡ true) (sym (history s t m n es rs ran .box))
     (demand2 .limits (boxOf s m) (own s t m n es rs ran) es i h)
+
+text : TextOfCalls
+text s t m n es rs ran =
+    subst (λ (b : Box). (every mayStand (displayed (b .core .settings)) ≡ true) × (length (displayed (b .core .settings)) ≤ mostText)) (sym (history s t m n es rs ran .box))
+    (demand2 .text (boxOf s m) (own s t m n es rs ran) es)
 
 range : RangeOfCalls
 range s t m n es rs ran =
@@ -90,7 +97,7 @@ round-trip s t m n i a buffer before early late h rs more r ran e told p =
     rw (history s t m n h rs ran .box) (demand2 .roundTrip b i a buffer before early late h (rw is at p) e)
 
 pub demand2-of-calls : Demand2OfCalls
-demand2-of-calls = record { limits = limits; range = range; pieces = pieces; answered = answered; roundTrip = round-trip }
+demand2-of-calls = record { limits = limits; text = text; range = range; pieces = pieces; answered = answered; roundTrip = round-trip }
 
 -- ---- demand 3
 

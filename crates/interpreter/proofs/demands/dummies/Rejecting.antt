@@ -19,10 +19,11 @@ use Rattle.registers.specs.Rounding.{nearest, sizeIn, rounded, sizeSide, sideIn
 use Rattle.registers.specs.Answer.{inPlaces, decimal, tenths}
 use Rattle.registers.specs.Settings.{table, settingAt, atReset, wideRange, lowest, highest, within, conflict, examined, accepted, answerOf}
 use Rattle.registers.specs.Status.{raised, atStart}
-use Rattle.interpreter.specs.Cuts.{cutAt, trimEnd, trim}
+use Rattle.registers.specs.Label.{mayStand, closes, undoubled, padded}
+use Rattle.interpreter.specs.Cuts.{cutAt, quoteNext, cutOpen, trimEnd, trim}
 use Rattle.interpreter.specs.Header.{name, placed, header, spells, bodyOf, byFirst}
 use Rattle.interpreter.specs.Rows.{settingRows, otherRows, rows, fitsRow, findRow}
-use Rattle.interpreter.specs.Parameter.{parameters, least, greatest, findWord, parameter, valueGiven, settingDeed, deedOf, readFigure, readWord}
+use Rattle.interpreter.specs.Parameter.{labelDeed, parameters, least, greatest, findWord, parameter, valueGiven, settingDeed, deedOf, readFigure, readWord}
 use Rattle.interpreter.specs.Unit.{readUnit}
 use Rattle.interpreter.specs.Box as lent
 use Rattle.interpreter.specs.Box.{Box, box, powerUp, blank, rightSize, storeSize}
@@ -118,7 +119,7 @@ unfolding if_then_else_ bytes same white printable digit letter wordByte small c
     afterSign fractionOf afterFraction exponentOf afterExponent lowering written numeralFrom decimalOf valueOf scaled suffixes noSuffix powerIn remains number
     nearest sizeIn rounded sizeSide sideIn inPlaces decimal tenths
     table settingAt atReset wideRange lowest highest within conflict examined accepted answerOf raised atStart
-    cutAt trimEnd trim name placed bodyOf byFirst header spells settingRows otherRows rows fitsRow findRow
+    mayStand closes undoubled padded labelDeed cutAt quoteNext cutOpen trimEnd trim name placed bodyOf byFirst header spells settingRows otherRows rows fitsRow findRow
     parameters least greatest findWord parameter readWord readFigure valueGiven settingDeed deedOf readUnit powerUp
     permitted changed replyTo joined fitsAnswer reply perform
     attempt runUnits interrupted finished unitsOf runLine endLine held byte piece taken happens after

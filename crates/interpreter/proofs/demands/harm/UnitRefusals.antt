@@ -29,14 +29,14 @@ unfolding setUp mayBeQueued queueable
 setup-known Save p c = passes tt
 setup-known Recall p c = hold-check Any 314 _ _ refl (λ _. passes tt)
 
-perform-known : (d : Deed) (b : Box) → Holds Any (perform d b)
+perform-known : (d : Deed) (t : Text) (b : Box) → Holds Any (perform d t b)
 unfolding perform
-perform-known (Change x) b = passes tt
-perform-known Complete b = passes tt
-perform-known Clear b = passes tt
-perform-known (Query q) b = hold-bind Any Any _ _ (reply-known _ _) (λ c _. passes tt)
-perform-known (Inquire q) b = hold-bind Any Any _ _ (reply-known _ _) (λ c _. passes tt)
-perform-known (Saving x p) b = hold-bind Any Any _ _ (setup-known x p (b .core)) (λ c _. passes tt)
+perform-known (Change x) t b = passes tt
+perform-known Complete t b = passes tt
+perform-known Clear t b = passes tt
+perform-known (Query q) t b = hold-bind Any Any _ _ (reply-known _ _) (λ c _. passes tt)
+perform-known (Inquire q) t b = hold-bind Any Any _ _ (reply-known _ _) (λ c _. passes tt)
+perform-known (Saving x p) t b = hold-bind Any Any _ _ (setup-known x p (b .core)) (λ c _. passes tt)
 
 pub attempt-known : (path : List Text) (b : Box) (u : Text) → Holds Any (attempt path b u)
 unfolding attempt
@@ -44,7 +44,7 @@ attempt-known path b u =
     let s = b .core .settings in
     hold-bind Any Any _ _ (holds-from (readUnit s path u) (λ r _. tt) (λ n e. read-known s path u e)) (λ r _.
     hold-permitted (r .deed) (b .core) Any _ (λ _.
-    hold-bind Any Any _ _ (perform-known (r .deed) b) (λ c _. passes tt)))
+    hold-bind Any Any _ _ (perform-known (r .deed) (r .text) b) (λ c _. passes tt)))
 
 pub unit-refusals : UnitRefusals
 unfolding runUnits refuse if_then_else_

@@ -19,10 +19,11 @@ use Rattle.registers.specs.Error.{eventBit}
 use Rattle.registers.specs.Settings.{count, Setting as OneSetting, table, settingAt, atReset, wideRange, lowest, highest, within, conflict, examined, accepted, answerOf}
 use Rattle.registers.specs.Group.{rises, falls, eventsAfter, conditionIs}
 use Rattle.registers.specs.Status.{raised, locked, atStart}
-use Rattle.interpreter.specs.Cuts.{front, cutAt, trimEnd, trim}
+use Rattle.registers.specs.Label.{mayStand, closes, undoubled, padded}
+use Rattle.interpreter.specs.Cuts.{front, cutAt, quoteNext, cutOpen, trimEnd, trim}
 use Rattle.interpreter.specs.Header.{Header, here, name, placed, header, spells, bodyOf, byFirst}
 use Rattle.interpreter.specs.Rows.{settingRows, otherRows, rows, fitsRow, findRow}
-use Rattle.interpreter.specs.Parameter.{parameters, least, greatest, findWord, parameter, valueGiven, settingDeed, deedOf, readFigure, readWord}
+use Rattle.interpreter.specs.Parameter.{labelDeed, parameters, least, greatest, findWord, parameter, valueGiven, settingDeed, deedOf, readFigure, readWord}
 use Rattle.interpreter.specs.Unit.{Read, readUnit}
 use Rattle.interpreter.specs.Box.{powerUp, blank}
 use Rattle.interpreter.specs.Perform.{permitted, changed, perform}
@@ -34,7 +35,7 @@ use Rattle.interpreter.specs.declared.deed.Deed.the-variants.{Query}
 use Rattle.interpreter.specs.declared.deed.Query.the-variants.{Value}
 use Rattle.interpreter.specs.declared.deed.Role.{Role}
 use Rattle.interpreter.specs.declared.deed.Role.the-variants.{Setting}
-use Rattle.interpreter.specs.Demand2.{Premises, queried, sentBack, takenFrom}
+use Rattle.interpreter.specs.Demand2.{tabled, Premises, queried, sentBack, takenFrom}
 use Rattle.interpreter.proofs.Possible.{power-up-own}
 
 -- a header in its shortest spelling
@@ -64,7 +65,7 @@ sending t = received (t .0 ++ bytes " " ++ t .1) ∷ []
 
 -- the premises of demand 2's round trip
 abbrev pub PremisesAt : ℕ → Text × Text → Type 0
-PremisesAt i t = Premises (powerUp blank) i (t .1) buffer (takenFrom (powerUp blank) (asking t) [] buffer) (asking t) [] (sending t)
+PremisesAt i t = Premises (powerUp blank) (tabled i) (t .1) buffer (takenFrom (powerUp blank) (asking t) [] buffer) (asking t) [] (sending t)
 
 -- what they speak of
 record Seen : Type 0 where
@@ -106,7 +107,7 @@ expectedAt i t =
       inLine = true;
       asked = t .0 ++ bytes "?";
       units = (t .0 ++ bytes "?") ∷ [];
-      read = passed (record { deed = Query (Value i); path = front (cutAt (code ":") (t .0)) });
+      read = passed (record { deed = Query (Value i); text = []; path = front (cutAt (code ":") (t .0)) });
       number = 0;
       taken = t .1 ++ 10 ∷ [];
       line = t .0 ++ (bytes " " ++ (t .1 ++ []));
@@ -128,7 +129,7 @@ unfolding if_then_else_ bytes same white printable digit letter wordByte small c
     afterSign fractionOf afterFraction exponentOf afterExponent lowering written numeralFrom decimalOf valueOf scaled suffixes noSuffix powerIn remains number switchedOn
     nearest sizeIn rounded sizeSide sideIn inPlaces decimal tenths eventBit
     table settingAt atReset wideRange lowest highest within conflict examined accepted answerOf raised rises falls eventsAfter conditionIs atStart
-    cutAt trimEnd trim name placed bodyOf byFirst header spells settingRows otherRows rows fitsRow findRow
+    mayStand closes undoubled padded labelDeed cutAt quoteNext cutOpen trimEnd trim name placed bodyOf byFirst header spells settingRows otherRows rows fitsRow findRow
     parameters least greatest findWord parameter readWord readFigure valueGiven settingDeed deedOf readUnit powerUp
     permitted changed replyTo inquiryText joined fitsAnswer reply perform
     attempt refuse runUnits interrupted finished unitsOf runLine endLine held byte piece taken reported happens after
@@ -165,6 +166,7 @@ trip-at i t e =
           whole = ap (λ (x : Seen). x .whole .0) e;
           alone = ap (λ (x : Seen). x .units) e ∙ sym (ap (λ (x : Seen). x .asked ∷ []) e);
           path = front (cutAt (code ":") (t .0));
+          text = [];
           asks = ap (λ (x : Seen). x .read) e;
         };
         took = record { number = ap (λ (x : Seen). x .number) e; bytes = ap (λ (x : Seen). x .taken) e };

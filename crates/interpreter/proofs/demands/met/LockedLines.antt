@@ -17,10 +17,11 @@ use Rattle.registers.specs.Settings.{output, voltage, valueAt, table, settingAt
 use Rattle.registers.specs.Group.{rises, falls, eventsAfter, conditionIs}
 use Rattle.registers.specs.Status.{raised, locked, atStart}
 use Rattle.registers.specs.declared.status.RegisterSet.the-variants.{Lock, Warning}
-use Rattle.interpreter.specs.Cuts.{cutAt, trimEnd, trim}
+use Rattle.registers.specs.Label.{mayStand, closes, undoubled, padded}
+use Rattle.interpreter.specs.Cuts.{cutAt, quoteNext, cutOpen, trimEnd, trim}
 use Rattle.interpreter.specs.Header.{name, placed, header, spells, bodyOf, byFirst}
 use Rattle.interpreter.specs.Rows.{settingRows, otherRows, rows, fitsRow, findRow}
-use Rattle.interpreter.specs.Parameter.{parameters, least, greatest, findWord, parameter, valueGiven, settingDeed, deedOf, readFigure, readWord}
+use Rattle.interpreter.specs.Parameter.{labelDeed, parameters, least, greatest, findWord, parameter, valueGiven, settingDeed, deedOf, readFigure, readWord}
 use Rattle.interpreter.specs.Unit.{readUnit}
 use Rattle.interpreter.specs.Box.{powerUp, blank}
 use Rattle.interpreter.specs.Perform.{permitted, changed, perform}
@@ -56,7 +57,7 @@ unfolding if_then_else_ bytes same white printable digit letter wordByte small c
     afterSign fractionOf afterFraction exponentOf afterExponent lowering written numeralFrom decimalOf valueOf scaled suffixes noSuffix powerIn remains number switchedOn
     nearest sizeIn rounded sizeSide sideIn inPlaces decimal tenths eventBit
     table settingAt atReset wideRange lowest highest within conflict examined accepted answerOf raised rises falls eventsAfter conditionIs atStart
-    cutAt trimEnd trim name placed bodyOf byFirst header spells settingRows otherRows rows fitsRow findRow
+    mayStand closes undoubled padded labelDeed cutAt quoteNext cutOpen trimEnd trim name placed bodyOf byFirst header spells settingRows otherRows rows fitsRow findRow
     parameters least greatest findWord parameter readWord readFigure valueGiven settingDeed deedOf readUnit powerUp
     permitted changed replyTo inquiryText joined fitsAnswer reply perform
     attempt refuse runUnits interrupted finished unitsOf runLine endLine held byte piece taken reported happens after

@@ -46,11 +46,11 @@ Rest run go = (path : List Text) (c : Core) (t t′ : Trouble) → Agree (go pat
 abbrev pub leaving : List Text → Checked Box → Checked Obeyed
 leaving path m = m >>= λ b. passed (record { path = path; box = b })
 
-abbrev pub obeys : Core → Deed → List Text → Trouble → Checked Obeyed
-obeys c d path s = permitted d c >> leaving path (perform d (box c s))
+abbrev pub obeys : Core → Deed → Text → List Text → Trouble → Checked Obeyed
+obeys c d x path s = permitted d c >> leaving path (perform d x (box c s))
 
 abbrev pub attempted : Core → Checked Read → Trouble → Checked Obeyed
-attempted c m s = m >>= λ r. obeys c (r .deed) (r .path) s
+attempted c m s = m >>= λ r. obeys c (r .deed) (r .text) (r .path) s
 
 module _ (run : List Text → Box → Box) (go : List Text → Box → Watch) (ih : Rest run go) (c : Core) (t t′ : Trouble) where
   query-agree : (path : List Text) (r : Checked Core)
@@ -79,23 +79,23 @@ module _ (run : List Text → Box → Box) (go : List Text → Box → Watch) (i
   setup-agree (passed u) path r = query-agree path r
   setup-agree (refused n) path r = refuse-core n c t t′
 
-  deed-agree : (d : Deed) (path : List Text)
-      → Agree (thenWatch (watchDeed d) (watchNext go (obeys c d path t)))
-      (next run (box c t) (obeys c d path t)) (next run (box c t′) (obeys c d path t′))
+  deed-agree : (d : Deed) (x : Text) (path : List Text)
+      → Agree (thenWatch (watchDeed d) (watchNext go (obeys c d x path t)))
+      (next run (box c t) (obeys c d x path t)) (next run (box c t′) (obeys c d x path t′))
   unfolding permitted perform _>>=_ _>>_ check
-  deed-agree (Change x) path = change-agree (permitted (Change x) c) path _
-  deed-agree Complete path = ih path c _ _
-  deed-agree Clear path = refl
-  deed-agree (Query q) path = query-agree path (reply (replyTo q c) (afterQuery q c))
-  deed-agree (Inquire q) path = tt
-  deed-agree (Saving x p) path = setup-agree (permitted (Saving x p) c) path (setUp x p c)
+  deed-agree (Change y) x path = change-agree (permitted (Change y) c) path _
+  deed-agree Complete x path = ih path c _ _
+  deed-agree Clear x path = refl
+  deed-agree (Query q) x path = query-agree path (reply (replyTo q c) (afterQuery q c))
+  deed-agree (Inquire q) x path = tt
+  deed-agree (Saving y p) x path = setup-agree (permitted (Saving y p) c) path (setUp y p c)
 
   read-agree : (m : Checked Read)
       → Agree (thenWatch (watchRead m) (watchNext go (attempted c m t)))
       (next run (box c t) (attempted c m t)) (next run (box c t′) (attempted c m t′))
   unfolding _>>=_
   read-agree (refused n) = refuse-core n c t t′
-  read-agree (passed r) = deed-agree (r .deed) (r .path)
+  read-agree (passed r) = deed-agree (r .deed) (r .text) (r .path)
 
 units-agree : (us path : List Text) (c : Core) (t t′ : Trouble)
     → Agree (watchUnits us path (box c t)) (runUnits us path (box c t)) (runUnits us path (box c t′))

@@ -15,9 +15,9 @@ use Rattle.interpreter.specs.declared.deed.Saving.the-variants.{Save, Re
 use Rattle.interpreter.specs.declared.deed.Deed.{Deed}
 use Rattle.interpreter.specs.declared.deed.Deed.the-variants.{Change, Complete, Clear, Query, Inquire, Saving}
 use Rattle.interpreter.specs.declared.deed.Change as changes
-use Rattle.interpreter.specs.declared.deed.Change.the-variants.{Nothing, Put, Reset, Store}
+use Rattle.interpreter.specs.declared.deed.Change.the-variants.{Nothing, Put, Reset, Store, Label as labelled}
 use Rattle.interpreter.specs.declared.deed.Query as queries
-use Rattle.interpreter.specs.declared.deed.Query.the-variants.{Identity, SelfTest, Completed, Limit, Value, Stored, Condition, SetEvents}
+use Rattle.interpreter.specs.declared.deed.Query.the-variants.{Identity, SelfTest, Completed, Limit, Value, Stored, Condition, SetEvents, Label as labelAsked}
 use Rattle.interpreter.proofs.Choices.{if-elim}
 use Rattle.interpreter.proofs.Kept.{line-keeps}
 use Rattle.interpreter.proofs.Checks.{Holds, passes, hold-bind, hold-check}
@@ -26,12 +26,13 @@ use Rattle.interpreter.proofs.demands.histories.Pieces.{newline-after}
 abbrev FreshBox : Box → Type 0
 FreshBox b = Fresh (b .core)
 
-changed-fresh : (x : changes.Change) (c : Core) → Fresh c → Fresh (changed x c)
+changed-fresh : (x : changes.Change) (t : Text) (c : Core) → Fresh c → Fresh (changed x t c)
 unfolding changed
-changed-fresh Nothing c f = f
-changed-fresh (Put i v side) c f = f
-changed-fresh Reset c f = f
-changed-fresh (Store r n side) c f = f
+changed-fresh Nothing t c f = f
+changed-fresh (Put i v side) t c f = f
+changed-fresh Reset t c f = f
+changed-fresh (Store r n side) t c f = f
+changed-fresh labelled t c f = f
 
 query-fresh : (q : queries.Query) (c : Core) → Fresh c → Fresh (afterQuery q c)
 query-fresh Identity c f = f
@@ -42,6 +43,7 @@ query-fresh (Value i) c f = f
 query-fresh (Stored x) c f = f
 query-fresh (Condition x) c f = f
 query-fresh (SetEvents x) c f = f
+query-fresh labelAsked c f = f
 
 reply-fresh : (t : Text) (c : Core) → Fresh c → Holds Fresh (reply t c)
 unfolding reply mayBeQueued queueable
@@ -52,19 +54,19 @@ unfolding setUp mayBeQueued queueable
 setup-fresh Save p c f = passes f
 setup-fresh Recall p c f = hold-check Fresh 314 _ _ refl (λ _. passes f)
 
-perform-fresh : (d : Deed) (b : Box) → FreshBox b → Holds FreshBox (perform d b)
+perform-fresh : (d : Deed) (t : Text) (b : Box) → FreshBox b → Holds FreshBox (perform d t b)
 unfolding perform
-perform-fresh (Change x) b f = passes (changed-fresh x (b .core) f)
-perform-fresh Complete b f = passes f
-perform-fresh Clear b f = passes f
-perform-fresh (Query q) b f = hold-bind Fresh FreshBox _ _ (reply-fresh _ _ (query-fresh q (b .core) f)) (λ c g. passes g)
-perform-fresh (Inquire q) b f = hold-bind Fresh FreshBox _ _ (reply-fresh _ _ f) (λ c g. passes g)
-perform-fresh (Saving x p) b f = hold-bind Fresh FreshBox _ _ (setup-fresh x p (b .core) f) (λ c g. passes g)
+perform-fresh (Change x) t b f = passes (changed-fresh x t (b .core) f)
+perform-fresh Complete t b f = passes f
+perform-fresh Clear t b f = passes f
+perform-fresh (Query q) t b f = hold-bind Fresh FreshBox _ _ (reply-fresh _ _ (query-fresh q (b .core) f)) (λ c g. passes g)
+perform-fresh (Inquire q) t b f = hold-bind Fresh FreshBox _ _ (reply-fresh _ _ f) (λ c g. passes g)
+perform-fresh (Saving x p) t b f = hold-bind Fresh FreshBox _ _ (setup-fresh x p (b .core) f) (λ c g. passes g)
 
 newline-fresh : (b : Box) → FreshBox (endLine b)
 unfolding interrupted
 newline-fresh b =
-    line-keeps FreshBox (λ d b a l f. perform-fresh d b f) (λ n b e f. f) (λ b f. f) (λ a b f. f) b
+    line-keeps FreshBox (λ d t b a x l f. perform-fresh d t b f) (λ n b e f. f) (λ b f. f) (λ a b f. f) b
     (if-elim FreshBox (empty (b .core .answer)) (λ _. (refl, refl)) (λ _. (refl, refl)))
 
 pub lines-begin : LinesBegin

@@ -42,21 +42,21 @@ module _ (go : List Text → Box → Watch) (ih : (path : List Text) (c : Core) 
   setup-watch (passed u) path r = query-watch path r
   setup-watch (refused n) path r = refl
 
-  deed-watch : (d : Deed) (path : List Text)
-      → thenWatch (watchDeed d) (watchNext go (obeys c d path t)) ≡ thenWatch (watchDeed d) (watchNext go (obeys c d path t′))
+  deed-watch : (d : Deed) (x : Text) (path : List Text)
+      → thenWatch (watchDeed d) (watchNext go (obeys c d x path t)) ≡ thenWatch (watchDeed d) (watchNext go (obeys c d x path t′))
   unfolding permitted perform _>>=_ _>>_ check
-  deed-watch (Change x) path = change-watch (permitted (Change x) c) path _
-  deed-watch Complete path = ih path c _ _
-  deed-watch Clear path = refl
-  deed-watch (Query q) path = query-watch path (reply (replyTo q c) (afterQuery q c))
-  deed-watch (Inquire q) path = refl
-  deed-watch (Saving x p) path = setup-watch (permitted (Saving x p) c) path (setUp x p c)
+  deed-watch (Change y) x path = change-watch (permitted (Change y) c) path _
+  deed-watch Complete x path = ih path c _ _
+  deed-watch Clear x path = refl
+  deed-watch (Query q) x path = query-watch path (reply (replyTo q c) (afterQuery q c))
+  deed-watch (Inquire q) x path = refl
+  deed-watch (Saving y p) x path = setup-watch (permitted (Saving y p) c) path (setUp y p c)
 
   read-watch : (m : Checked Read)
       → thenWatch (watchRead m) (watchNext go (attempted c m t)) ≡ thenWatch (watchRead m) (watchNext go (attempted c m t′))
   unfolding _>>=_
   read-watch (refused n) = refl
-  read-watch (passed r) = deed-watch (r .deed) (r .path)
+  read-watch (passed r) = deed-watch (r .deed) (r .text) (r .path)
 
 units-watch : (us path : List Text) (c : Core) (t t′ : Trouble) → watchUnits us path (box c t) ≡ watchUnits us path (box c t′)
 unfolding watchUnits attempt

@@ -21,10 +21,10 @@ abbrev entry : tie.At-loop Inv-loop μ-loop → tie.Start Inv-loop μ-loop
 entry l = l .before .before .before .before .before
 
 -- once a unit's end is found, and once the unit is run
-abbrev turn : tie.After-find Inv-loop μ-loop → tie.At-loop Inv-loop μ-loop
+abbrev turn : tie.After-part-end Inv-loop μ-loop → tie.At-loop Inv-loop μ-loop
 turn f = f .before
 
-abbrev found : tie.After-run-unit Inv-loop μ-loop → tie.After-find Inv-loop μ-loop
+abbrev found : tie.After-run-unit Inv-loop μ-loop → tie.After-part-end Inv-loop μ-loop
 found r = r .before .before .before .before .before
 
 loop-holds : tie.Need-loop-holds Inv-loop μ-loop
@@ -34,19 +34,17 @@ loop-holds c =
     let p = s .pre in
     going-start (a .present) _ (a .line .now) _ (a .out .now) (a .store .now) (p .0 .1) (p .1 .1) (p .1 .0) (p .1 .2)
 
-find-requires : tie.Need-find-requires Inv-loop μ-loop
-find-requires c κs =
-    let within = c .loop .inv .within in
-    (within, omega arith)
+part-end-requires : tie.Need-part-end-requires Inv-loop μ-loop
+part-end-requires c κs = c .loop .inv .within
 
 sub-run-unit : tie.Need-sub-run-unit Inv-loop μ-loop
-sub-run-unit c = omega (arith, c .before .find .ensures .0)
+sub-run-unit c = omega (arith, c .before .part-end .ensures .0)
 
 part-run-unit-start : tie.Need-part-run-unit-start Inv-loop μ-loop
-part-run-unit-start c = omega (arith, c .before .find .ensures .0)
+part-run-unit-start c = omega (arith, c .before .part-end .ensures .0)
 
 part-run-unit-end : tie.Need-part-run-unit-end Inv-loop μ-loop
-part-run-unit-end c = c .before .find .ensures .1
+part-run-unit-end c = c .before .part-end .ensures .1
 
 run-unit-requires : tie.Need-run-unit-requires Inv-loop μ-loop
 run-unit-requires c κs =
@@ -76,7 +74,7 @@ same-length-2 c =
 returns : tie.Need-returns Inv-loop μ-loop
 returns c =
     let r = c .before .before .before .before .before .before .before in
-    let end = found r .find in
+    let end = found r .part-end in
     let g = turn (found r) .loop .inv in
     let w = r .run-unit .ensures (g .path) (g .holds) in
     record {
@@ -88,20 +86,20 @@ returns c =
 add-at : tie.Need-add-at Inv-loop μ-loop
 add-at c =
     let f = found (c .before .before .before .before .before .before) in
-    let ends = f .find .ensures .1 in
+    let ends = f .part-end .ensures .1 in
     omega (arith, entry (turn f) .good)
 
 loop-less : tie.Need-loop-less Inv-loop μ-loop
 loop-less c =
     let r = c .before .before .before .before .before .before in
-    let end = found r .find in
+    let end = found r .part-end in
     let g = turn (found r) .loop .inv in
     going-less _ _ _ _ _ _ _ g (end .result) (end .ensures .0) (end .ensures .1) (r .run-unit .result) _ _ _ (r .run-unit .ensures (g .path) (g .holds)) (not-false _ (c .if1 .left))
 
 loop-again : tie.Need-loop-again Inv-loop μ-loop
 loop-again c =
     let r = c .before .before .before .before .before .before in
-    let end = found r .find in
+    let end = found r .part-end in
     let g = turn (found r) .loop .inv in
     going-on _ _ _ _ _ _ _ g (end .result) (end .ensures .0) (end .ensures .1) (r .run-unit .result) _ _ _ (r .run-unit .ensures (g .path) (g .holds)) (not-false _ (c .if1 .left))
     (let k = r .run-unit .kept in omega arith) (let k = r .run-unit .kept in omega arith)
@@ -113,7 +111,7 @@ run-units-spec =
     Inv-loop
     μ-loop
     loop-holds
-    find-requires
+    part-end-requires
     sub-run-unit
     part-run-unit-start
     part-run-unit-end

@@ -15,7 +15,7 @@ use Rattle.interpreter.specs.declared.deed.Role.the-variants.{Setting}
 use Rattle.interpreter.specs.declared.parameter.Decision.{Decision}
 use Rattle.interpreter.specs.declared.parameter.Decision.the-variants.{Obey}
 use Rattle.interpreter.proofs.parameter.Cuts.{parts-are}
-use Rattle.interpreter.proofs.parameter.Decisions.{register-is, saving-is}
+use Rattle.interpreter.proofs.parameter.Decisions.{register-is, saving-is, label-is}
 use Rattle.interpreter.proofs.parameter.ByKind.{too-few, enough, greatest-one}
 use Rattle.interpreter.proofs.unit.Found.{setting-known}
 use Rattle.interpreter.proofs.unit.Laws.{checked, has-empty, not-found, found}
@@ -195,6 +195,22 @@ returns-8 c =
     passes e _ (role .1) (c .decide-place .result)
     (c .decide-place .ensures ∙ saving-is (a .settings) (role .0 .0) (a .heading .asked) (a .text .now) (omega (arith, few, many e)) (omega (arith, most, many e)))
 
+enum-told-2 : tie.Need-enum-told-2
+enum-told-2 c = c .match .keys5
+
+decide-requires : tie.Need-decide-requires
+decide-requires c κs = tt
+
+returns-9 : tie.Need-returns-9
+returns-9 c =
+    let e = c .before .before .before in
+    let p = role-at e in
+    let a = entry p .args in
+    let role = c .before .enum-told2 .given in
+    let few = subst (λ (r : Role). least r (a .heading .asked) ≤ parts-of p) (role .1) (least-let e) in
+    passes e _ (role .1) (c .decide .result)
+    (c .decide .ensures ∙ label-is (a .settings) (a .heading .asked) (a .text .now) (omega (arith, few, many e)))
+
 pub decide-spec : {M : Type 1} → statement M
 decide-spec =
     tie.close
@@ -216,4 +232,7 @@ decide-spec =
     returns-7
     enum-known-role-3
     decide-place-requires
-    returns-8)
+    returns-8
+    enum-told-2
+    decide-requires
+    returns-9)
