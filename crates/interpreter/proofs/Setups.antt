@@ -9,10 +9,10 @@ use borrow.Author.Tests.{eqb-true, eq-eqb}
 use Rattle.registers.specs.Text.{Text}
 use Rattle.registers.specs.Check.{Checked, refused, passed, check, _>>_}
 use Rattle.registers.specs.Setup.{blockSize, places, blockOf, settingsIn, recallable, blockAt, savedAt}
-use Rattle.registers.proofs.setup.Laws.{saved-back, older-empty, not-recalled, saved-long, saved-here, saved-before, saved-after, zeros-not-recalled}
+use Rattle.registers.proofs.setup.Laws.{saved-back, older-recalled, older-empty, not-recalled, saved-long, saved-here, saved-before, saved-after, zeros-not-recalled}
 use Rattle.interpreter.specs.Box.{Memory, storeSize, rightSize, withStore, Core, withMemory}
 use Rattle.interpreter.specs.Perform.{setUp}
-use Rattle.interpreter.specs.Setups.{SavedIsRecalled, OlderHasNoText, AlteredIsNoticed, SavesOnlyItsBlock, Setups, ZerosAreRefused}
+use Rattle.interpreter.specs.Setups.{SavedIsRecalled, OlderIsRecalled, AlteredIsNoticed, SavesOnlyItsBlock, Setups, ZerosAreRefused}
 use Rattle.interpreter.specs.declared.deed.Saving.the-variants.{Save}
 
 store-long : (m : Memory) → rightSize m ≡ true → length (m .store) ≡ storeSize
@@ -71,8 +71,11 @@ only p c d h size saved =
       rest = left ∙ ap (λ (m : Memory). withMemory m c) (sym (ap (λ (f : Core). f .memory) left));
     }
 
-older : OlderHasNoText
-older p c e = older-empty (blockAt p (c .memory .store)) e
+older : OlderIsRecalled
+unfolding setUp check _>>_
+older p c good values e =
+    let b = blockAt p (c .memory .store) in
+    (rw (older-recalled b good values e), older-empty b e)
 
 pub setups : Setups
 setups = record { recalled = recalled; zeros = zeros; older = older; noticed = noticed; only = only }

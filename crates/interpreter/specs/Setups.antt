@@ -7,7 +7,7 @@ use Prim.Native.Nat.{ℕ, _+_, _*_, _≤_, _<_}
 use lib.ListN.{getD, replicate}
 use Rattle.registers.specs.Check.{refused, passed}
 use Rattle.registers.specs.Label.{mostText}
-use Rattle.registers.specs.Settings.{displayed, AsLong, possibleSettings}
+use Rattle.registers.specs.Settings.{displayed, AsLong, possibleValues, possibleSettings}
 use Rattle.registers.specs.Setup.{places, blockSize, checks, savedText, settingsIn, blockAt}
 use Rattle.interpreter.specs.Box.{rightSize, alteredIn, Core, withSettings, withMemory}
 use Rattle.interpreter.specs.Perform.{setUp}
@@ -25,9 +25,12 @@ SavedIsRecalled =
 abbrev pub ZerosAreRefused : Type 0
 ZerosAreRefused = (p : ℕ) (c : Core) → blockAt p (c .memory .store) ≡ replicate blockSize 0 → setUp Recall p c ≡ refused 314
 
--- the text of a block that was saved before there was one (02, #109), with zeros in its place, is empty
-abbrev pub OlderHasNoText : Type 0
-OlderHasNoText = (p : ℕ) (c : Core) → savedText (blockAt p (c .memory .store)) ≡ replicate mostText 0 → displayed (settingsIn (blockAt p (c .memory .store))) ≡ []
+-- a block that was saved before there was a text (02, #109), with zeros in its place, is recalled as it was, with an empty one
+abbrev pub OlderIsRecalled : Type 0
+OlderIsRecalled =
+    (p : ℕ) (c : Core) → let b = blockAt p (c .memory .store) in
+    checks b ≡ true → possibleValues (settingsIn b) ≡ true → savedText b ≡ replicate mostText 0
+    → (setUp Recall p c ≡ passed (withSettings (settingsIn b) c)) × (displayed (settingsIn b) ≡ [])
 
 -- a block whose check holds, with another byte at one place, is not recalled
 abbrev pub AlteredIsNoticed : Type 0
@@ -48,7 +51,7 @@ SavesOnlyItsBlock = (p : ℕ) (c d : Core) → p < places → rightSize (c .memo
 
 pub record Setups : Type 0 where
   pub recalled : SavedIsRecalled
-  pub older : OlderHasNoText
+  pub older : OlderIsRecalled
   pub zeros : ZerosAreRefused
   pub noticed : AlteredIsNoticed
   pub only : SavesOnlyItsBlock

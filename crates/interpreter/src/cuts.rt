@@ -42,8 +42,8 @@ pub(crate) fn part_end(text: &[u8], at: usize, separator: u8) -> usize
     requires { ⌜ at ≤ length (now text) ⌝ }
     ensures { λ r. ⌜ (r ≡ at + placeOpen separator 0 (drop at (now (text .entry)))) × (r ≤ length (now (text .entry))) ⌝ }
 {
-    let mut i = plain_end(text, at, separator);
     let mut mark: u8 = 0;
+    let mut i = plain_end(text, at, separator);
     while i < text.len() {
         let b = text[i];
         if (mark == 0) & (b == separator) {

@@ -313,10 +313,23 @@ saved-back s long p =
     let same : settingsIn (blockOf s) ≡ s = ap₂ (λ (l : List ℤ) (t : Text). record { values = l; text = t }) values (text-back s (long .text)) in
     (and-true (block-checks s (text-from s p)) (ap possibleSettings same ∙ p), same)
 
+said-text : (b : Text) → settingsIn b .text ≡ savedText b
+unfolding settingsIn
+said-text b = refl
+
+zeros-possible : possibleText (replicate mostText 0) ≡ true
+unfolding possibleText if_then_else_
+zeros-possible = refl
+
 -- a block that was saved before there was a text has an empty one
 pub older-empty : (b : Text) → savedText b ≡ replicate mostText 0 → displayed (settingsIn b) ≡ []
 unfolding settingsIn if_then_else_
 older-empty b e = ap heldIn e
+
+-- and is taken as before
+pub older-recalled : (b : Text) → checks b ≡ true → possibleValues (settingsIn b) ≡ true → savedText b ≡ replicate mostText 0 → recallable b ≡ true
+unfolding recallable possibleSettings
+older-recalled b good values e = and-true good (and-true values (ap possibleText (said-text b ∙ e) ∙ zeros-possible))
 
 -- ---- "*SAV touches only its own block"
 

@@ -45,6 +45,7 @@ part-end-spec =
     (tie.spec
     Inv-loop
     μ-loop
+    (λ c κs. search needs)
     loop-holds
     shared-slice-read-b
     returns
