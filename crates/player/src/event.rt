@@ -191,10 +191,13 @@ fn show_answer(state: State, from: usize, out: &mut [u8]) -> usize {
     report::hex_front(out, from, &answer, state.waiting)
 }
 
-// Writes the settings in the order of their rows.
+// Writes the settings in the order of their rows, and after them the text.
 fn show_settings(settings: Settings, from: usize, out: &mut [u8]) -> usize {
     let values = settings.values;
-    report::signed_numbers(out, from, &values)
+    let text = settings.text;
+    let numbers = report::signed_numbers(out, from, &values);
+    let comma = report::put(out, numbers, b',');
+    report::put_held(out, comma, &text)
 }
 
 // Writes what a report has after the line: the answer, and the registers of LOCK and WARNing.

@@ -1,8 +1,9 @@
-// Overwrites a number of the raw record, so that states can be tried that the box never comes to.
+// Overwrites a number of the raw record, or its text, so that states can be tried that the box never comes to.
 use crate::script;
 use crate::script::Reading;
 use interpreter::state::State;
 use registers::group::Group;
+use registers::label::TEXT;
 use registers::settings::Settings;
 use registers::status::RegisterSet;
 use registers::status::Status;
@@ -10,9 +11,10 @@ ghost use Prim.Native.Nat.{_≤_};
 ghost use lib.ListN.{length};
 ghost use Rattle.registers.specs.Settings.{count};
 
-// The numbers of the record that a script can name.
+// The numbers of the record that a script can name, and the text.
 pub(crate) enum Field {
     Setting(usize),
+    Text,
     Events,
     Ese,
     Sre,
@@ -28,7 +30,7 @@ pub(crate) enum Field {
     Unknown,
 }
 
-// The record with the number overwritten, or as it was where the value can't be read.
+// The record with the field overwritten, or as it was where the value can't be read.
 pub(crate) struct Overwritten {
     pub(crate) state: State,
     pub(crate) readable: bool,
@@ -109,8 +111,11 @@ fn register(name: &[u8]) -> Field {
     of_set(RegisterSet::Operation, name)
 }
 
-// Finds a field that is one number, not a place of an array.
+// Finds a field that is one number, not a place of an array, or the text.
 fn single(name: &[u8]) -> Field {
+    if check::same(name, b"text") {
+        return Field::Text;
+    }
     if check::same(name, b"esr") {
         return Field::Events;
     }
@@ -231,6 +236,34 @@ fn setting(mut state: State, row: usize, value: &[u8]) -> Overwritten {
     }
 }
 
+// Puts bytes in the place of the text, as the record holds them.
+fn with_text(mut state: State, bytes: [u8; TEXT]) -> Overwritten {
+    let mut settings = state.settings;
+    settings.text = bytes;
+    state.settings = settings;
+    Overwritten {
+        state,
+        readable: true,
+    }
+}
+
+// Overwrites the text by the bytes that hex digits spell, whatever they are, and zeros after them. A
+// dash stands for no byte; more than the record holds can't be read.
+fn text(state: State, value: &[u8]) -> Overwritten {
+    let mut bytes = [0u8; TEXT];
+    if check::same(value, b"-") {
+        return with_text(state, bytes);
+    }
+    let n = script::unhex(value, &mut bytes);
+    if (n == 0) | (TEXT < n) {
+        return Overwritten {
+            state,
+            readable: false,
+        };
+    }
+    with_text(state, bytes)
+}
+
 // Overwrites any other field, whose value has at most 16 bits.
 fn number(state: State, field: Field, value: &[u8]) -> Overwritten {
     let n = script::decimal(value);
@@ -252,6 +285,7 @@ pub(crate) fn overwrite(state: State, name: &[u8], value: &[u8]) -> Overwritten 
     let field = named(name);
     match field {
         Field::Setting(row) => setting(state, row, value),
+        Field::Text => text(state, value),
         Field::Unknown => Overwritten {
             state,
             readable: false,

@@ -1,5 +1,6 @@
 // Writes the line that answers an event into a buffer. Each writer is told where it starts and gives
 // where it ends; what the buffer can't hold is dropped.
+use bytes::scan;
 use interpreter::state::Outcome;
 use registers::answer;
 ghost use Prim.Native.Nat.{_<_};
@@ -81,18 +82,31 @@ fn nothing(out: &mut [u8], from: usize) -> usize {
     put(out, at, b'-')
 }
 
-// Writes a blank and bytes in hex.
-pub(crate) fn hex(out: &mut [u8], from: usize, bytes: &[u8]) -> usize {
+// Writes bytes in hex, or a dash where there is none.
+pub(crate) fn put_hex(out: &mut [u8], from: usize, bytes: &[u8]) -> usize {
     if bytes.len() == 0 {
-        return nothing(out, from);
+        return put(out, from, b'-');
     }
-    let mut at = put(out, from, b' ');
+    let mut at = from;
     let mut i: usize = 0;
     while i < bytes.len() {
         at = put_byte(out, at, bytes[i]);
         i += 1;
     }
     at
+}
+
+// Writes in hex the text that an array holds, which ends before the first zero. What a hand-made record
+// has after that isn't shown.
+pub(crate) fn put_held(out: &mut [u8], from: usize, array: &[u8]) -> usize {
+    let end = scan::find(array, 0, array.len(), 0);
+    put_hex(out, from, &array[0..end])
+}
+
+// Writes a blank and bytes in hex.
+pub(crate) fn hex(out: &mut [u8], from: usize, bytes: &[u8]) -> usize {
+    let at = put(out, from, b' ');
+    put_hex(out, at, bytes)
 }
 
 // Writes a blank and the first bytes in hex, or all of them where a hand-made count is past the end.
