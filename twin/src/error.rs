@@ -30,6 +30,7 @@ errors! {
     ParameterNotAllowed = 108, "Parameter not allowed";
     MissingParameter = 109, "Missing parameter";
     UndefinedHeader = 113, "Undefined header";
+    HeaderSuffixOutOfRange = 114, "Header suffix out of range";
     InvalidCharacterInNumber = 121, "Invalid character in number";
     ExponentTooLarge = 123, "Exponent too large";
     TooManyDigits = 124, "Too many digits";

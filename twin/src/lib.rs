@@ -22,7 +22,7 @@ mod unit;
 
 pub use answer::{Answer, ANSWER_LIMIT};
 pub use line::{Line, LINE_LIMIT};
-pub use settings::{Settings, SETTINGS};
+pub use settings::{Settings, SETTINGS, SETTINGS_OF_ONE};
 pub use setups::{Store, BLOCK_LENGTH, PLACES, STORE_LENGTH};
 pub use state::{Refusal, State};
 pub use status::{RegisterSet, SetName, Status, QUEUE_LIMIT};

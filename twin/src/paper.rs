@@ -117,6 +117,23 @@ pub fn suffixes(place: usize) -> &'static [(&'static str, i32)] {
     }
 }
 
+/// The nodes that take a channel's number (02, #111), without one and with each of both.
+pub static CHANNEL_NODES: [[&str; 3]; 4] = [
+    ["OUTPut", "OUTPut1", "OUTPut2"],
+    ["VOLTage", "VOLTage1", "VOLTage2"],
+    ["FREQuency", "FREQuency1", "FREQuency2"],
+    ["CURRent", "CURRent1", "CURRent2"],
+];
+
+/// The place of channel 2's setting of the same kind, if there is one (02, #111).
+pub fn place_in_channel_2(place: usize) -> Option<usize> {
+    match place {
+        0..=2 => Some(17 + place),
+        4..=13 => Some(16 + place),
+        _ => None,
+    }
+}
+
 /// The nodes of a printed header, each with the mark whether it may be left out.
 pub fn nodes(printed: &str) -> Vec<(&str, bool)> {
     let mut nodes = Vec::new();

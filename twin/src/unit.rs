@@ -4,9 +4,9 @@ use std::cmp::Ordering;
 
 use crate::answer::Answer;
 use crate::error::Error;
-use crate::header::{self, Command, Place, Query, Register, Row, Setup};
+use crate::header::{self, Command, Path, Query, Register, Row, Setup};
 use crate::number::{self, Quantity, Rounded, Step, Written};
-use crate::settings::{Setting, Settings, Values, R12V};
+use crate::settings::{Setting, Settings, Slot, Values, R12V};
 use crate::setups::{self, Store, PLACES};
 use crate::status::{Status, FIFTEEN_BITS};
 use crate::string::{part_length, Text, TEXT_LIMIT};
@@ -53,7 +53,7 @@ impl Instrument {
     }
 
     fn run_units(&mut self, line: &[u8], store: &mut Store) -> Result<(), Error> {
-        let mut path = Place::Root;
+        let mut path = Path::ROOT;
         let mut rest = line;
         loop {
             let unit = Unit::cut(rest);
@@ -66,13 +66,13 @@ impl Instrument {
     }
 
     /// Runs one unit after the path and gives the path for the next.
-    fn run_unit(&mut self, unit: &Unit, path: Place, store: &mut Store) -> Result<Place, Error> {
+    fn run_unit(&mut self, unit: &Unit, path: Path, store: &mut Store) -> Result<Path, Error> {
         if !unit.seen.valid {
             return Err(Error::InvalidCharacter);
         }
         let (header, rest) = header::read(skip_white_space(unit.text), path)?;
         let parameters = Parameters::read(skip_white_space(rest), unit.seen.maybe_quoted)?;
-        let row = header.row()?;
+        let row = header.row?;
         if header.query {
             self.answer_query(row, &parameters)?;
         } else {
@@ -84,7 +84,7 @@ impl Instrument {
     /// The setting form of a row; -113 if it lacks one (01, check 3).
     fn obey(&mut self, row: Row, parameters: &Parameters, store: &mut Store) -> Result<(), Error> {
         match row {
-            Row::Setting(setting) => self.obey_setting(setting, parameters.one()?),
+            Row::Setting(slot) => self.obey_setting(slot, parameters.one()?),
             Row::Register(register) => self.write_register(register, parameters.one()?),
             Row::Command(command) => {
                 parameters.none()?;
@@ -148,55 +148,53 @@ impl Instrument {
         }
     }
 
-    fn obey_setting(&mut self, setting: Setting, parameter: &[u8]) -> Result<(), Error> {
-        let value = match setting.values() {
+    fn obey_setting(&mut self, slot: Slot, parameter: &[u8]) -> Result<(), Error> {
+        let value = match slot.values() {
             Values::Bool => read_bool(parameter)?,
             Values::Words(words) => read_word(words, parameter)?,
-            &Values::Number(step, quantity) => {
-                self.read_number(setting, step, quantity, parameter)?
-            }
+            &Values::Number(step, quantity) => self.read_number(slot, step, quantity, parameter)?,
         };
         // Switching off is never blocked.
-        let switches_off = setting == Setting::OutputState && value == 0;
+        let switches_off = slot.setting == Setting::OutputState && value == 0;
         if !switches_off {
             self.must_not_be_locked()?;
         }
-        if setting == Setting::VoltageRange
+        if slot.setting == Setting::VoltageRange
             && value == R12V
-            && self.settings.voltage_is_above_r12v()
+            && self.settings.voltage_is_above_r12v(slot.channel)
         {
             return Err(Error::SettingsConflict);
         }
-        self.settings.set(setting, value);
+        self.settings.set(slot, value);
         Ok(())
     }
 
     fn read_number(
         &self,
-        setting: Setting,
+        slot: Slot,
         step: Step,
         quantity: Option<Quantity>,
         parameter: &[u8],
     ) -> Result<i32, Error> {
         match Parameter::read(parameter)? {
-            Parameter::Word(spelling) => self.limit(setting, spelling),
+            Parameter::Word(spelling) => self.limit(slot, spelling),
             Parameter::Number(text) => {
                 let rounded = number::read(text, quantity)?.in_steps(step);
                 if self.settings.exam_is_on() && rounded.side != Ordering::Equal {
                     return Err(Error::DataOutOfRange);
                 }
-                let lowest = self.settings.lowest(setting);
-                within(lowest, self.settings.highest(setting), rounded)
+                let lowest = self.settings.lowest(slot);
+                within(lowest, self.settings.highest(slot), rounded)
             }
         }
     }
 
     /// The limit that a word names.
-    fn limit(&self, setting: Setting, spelling: Spelling) -> Result<i32, Error> {
+    fn limit(&self, slot: Slot, spelling: Spelling) -> Result<i32, Error> {
         if MINIMUM.is_spelled(spelling) {
-            Ok(self.settings.lowest(setting))
+            Ok(self.settings.lowest(slot))
         } else if MAXIMUM.is_spelled(spelling) {
-            Ok(self.settings.highest(setting))
+            Ok(self.settings.highest(slot))
         } else {
             Err(Error::InvalidCharacterData)
         }
@@ -223,7 +221,7 @@ impl Instrument {
     /// The query form of a row; -113 if it lacks one (01, check 3).
     fn answer_query(&mut self, row: Row, parameters: &Parameters) -> Result<(), Error> {
         match row {
-            Row::Setting(setting) => self.answer_setting(setting, parameters),
+            Row::Setting(slot) => self.answer_setting(slot, parameters),
             Row::Register(register) => {
                 parameters.none()?;
                 self.answer_register(self.register(register))
@@ -297,14 +295,14 @@ impl Instrument {
         self.answer.add(&quoted[..length])
     }
 
-    fn answer_setting(&mut self, setting: Setting, parameters: &Parameters) -> Result<(), Error> {
-        let present = self.settings.get(setting);
-        match setting.values() {
+    fn answer_setting(&mut self, slot: Slot, parameters: &Parameters) -> Result<(), Error> {
+        let present = self.settings.get(slot);
+        match slot.values() {
             Values::Number(step, _) => {
                 let value = match parameters.at_most_one()? {
                     None => present,
                     Some(parameter) => match Parameter::read(parameter)? {
-                        Parameter::Word(spelling) => self.limit(setting, spelling)?,
+                        Parameter::Word(spelling) => self.limit(slot, spelling)?,
                         Parameter::Number(_) => return Err(Error::DataTypeError),
                     },
                 };

@@ -125,7 +125,7 @@ fn play(script: &str) -> Vec<String> {
 
 #[test]
 fn player_events() {
-    let reset = "0,0,1,2,0,0,500,10,1,1,1,1,40,-40,50,0,0,-";
+    let reset = "0,0,1,2,0,0,500,10,1,1,1,1,40,-40,50,0,0,-,0,0,1,0,0,500,10,1,1,1,1,40,-40";
     let script = "l\np 564F4C543F0A\nt 2\nl\nt 6\nt 0\nc 5\nc 32768\ns\nu\np 2a4944\ns\n";
     let expected = [
         "l 0 0".to_string(),
@@ -150,7 +150,7 @@ fn player_hand_made_records() {
                   x queued 17\nx error.0 101\ns\nx queued 2\nx error.1 350\nl\n\
                   x line 4096\ns\nx line 2\nx answer 3\ns";
     let reports = play(script);
-    let settings = "0,0,1,2,0,0,500,10,1,1,1,1,40,-80,50,0,0,-";
+    let settings = "0,0,1,2,0,0,500,10,1,1,1,1,40,-80,50,0,0,-,0,0,1,0,0,500,10,1,1,1,1,40,-40";
     let rest = "128 0 0 0 0 0 32767 0";
     assert_eq!(reports[1], "l 4 0");
     assert_eq!(reports[2], "t 4 0 AAAAAA");
@@ -228,7 +228,7 @@ fn player_on_what_it_cannot_read() {
         "x lock_ptr 65536",
         "x warn_ptr 1",
         "x operation_ptr 1",
-        "x setting.17 0",
+        "x setting.30 0",
         "x setting.01 0",
         "x setting. 0",
         "x setting.0 2147483648",
@@ -280,7 +280,7 @@ fn player_on_what_it_cannot_read() {
         "t 0",
         "t 8192",
         "x setting.0 -2147483648",
-        "x setting.16 1",
+        "x setting.29 1",
         "k 32768",
         "w 65535",
         "x queued 65535",
@@ -463,4 +463,16 @@ fn player_text() {
     let reports = play("x text 4100\nl\ns\nx text 0000\nl\ns");
     assert_eq!((&reports[1][..], text(&reports, 2)), ("l 0 0", "41".into()));
     assert_eq!((&reports[4][..], text(&reports, 5)), ("l 0 0", "-".into()));
+}
+
+#[test]
+fn player_channel_2() {
+    let script: Vec<String> = (17..30)
+        .map(|place| format!("x setting.{place} {}", 100 + place))
+        .collect();
+    let reports = play(&format!("{}\ns\nl", script.join("\n")));
+    let settings = reports[13].split(' ').nth(1).unwrap();
+    let of_two = "117,118,119,120,121,122,123,124,125,126,127,128,129";
+    assert!(settings.ends_with(&format!(",50,0,0,-,{of_two}")));
+    assert_eq!(reports[14], "l 4 0");
 }

@@ -4,10 +4,10 @@
 mod bench;
 
 use bench::*;
-use twin::paper::{nodes, suffixes, Use, HEADERS};
+use twin::paper::{nodes, place_in_channel_2, suffixes, Use, CHANNEL_NODES, HEADERS};
 use twin::{SetName, SETTINGS, STORE_LENGTH};
 
-static UNITS: [&str; 99] = [
+static UNITS: [&str; 112] = [
     "VOLT 5",
     "VOLT 12.04",
     "VOLT 12.05",
@@ -107,6 +107,19 @@ static UNITS: [&str; 99] = [
     "VO\"LT 5",
     "*ESE \"",
     "FOO 'a;;b',';'",
+    "OUTP2 1",
+    "OUTP2 0",
+    "OUTP2:PON 1",
+    "VOLT2 5",
+    "VOLT2:RANG R24V",
+    "VOLT2:LEV 13",
+    ":VOLT2:RANG R12V",
+    ":VOLT1 6",
+    "CURR2:LIM:RMS 1.5",
+    "FREQ2?",
+    "VOLT3 5",
+    "VOLT2?",
+    "FREQ2 60.05",
 ];
 
 fn random_line(dice: &mut Dice) -> Vec<&'static str> {
@@ -189,6 +202,28 @@ fn spellings(sequence: &[&str]) -> Vec<String> {
     headers
 }
 
+/// A spelled header with a number after its channel node, if it has one (02, #111).
+fn with_number(header: &str, number: &str) -> Option<String> {
+    let mut found = false;
+    let nodes: Vec<String> = header
+        .split(':')
+        .map(|node| match is_channel_node(node) {
+            true => {
+                found = true;
+                format!("{node}{number}")
+            }
+            false => node.to_string(),
+        })
+        .collect();
+    found.then(|| nodes.join(":"))
+}
+
+fn is_channel_node(node: &str) -> bool {
+    CHANNEL_NODES.iter().any(|[printed, ..]| {
+        node.eq_ignore_ascii_case(printed) || node.eq_ignore_ascii_case(&short(printed))
+    })
+}
+
 fn parameters(takes: Use) -> [&'static str; 2] {
     match takes {
         Use::Bool => ["0", "1"],
@@ -217,20 +252,39 @@ fn every_spelling_reaches_its_row() {
                 assert_eq!(bench.errors(), error.as_slice(), "{header}");
                 continue;
             };
-            let mut bench = Bench::power_up();
-            let mut values = Vec::new();
-            for parameter in parameters(takes) {
-                bench.send(format!("{header} {parameter}"));
-                values.push(bench.setting(place));
-                assert!(bench.ask(format!(":{header}?")).is_some());
-                let mut expected = Bench::power_up().settings();
-                expected[place] = bench.setting(place);
-                assert_eq!(bench.settings(), expected, "{header}");
+            reaches(&header, place, takes);
+            let Some(numbered) = with_number(&header, "2") else {
+                continue;
+            };
+            reaches(&with_number(&header, "1").unwrap(), place, takes);
+            match place_in_channel_2(place) {
+                Some(place) => reaches(&numbered, place, takes),
+                None => refused(format!("{numbered}?"), 114),
             }
-            assert_eq!(bench.errors(), [], "{header}");
-            assert!(values[0] != values[1], "{header}");
+            for number in ["0", "3", "01", "12", "9999999999"] {
+                let numbered = with_number(&header, number).unwrap();
+                refused(format!("{numbered}?"), 114);
+                refused(format!("{numbered} {}", parameters(takes)[0]), 114);
+            }
         }
     }
+}
+
+/// The header sets and answers the setting at this place, and no other.
+#[track_caller]
+fn reaches(header: &str, place: usize, takes: Use) {
+    let mut bench = Bench::power_up();
+    let mut values = Vec::new();
+    for parameter in parameters(takes) {
+        bench.send(format!("{header} {parameter}"));
+        values.push(bench.setting(place));
+        assert!(bench.ask(format!(":{header}?")).is_some());
+        let mut expected = Bench::power_up().settings();
+        expected[place] = bench.setting(place);
+        assert_eq!(bench.settings(), expected, "{header}");
+    }
+    assert_eq!(bench.errors(), [], "{header}");
+    assert!(values[0] != values[1], "{header}");
 }
 
 /// Why one walk finds "kept or left out in any way": no node of a row is spelled like another.
@@ -263,7 +317,24 @@ fn no_other_header_reaches_a_row() {
         }
     }
     for word in [
-        "VOLTA", "OUTPU", "FREQUENC", "LIMI", "ERRO", "V", "VOLT1", "STATUSX",
+        "VOLTA",
+        "OUTPU",
+        "FREQUENC",
+        "LIMI",
+        "ERRO",
+        "V",
+        "VOLT1",
+        "STATUSX",
+        "VOLTAGE2",
+        "OUTP2",
+        "CURR2",
+        "FREQ2",
+        "OUTP3",
+        "VOLT0",
+        "CURRENT01",
+        "VOLTA2",
+        "LEV2",
+        "SOUR2",
     ] {
         words.push(word.to_string());
     }
@@ -289,12 +360,32 @@ fn no_other_header_reaches_a_row() {
             continue;
         }
         let errors = after(format!("{header}?")).errors().to_vec();
-        let expected = known.contains(&header.to_uppercase());
-        assert_eq!(errors.is_empty(), expected, "{header}");
-        assert!(errors.is_empty() || errors == [113], "{header}");
-        reached += usize::from(expected);
+        assert_eq!(errors, error_of(&header, &known).as_slice(), "{header}");
+        reached += usize::from(errors.is_empty());
     }
     assert!(reached > 1000);
+}
+
+/// -113 or -114, if a header with numbers on its nodes deserves one (02, #111).
+fn error_of(header: &str, known: &std::collections::HashSet<String>) -> Option<u16> {
+    let mut numbers = Vec::new();
+    let nodes: Vec<String> = header
+        .split(':')
+        .map(|node| {
+            let word = node.trim_end_matches(|letter: char| letter.is_ascii_digit());
+            if !is_channel_node(word) || word == node {
+                return node.to_uppercase();
+            }
+            numbers.push(&node[word.len()..]);
+            word.to_uppercase()
+        })
+        .collect();
+    if !known.contains(&nodes.join(":")) {
+        return Some(113);
+    }
+    let monitor = header.to_uppercase().contains(":MON");
+    let good = |number: &&str| *number == "1" || *number == "2" && !monitor;
+    (!numbers.iter().all(good)).then_some(114)
 }
 
 /// A number's text in parts, and what 01 says of it on a row, worked out on lists of digits.
@@ -444,19 +535,29 @@ fn answers_can_be_sent_back() {
             Use::Number(lowest, highest, false) => lowest / 10..=highest / 10,
             _ => continue,
         };
+        let in_channel_2 = with_number(&header, "2").zip(place_in_channel_2(place));
         for (value, exam) in values.flat_map(|value| [(value, 0), (value, 1)]) {
-            let mut bench = Bench::power_up();
-            let settings = &mut bench.state.instrument.settings.values;
-            settings[RANGE] = 1;
-            settings[EXAM] = exam;
-            settings[place] = value;
-            let before = bench.settings();
-            let answer = bench.ask(format!("{header}?")).unwrap();
-            bench.send(format!("{header} {answer}"));
-            assert_eq!(bench.errors(), []);
-            assert_eq!(bench.settings(), before);
+            can_be_sent_back(&header, place, value, exam);
+            if let Some((header, place)) = &in_channel_2 {
+                can_be_sent_back(header, *place, value, exam);
+            }
         }
     }
+}
+
+#[track_caller]
+fn can_be_sent_back(header: &str, place: usize, value: i32, exam: i32) {
+    let mut bench = Bench::power_up();
+    let settings = &mut bench.state.instrument.settings.values;
+    settings[RANGE] = 1;
+    settings[RANGE_2] = 1;
+    settings[EXAM] = exam;
+    settings[place] = value;
+    let before = bench.settings();
+    let answer = bench.ask(format!("{header}?")).unwrap();
+    bench.send(format!("{header} {answer}"));
+    assert_eq!(bench.errors(), []);
+    assert_eq!(bench.settings(), before);
 }
 
 /// Demand 3: a line refused at unit n+1 leaves what its first n units leave, the store too, but
@@ -500,7 +601,7 @@ fn nothing_changes_under_lock() {
     let mut switched_off = 0;
     let mut blocked = 0;
     for _ in 0..2000 {
-        let mut bench = after("OUTP 1");
+        let mut bench = after("OUTP 1;OUTP2 1");
         for _ in 0..3 {
             bench.send(random_line(&mut dice).join(";"));
         }
@@ -512,10 +613,12 @@ fn nothing_changes_under_lock() {
             blocked += usize::from(play(&mut bench, &line) == [221]);
         }
         let mut allowed = before;
-        allowed[0] = bench.setting(0);
-        assert!(bench.setting(0) <= before[0]);
+        for output in [0, OUTPUT_2] {
+            allowed[output] = bench.setting(output);
+            assert!(bench.setting(output) <= before[output]);
+            switched_off += before[output] - bench.setting(output);
+        }
         assert_eq!(bench.settings(), allowed);
-        switched_off += before[0] - bench.setting(0);
     }
     assert!(switched_off > 50);
     assert!(blocked > 1000);

@@ -114,8 +114,8 @@ mod lines_and_units {
     #[test]
     fn numbers_that_the_queue_may_hold() {
         let allowed = [
-            101, 102, 104, 108, 109, 113, 121, 123, 124, 131, 138, 141, 150, 151, 221, 222, 223,
-            314, 350, 363, 410, 420, 430,
+            101, 102, 104, 108, 109, 113, 114, 121, 123, 124, 131, 138, 141, 150, 151, 221, 222,
+            223, 314, 350, 363, 410, 420, 430,
         ];
         for number in 0..=u16::MAX {
             let mut bench = Bench::power_up();
@@ -175,7 +175,8 @@ mod headers_and_path {
         refused("STAT:PRES", 113);
         refused("FREQ:IMM 60", 113);
         refused("DISP:CONT 5", 113);
-        refused("VOLT1 5", 113);
+        sets("VOLT1 5", VOLTAGE, 50);
+        refused("VOLTA1 5", 113);
         refused("VOLT".repeat(20), 113);
         refused("VOLTAGEVOLTAGEVOLTAGE 5", 113);
         refused("X".repeat(300) + ":VOLT 5", 113);
@@ -431,6 +432,7 @@ mod answers_status_queue {
             (108, "Parameter not allowed"),
             (109, "Missing parameter"),
             (113, "Undefined header"),
+            (114, "Header suffix out of range"),
             (121, "Invalid character in number"),
             (123, "Exponent too large"),
             (124, "Too many digits"),

@@ -3,7 +3,7 @@
 mod bench;
 
 use bench::*;
-use twin::{Refusal, RegisterSet, SetName, Status, STORE_LENGTH};
+use twin::{Refusal, RegisterSet, SetName, Status, SETTINGS, STORE_LENGTH};
 
 #[test]
 fn one_buffer_too_short() {
@@ -110,7 +110,21 @@ fn four_settings() {
         (0, 99),
         (0, 1),
         (0, 1),
+        (0, 1),
+        (0, 1),
+        (0, 1),
+        (0, 120),
+        (0, 1),
+        (400, 5500),
+        (1, 20),
+        (0, 1),
+        (0, 1),
+        (1, 10),
+        (1, 10),
+        (5, 80),
+        (-80, -5),
     ];
+    assert_eq!(limits.len(), SETTINGS);
     for (place, (lowest, highest)) in limits.into_iter().enumerate() {
         let with =
             |value| overwritten(|bench| bench.state.instrument.settings.values[place] = value);
@@ -124,18 +138,29 @@ fn four_settings() {
 
 #[test]
 fn four_voltage_and_range() {
-    let with = |voltage, range| {
-        overwritten(|bench| {
-            bench.state.instrument.settings.values[VOLTAGE] = voltage;
-            bench.state.instrument.settings.values[RANGE] = range;
-        })
-    };
-    not_refused_by_four(&with(120, 0));
-    refused_by_four(&with(121, 0));
-    not_refused_by_four(&with(121, 1));
-    not_refused_by_four(&with(240, 1));
-    refused_by_four(&with(241, 1));
-    refused_by_four(&with(-1, 1));
+    for (place, range_place) in [(VOLTAGE, RANGE), (VOLTAGE_2, RANGE_2)] {
+        let with = |voltage, range| {
+            overwritten(|bench| {
+                bench.state.instrument.settings.values[place] = voltage;
+                bench.state.instrument.settings.values[range_place] = range;
+            })
+        };
+        not_refused_by_four(&with(120, 0));
+        refused_by_four(&with(121, 0));
+        not_refused_by_four(&with(121, 1));
+        not_refused_by_four(&with(240, 1));
+        refused_by_four(&with(241, 1));
+        refused_by_four(&with(-1, 1));
+    }
+    // The other channel's range is none of its business.
+    refused_by_four(&overwritten(|bench| {
+        bench.state.instrument.settings.values[VOLTAGE] = 121;
+        bench.state.instrument.settings.values[RANGE_2] = 1;
+    }));
+    refused_by_four(&overwritten(|bench| {
+        bench.state.instrument.settings.values[VOLTAGE_2] = 121;
+        bench.state.instrument.settings.values[RANGE] = 1;
+    }));
 }
 
 #[test]

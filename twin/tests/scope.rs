@@ -93,9 +93,8 @@ fn service_request() {
 
 #[test]
 fn power_up_and_reset() {
-    let reset = [0, 0, 1, 2, 0, 0, 500, 10, 1, 1, 1, 1, 40, -40, 50, 0, 0];
     let mut bench = Bench::power_up();
-    assert_eq!(bench.settings(), reset);
+    assert_eq!(bench.settings(), RESET);
     assert_eq!(bench.look(), Ok(0));
     let registers = bench.ask("*ESR?;*ESE?;*SRE?;STAT:OPER:COND?;EVEN?;ENAB?;NTR?;PTR?");
     assert_eq!(registers.as_deref(), Some("128;0;0;0;0;0;0;32767"));
@@ -107,7 +106,7 @@ fn power_up_and_reset() {
     let before = bench.state.clone();
     bench.send("*RST");
     let mut expected = before;
-    expected.instrument.settings.values = reset;
+    expected.instrument.settings.values = RESET;
     assert!(same(&bench.state, &expected));
 }
 

@@ -4,7 +4,7 @@
 mod bench;
 
 use bench::*;
-use twin::{SetName, SETTINGS, STORE_LENGTH};
+use twin::{SetName, SETTINGS, SETTINGS_OF_ONE, STORE_LENGTH};
 
 const BLOCK: usize = 512;
 const OUTPUT: usize = 0;
@@ -28,14 +28,27 @@ fn with_check(mut block: Block) -> Block {
     block
 }
 
-/// A block as the layout has it: value + 256, low byte first, from byte 0.
+/// A block as the layout has it: the mark (#111), and from byte 2 value + 256, low byte first.
 fn block_of(settings: &[i32; SETTINGS]) -> Block {
     let mut block = [0; BLOCK];
-    for (place, value) in settings.iter().enumerate() {
-        block[2 * place] = ((value + 256) % 256) as u8;
-        block[2 * place + 1] = ((value + 256) / 256) as u8;
-    }
+    block[0] = 255;
+    block[1] = 255;
+    put_values(&mut block[2..], settings);
     with_check(block)
+}
+
+/// A block of #108 or #109: no mark, and seventeen values from byte 0.
+fn old_block_of(settings: &[i32; SETTINGS_OF_ONE]) -> Block {
+    let mut block = [0; BLOCK];
+    put_values(&mut block, settings);
+    with_check(block)
+}
+
+fn put_values(bytes: &mut [u8], values: &[i32]) {
+    for (place, value) in values.iter().enumerate() {
+        bytes[2 * place] = ((value + 256) % 256) as u8;
+        bytes[2 * place + 1] = ((value + 256) / 256) as u8;
+    }
 }
 
 fn put(bench: &mut Bench, place: usize, block: &Block) {
@@ -74,8 +87,10 @@ fn memory_lost(saved: &Block, note: &str) {
 }
 
 /// Far from *RST everywhere.
-const FULL: [i32; SETTINGS] = [1, 1, 0, 1, 240, 1, 5500, 20, 0, 0, 10, 9, 80, -5, 99, 1, 1];
-const RESET: [i32; SETTINGS] = [0, 0, 1, 2, 0, 0, 500, 10, 1, 1, 1, 1, 40, -40, 50, 0, 0];
+const FULL: [i32; SETTINGS] = [
+    1, 1, 0, 1, 240, 1, 5500, 20, 0, 0, 10, 9, 80, -5, 99, 1, 1, 1, 1, 0, 135, 1, 400, 19, 0, 0, 8,
+    7, 5, -80,
+];
 
 #[test]
 fn layout_at_reset_by_hand() {
@@ -84,11 +99,12 @@ fn layout_at_reset_by_hand() {
     let saved = block(&bench, 0);
     // 256 is 00 01; 257 is 01 01; 500 + 256 = 756 is F4 02; -40 + 256 = 216 is D8 00.
     let values = [
-        0, 1, 0, 1, 1, 1, 2, 1, 0, 1, 0, 1, 0xF4, 2, 10, 1, 1, 1, 1, 1, 1, 1, 1, 1, 40, 1, 0xD8, 0,
-        50, 1, 0, 1, 0, 1,
+        0xFF, 0xFF, 0, 1, 0, 1, 1, 1, 2, 1, 0, 1, 0, 1, 0xF4, 2, 10, 1, 1, 1, 1, 1, 1, 1, 1, 1, 40,
+        1, 0xD8, 0, 50, 1, 0, 1, 0, 1, 0, 1, 0, 1, 1, 1, 0, 1, 0, 1, 0xF4, 2, 10, 1, 1, 1, 1, 1, 1,
+        1, 1, 1, 40, 1, 0xD8, 0,
     ];
-    assert_eq!(saved[..34], values);
-    assert_eq!(saved[34..508], [0; 474]);
+    assert_eq!(saved[..62], values);
+    assert_eq!(saved[62..508], [0; 446]);
     assert_eq!(saved, block_of(&RESET));
 }
 
@@ -98,6 +114,9 @@ fn all_settings_are_saved_and_recalled() {
     bench.send("OUTP 1;OUTP:PON 1;REL 0;MON:MODE SCUR;:VOLT:RANG R24V;LEV 24;:FREQ 550");
     bench.send("CURR:LIM:RMS 2;RMS:MODE CONT;TIME 10;:CURR:LIM:PEAK:MODE CONT;TIME 9;HIGH 8");
     bench.send("CURR:LIM:PEAK:LOW -0.5;:DISP:BRIG 99;:SYST:KLOC 1;EXAM 1");
+    bench.send("OUTP2 1;OUTP2:PON 1;REL 0;:VOLT2:RANG R24V;LEV 13.5;:FREQ2 40");
+    bench.send("CURR2:LIM:RMS 1.9;RMS:MODE CONT;TIME 8;:CURR2:LIM:PEAK:MODE CONT;TIME 7;HIGH 0.5");
+    bench.send("CURR2:LIM:PEAK:LOW -8");
     assert_eq!(bench.settings(), FULL);
     bench.send("*SAV 7");
     assert_eq!(block(&bench, 7), block_of(&FULL));
@@ -252,6 +271,19 @@ fn settings_that_break_a_limit_or_the_range() {
         (0, 99),
         (0, 1),
         (0, 1),
+        (0, 1),
+        (0, 1),
+        (0, 1),
+        (0, 240),
+        (0, 1),
+        (400, 5500),
+        (1, 20),
+        (0, 1),
+        (0, 1),
+        (1, 10),
+        (1, 10),
+        (5, 80),
+        (-80, -5),
     ];
     for (place, (lowest, highest)) in limits.into_iter().enumerate() {
         for value in [lowest, highest] {
@@ -259,6 +291,7 @@ fn settings_that_break_a_limit_or_the_range() {
             settings[place] = value;
             // The range stays R24V, but where it is itself the one.
             settings[VOLTAGE] = settings[VOLTAGE].min(120 + 120 * settings[RANGE]);
+            settings[VOLTAGE_2] = settings[VOLTAGE_2].min(120 + 120 * settings[RANGE_2]);
             recalls(&block_of(&settings), settings);
         }
         for value in [lowest - 1, highest + 1, -256, 65_279] {
@@ -267,21 +300,23 @@ fn settings_that_break_a_limit_or_the_range() {
             memory_lost(&block_of(&settings), &format!("setting {place} at {value}"));
         }
     }
-    let mut settings = RESET;
-    settings[VOLTAGE] = 120;
-    recalls(&block_of(&settings), settings);
-    settings[VOLTAGE] = 121;
-    memory_lost(&block_of(&settings), "a voltage above its range");
-    settings[RANGE] = 1;
-    recalls(&block_of(&settings), settings);
+    for (voltage, range) in [(VOLTAGE, RANGE), (VOLTAGE_2, RANGE_2)] {
+        let mut settings = RESET;
+        settings[voltage] = 120;
+        recalls(&block_of(&settings), settings);
+        settings[voltage] = 121;
+        memory_lost(&block_of(&settings), "a voltage above its range");
+        settings[range] = 1;
+        recalls(&block_of(&settings), settings);
+    }
 }
 
 #[test]
 fn unused_bytes_may_be_anything() {
     let changes: [Change; 5] = [
-        |block| block[66] = 1,
+        |block| block[94] = 1,
         |block| block[507] = 255,
-        |block| block[66..508].fill(255),
+        |block| block[94..508].fill(255),
         |block| block[100..200].fill(b'A'),
         |block| block[300] = 7,
     ];
@@ -309,7 +344,7 @@ fn the_check_fails() {
     }
     // Two neighbours exchanged have another sum.
     let mut saved = block_of(&RESET);
-    saved.swap(12, 13);
+    saved.swap(14, 15);
     memory_lost(&saved, "two bytes exchanged");
 }
 
@@ -388,13 +423,13 @@ fn power_up_and_reset_leave_the_store() {
     assert_eq!(bench.answer().as_deref(), Some("60.0"));
 }
 
-/// #109: the text's 32 bytes stand from byte 34, zeros after the text.
+/// #109: the text's 32 bytes stand from byte 62 (#111), zeros after the text.
 mod with_text {
     use super::*;
 
     fn with_text(settings: &[i32; SETTINGS], text: &[u8]) -> Block {
         let mut block = block_of(settings);
-        block[34..34 + text.len()].copy_from_slice(text);
+        block[62..62 + text.len()].copy_from_slice(text);
         with_check(block)
     }
 
@@ -410,15 +445,6 @@ mod with_text {
             assert_eq!(bench.text(), text.as_bytes());
             assert_eq!(bench.errors(), []);
         }
-    }
-
-    #[test]
-    fn a_block_of_108_has_no_text() {
-        let mut bench = after("DISP:TEXT 'a'");
-        put(&mut bench, 0, &block_of(&FULL));
-        bench.send("*RCL 0");
-        assert_eq!(bench.text(), b"");
-        assert_eq!(bench.settings(), FULL);
     }
 
     #[test]
@@ -440,5 +466,102 @@ mod with_text {
         }
         memory_lost(&with_text(&RESET, b"a\0b"), "a zero inside");
         memory_lost(&with_text(&RESET, b"\0b"), "a zero before");
+    }
+}
+
+/// #111: a block without the mark sets channel 1 and the single settings, and resets channel 2.
+mod old_blocks {
+    use super::*;
+
+    fn of_one(settings: &[i32; SETTINGS]) -> [i32; SETTINGS_OF_ONE] {
+        *settings.first_chunk().unwrap()
+    }
+
+    fn with_text(block: Block, text: &[u8]) -> Block {
+        let mut block = block;
+        block[34..34 + text.len()].copy_from_slice(text);
+        with_check(block)
+    }
+
+    /// FULL in channel 1 and the single ones, RESET in channel 2.
+    fn expected() -> [i32; SETTINGS] {
+        let mut settings = RESET;
+        settings[..SETTINGS_OF_ONE].copy_from_slice(&FULL[..SETTINGS_OF_ONE]);
+        settings
+    }
+
+    #[test]
+    fn channel_2_is_put_at_reset() {
+        let mut bench = after("OUTP2 1;:VOLT2 7;:FREQ2 60;:DISP:TEXT 'a'");
+        let saved = old_block_of(&of_one(&FULL));
+        put(&mut bench, 0, &saved);
+        bench.send("*RCL 0");
+        assert_eq!(bench.errors(), []);
+        assert_eq!(bench.settings(), expected());
+        // One of #108 has no text, and one of #109 has it from byte 34.
+        assert_eq!(bench.text(), b"");
+        put(&mut bench, 0, &with_text(saved, b"Bench 7"));
+        bench.send("*RCL 0");
+        assert_eq!(bench.text(), b"Bench 7");
+        assert_eq!(bench.settings(), expected());
+        // What is saved now has the mark.
+        bench.send("*SAV 0");
+        assert_eq!(block(&bench, 0)[..2], [255, 255]);
+    }
+
+    #[test]
+    fn unused_bytes_and_limits() {
+        let saved = old_block_of(&of_one(&FULL));
+        let mut unused = saved;
+        unused[66..508].fill(255);
+        recalls(&with_check(unused), expected());
+        memory_lost(&with_text(saved, b"a:"), "a forbidden byte");
+        memory_lost(&with_text(saved, b"a\0b"), "a zero inside");
+        for (place, value) in [
+            (0, 2),
+            (3, 3),
+            (VOLTAGE, 241),
+            (LOW, -81),
+            (EXAM, 2),
+            (EXAM, -1),
+        ] {
+            let mut values = of_one(&FULL);
+            values[place] = value;
+            memory_lost(
+                &old_block_of(&values),
+                &format!("setting {place} at {value}"),
+            );
+        }
+        let mut values = of_one(&RESET);
+        values[VOLTAGE] = 121;
+        memory_lost(&old_block_of(&values), "a voltage above its range");
+    }
+
+    #[test]
+    fn no_old_block_carries_the_mark() {
+        // The output's state, 65,535 - 256, would have to be far outside its limits.
+        let mut values = of_one(&RESET);
+        values[0] = 65_279;
+        let saved = old_block_of(&values);
+        assert_eq!(saved[..2], [255, 255]);
+        memory_lost(&saved, "read as a marked block, its values are elsewhere");
+        // Half a mark is none.
+        for mark in [[255, 1], [0, 255], [255, 0], [255, 254], [254, 255]] {
+            let mut saved = block_of(&RESET);
+            saved[..2].copy_from_slice(&mark);
+            memory_lost(&with_check(saved), "half a mark");
+        }
+    }
+
+    #[test]
+    fn any_single_altered_byte_is_noticed() {
+        let saved = with_text(old_block_of(&of_one(&FULL)), b"text");
+        for place in 0..BLOCK {
+            for change in [1, 2, 127, 128, 255] {
+                let mut altered = saved;
+                altered[place] = altered[place].wrapping_add(change);
+                memory_lost(&altered, &format!("byte {place}, change {change}"));
+            }
+        }
     }
 }

@@ -4,7 +4,7 @@
 use std::io::{self, BufRead, BufWriter, Write};
 
 use twin::{Refusal, RegisterSet, SetName, State, Table, BLOCK_LENGTH, LONGEST_STORE, PLACES};
-use twin::{Settings, Text, QUEUE_LIMIT, SETTINGS, TEXT_LIMIT};
+use twin::{Settings, Text, QUEUE_LIMIT, SETTINGS, SETTINGS_OF_ONE, TEXT_LIMIT};
 
 const LONGEST_BUFFER: usize = 8192;
 const LONGEST_LENGTH: usize = 65_535;
@@ -163,7 +163,7 @@ fn find_register<'set>(set: &'set mut RegisterSet, register: &str) -> Option<&'s
     }
 }
 
-/// The place in `setting.0` to `setting.16` or `error.0` to `error.15`.
+/// The place in `setting.0` to `setting.29` or `error.0` to `error.15`.
 fn read_place(field: &str, array: &str, length: usize) -> Option<usize> {
     let place = field.strip_prefix(array)?;
     (0..length).find(|number| number.to_string() == place)
@@ -270,8 +270,9 @@ fn write_state(state: &State) -> String {
 }
 
 fn write_settings(settings: &Settings) -> String {
-    let values = write_list(&settings.values);
-    format!("{values},{}", write_hex(settings.text.shown()))
+    let (of_one, of_two) = settings.values.split_at(SETTINGS_OF_ONE);
+    let text = write_hex(settings.text.shown());
+    format!("{},{text},{}", write_list(of_one), write_list(of_two))
 }
 
 fn write_set(set: &RegisterSet) -> String {

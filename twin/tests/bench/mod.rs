@@ -13,6 +13,19 @@ pub const HIGH: usize = 12;
 pub const LOW: usize = 13;
 pub const BRIGHTNESS: usize = 14;
 pub const EXAM: usize = 16;
+/// Channel 2's (02, #111).
+pub const OUTPUT_2: usize = 17;
+pub const VOLTAGE_2: usize = 20;
+pub const RANGE_2: usize = 21;
+pub const FREQUENCY_2: usize = 22;
+pub const RMS_2: usize = 23;
+pub const HIGH_2: usize = 28;
+pub const LOW_2: usize = 29;
+
+pub const RESET: [i32; SETTINGS] = [
+    0, 0, 1, 2, 0, 0, 500, 10, 1, 1, 1, 1, 40, -40, 50, 0, 0, 0, 0, 1, 0, 0, 500, 10, 1, 1, 1, 1,
+    40, -40,
+];
 
 /// A box, and the store that each of its events is lent.
 #[derive(Clone, Debug, PartialEq, Eq)]

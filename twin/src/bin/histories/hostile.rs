@@ -214,7 +214,7 @@ fn nearly(dice: &mut Dice, word: &str) -> String {
     letters.into_iter().collect()
 }
 
-static NUMBER_HEADERS: [&str; 20] = [
+static NUMBER_HEADERS: [&str; 25] = [
     "VOLT",
     "FREQ",
     "CURR:LIM:RMS",
@@ -235,6 +235,11 @@ static NUMBER_HEADERS: [&str; 20] = [
     "STAT:WARN:NTR",
     "VOLT:RANG",
     "VOLT?",
+    "VOLT2",
+    "FREQ2",
+    "OUTP2",
+    "CURR2:LIM:PEAK:LOW",
+    "VOLT3",
 ];
 
 /// Suffixes of all rows (02, #101), and some that none takes.
@@ -308,7 +313,11 @@ fn near_limit(dice: &mut Dice) -> Vec<u8> {
     let (header, place, lowest, highest, tenth) = dice.pick(&[
         ("VOLT", 4, 0, 120, true),
         ("VOLT:RANG R24V;LEV", 4, 0, 240, true),
+        ("VOLT2", 4, 0, 120, true),
+        ("VOLT2:RANG R24V;LEV", 4, 0, 240, true),
+        ("VOLT:RANG R24V;:VOLT2", 4, 0, 120, true),
         ("FREQ", 6, 400, 5500, true),
+        ("CURR2:LIM:RMS:TIME", 10, 10, 100, false),
         ("CURR:LIM:RMS", 7, 1, 20, true),
         ("CURR:LIM:RMS:TIME", 10, 10, 100, false),
         ("CURR:LIM:PEAK:TIME", 11, 10, 100, false),
@@ -367,7 +376,7 @@ fn query_that_does_not_fit(script: &mut Script) -> io::Result<()> {
 }
 
 /// Lines that a lock blocks, whole or in part, or doesn't block (02, #105).
-static LINES_AND_LOCK: [&str; 51] = [
+static LINES_AND_LOCK: [&str; 60] = [
     "OUTP 0",
     "OUTP OFF",
     "OUTP:STAT 0.4",
@@ -419,6 +428,15 @@ static LINES_AND_LOCK: [&str; 51] = [
     "DISP:TEXT 'a:b'",
     "DISP:TEXT \"a",
     "DISP:TEXT?;TEXT 'x;y'",
+    "OUTP2 0",
+    "OUTP2:STAT OFF",
+    "OUTP2 0.4;OUTP 0",
+    "OUTP1 0;OUTP2 1",
+    "OUTP2 1",
+    "OUTP2:PON 0",
+    "VOLT2 5",
+    "VOLT3 99",
+    "VOLT2?;FREQ2?;:VOLT2:RANG R12V",
 ];
 
 /// Some lines between the lock's coming and, most often, its going.
@@ -468,16 +486,16 @@ fn full_queue(script: &mut Script) -> io::Result<()> {
     Ok(())
 }
 
-static ALLOWED_ERRORS: [i32; 23] = [
-    101, 102, 104, 108, 109, 113, 121, 123, 124, 131, 138, 141, 150, 151, 221, 222, 223, 314, 350,
-    363, 410, 420, 430,
+static ALLOWED_ERRORS: [i32; 24] = [
+    101, 102, 104, 108, 109, 113, 114, 121, 123, 124, 131, 138, 141, 150, 151, 221, 222, 223, 314,
+    350, 363, 410, 420, 430,
 ];
 
 static REGISTERS: [&str; 3] = ["esr", "ese", "sre"];
 static SET_REGISTERS: [&str; 5] = ["condition", "event", "enable", "ptr", "ntr"];
 
 /// The settings' limits, and the voltage's in both ranges.
-pub static SETTING_LIMITS: [(usize, i32, i32); 18] = [
+pub static SETTING_LIMITS: [(usize, i32, i32); 32] = [
     (0, 0, 1),
     (1, 0, 1),
     (2, 0, 1),
@@ -496,6 +514,20 @@ pub static SETTING_LIMITS: [(usize, i32, i32); 18] = [
     (14, 0, 99),
     (15, 0, 1),
     (16, 0, 1),
+    (17, 0, 1),
+    (18, 0, 1),
+    (19, 0, 1),
+    (20, 0, 120),
+    (20, 0, 240),
+    (21, 0, 1),
+    (22, 400, 5500),
+    (23, 1, 20),
+    (24, 0, 1),
+    (25, 0, 1),
+    (26, 1, 10),
+    (27, 1, 10),
+    (28, 5, 80),
+    (29, -80, -5),
 ];
 
 /// A number that may stand in the record at any time, or just not.
@@ -521,7 +553,7 @@ fn number_for_any_time(dice: &mut Dice) -> (Field, i32) {
             let number = match dice.below(3) {
                 0 => dice.below(65_536) as i32,
                 1 => dice.pick(&[
-                    0, 100, 103, 114, 130, 132, 149, 152, 220, 224, 313, 351, 440,
+                    0, 100, 103, 112, 115, 130, 132, 149, 152, 220, 224, 313, 351, 440,
                 ]),
                 _ => dice.pick(&ALLOWED_ERRORS),
             };

@@ -2,7 +2,7 @@
 
 use std::io;
 
-use twin::{BLOCK_LENGTH, LONGEST_STORE, PLACES, STORE_LENGTH};
+use twin::{BLOCK_LENGTH, LONGEST_STORE, PLACES, SETTINGS, SETTINGS_OF_ONE, STORE_LENGTH};
 
 use crate::dice::Dice;
 use crate::hostile::SETTING_LIMITS;
@@ -90,6 +90,8 @@ fn save(dice: &mut Dice) -> String {
         "*RST;",
         "DISP:TEXT \"Bench 7, left; off\";",
         "DISP:TEXT '';",
+        "OUTP2 1;:VOLT2:RANG R24V;LEV 13.5;:FREQ2 60.1;",
+        "CURR2:LIM:RMS MAX;PEAK:LOW MIN;TIME 7;",
     ]);
     let after = dice.pick(&["", "", "", ";*RST", ";:VOLT 1", ";:VOLT 99", ";*STB?"]);
     let place = few(dice);
@@ -177,8 +179,10 @@ fn spoil(script: &mut Script) -> io::Result<()> {
 fn some_byte(dice: &mut Dice) -> usize {
     match dice.below(4) {
         0 => dice.below(BLOCK_LENGTH),
-        1 => dice.pick(&[0, 1, 33, 34, 35, 64, 65, 66, 506, 507, 508, 509, 510, 511]),
-        _ => dice.below(36),
+        1 => dice.pick(&[
+            0, 1, 2, 3, 34, 61, 62, 63, 92, 93, 94, 506, 507, 508, 509, 510, 511,
+        ]),
+        _ => dice.below(95),
     }
 }
 
@@ -198,11 +202,20 @@ fn saved_spoiled_recalled(script: &mut Script) -> io::Result<()> {
     script.state()
 }
 
-/// A block written byte by byte, with its check and mostly within the limits.
+/// A block written byte by byte, with its check and mostly within the limits: a marked one, or an
+/// older one, which lacks the mark and channel 2.
 fn hand_made(script: &mut Script) -> io::Result<()> {
     let place = any(&mut script.dice);
     let mut block = [0; BLOCK_LENGTH];
+    let (start, count) = match script.dice.below(3) {
+        0 => (0, SETTINGS_OF_ONE),
+        _ => (2, SETTINGS),
+    };
+    block[..start].fill(255);
     for (setting, lowest, highest) in SETTING_LIMITS {
+        if setting >= count {
+            break;
+        }
         let between = script.dice.between(lowest, highest);
         let value = match script.dice.below(60) {
             0 => lowest - 1,
@@ -210,11 +223,11 @@ fn hand_made(script: &mut Script) -> io::Result<()> {
             2..=20 => script.dice.pick(&[lowest, highest]),
             _ => between,
         };
-        block[2 * setting..][..2].copy_from_slice(&((value + 256) as u16).to_le_bytes());
+        block[start + 2 * setting..][..2].copy_from_slice(&((value + 256) as u16).to_le_bytes());
     }
     if script.dice.chance(60) {
         let text = strings::hand_made(&mut script.dice);
-        block[34..][..text.len()].copy_from_slice(&text);
+        block[start + 2 * count..][..text.len()].copy_from_slice(&text);
     }
     if script.dice.chance(30) {
         block[script.dice.below(508)] = script.dice.below(256) as u8;
