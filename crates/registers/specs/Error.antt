@@ -8,9 +8,9 @@ use lib.Dec.{ltb, eqb}
 use Rattle.registers.specs.Text.{Text, if_then_else_, bytes}
 use Rattle.registers.specs.Answer.{decimal}
 use Rattle.registers.specs.declared.error.Error.{Error}
-use Rattle.registers.specs.declared.error.Error.the-variants.{InvalidCharacter, Syntax, DataType, ParameterNotAllowed, MissingParameter, UndefinedHeader, InvalidCharacterInNumber, ExponentTooLarge, TooManyDigits, InvalidSuffix, SuffixNotAllowed, InvalidCharacterData, StringDataError, InvalidStringData, SettingsConflict, DataOutOfRange, TooMuchData, SaveRecallMemoryLost, InputBufferOverrun, QueryInterrupted, QueryUnterminated, QueryDeadlocked}
+use Rattle.registers.specs.declared.error.Error.the-variants.{InvalidCharacter, Syntax, DataType, ParameterNotAllowed, MissingParameter, UndefinedHeader, HeaderSuffix, InvalidCharacterInNumber, ExponentTooLarge, TooManyDigits, InvalidSuffix, SuffixNotAllowed, InvalidCharacterData, StringDataError, InvalidStringData, SettingsConflict, DataOutOfRange, TooMuchData, SaveRecallMemoryLost, InputBufferOverrun, QueryInterrupted, QueryUnterminated, QueryDeadlocked}
 
--- the number of each error that can be raised: 01's, and of 02 -131 (#101), -150, -151 and -223 (#109), and -314 (#108)
+-- the number of each error that can be raised: 01's, and of 02 -131 (#101), -114 (#111), -150, -151 and -223 (#109), and -314 (#108)
 abbrev pub numberOf : Error → ℕ
 numberOf InvalidCharacter = 101
 numberOf Syntax = 102
@@ -18,6 +18,7 @@ numberOf DataType = 104
 numberOf ParameterNotAllowed = 108
 numberOf MissingParameter = 109
 numberOf UndefinedHeader = 113
+numberOf HeaderSuffix = 114
 numberOf InvalidCharacterInNumber = 121
 numberOf ExponentTooLarge = 123
 numberOf TooManyDigits = 124
@@ -53,6 +54,7 @@ messages =
     ∷ (108, "Parameter not allowed")
     ∷ (109, "Missing parameter")
     ∷ (113, "Undefined header")
+    ∷ (114, "Header suffix out of range")
     ∷ (121, "Invalid character in number")
     ∷ (123, "Exponent too large")
     ∷ (124, "Too many digits")

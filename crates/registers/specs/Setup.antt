@@ -1,4 +1,5 @@
--- 02, #108: "Saved setups". A block of the lent store holds every setting, the display's text among them (#109), and its own check.
+-- 02, #108: "Saved setups". A block of the lent store holds every setting of both channels (#111), the display's text
+-- among them (#109), and its own check.
 use mathlib.Core.Bool.{Bool, _&&_}
 use mathlib.Core.List.{List, [], _∷_, _++_}
 use Prim.Native.Nat.{ℕ, zero, suc, _+_, _-_, _*_, _/_, _%_}
@@ -7,7 +8,7 @@ use lib.ListN.{length, take, drop, getD, replicate}
 use lib.IntN.{ℤ, pos, negsuc, negℤ}
 use Rattle.registers.specs.Text.{Text, if_then_else_}
 use Rattle.registers.specs.Label.{mostText, padded}
-use Rattle.registers.specs.Settings.{count, valueAt, possibleSettings, atReset}
+use Rattle.registers.specs.Settings.{count, tableCount, atReset, valueAt, possibleSettings}
 use Rattle.registers.specs.declared.settings.Settings.{Settings}
 
 -- "ten blocks of 512 bytes", of which the check is over "the first 508"
@@ -40,9 +41,11 @@ inBytes (suc k) n = n % 256 ∷ inBytes k (n / 256)
 unfoldable pub checks : Text → Bool
 checks b = eqb (length b) blockSize && eqb (weighted 1 (take checkedSize b)) (lowFirst (drop checkedSize b))
 
--- ---- the layout, which 02 leaves open: the settings in the order of their table, each in two bytes, low byte first, as its value in steps
+-- ---- the layout, which 02 leaves open: the settings in the order of their slots, each in two bytes, low byte first, as its value in steps
 -- and 256 more. So a value below zero needs no sign, and no setting can have a block's zeros for its value. Behind them stands the text as
--- the settings' record holds it, so that a block that was saved before there was a text has an empty one
+-- the settings' record holds it, so that a block that was saved before there was a text has an empty one.
+-- A block of both channels has two bytes more before them, its mark. Where its second byte stands, a block that was saved when there was one
+-- channel has the second byte of OUTPut's value, which is 1
 
 unfoldable pub shifted : ℤ → ℕ
 shifted (pos n) = n + 256
@@ -59,15 +62,27 @@ unfoldable pub valuesIn : Text → ℕ → List ℤ
 valuesIn b zero = []
 valuesIn b (suc i) = valuesIn b i ++ valueIn b i ∷ []
 
--- where the text stands, and what a block says of it
-abbrev pub textPlace : ℕ
-textPlace = 34
+-- the text stands behind the values, of which there are n
+unfoldable pub savedText : ℕ → Text → Text
+savedText n b = take mostText (drop (2 * n) b)
 
-unfoldable pub savedText : Text → Text
-savedText b = take mostText (drop textPlace b)
+-- n values and the text; the slots after the n-th are as at *RST
+unfoldable pub readIn : ℕ → Text → Settings
+readIn n b = record { values = valuesIn b n ++ drop n (atReset .values); text = savedText n b }
 
+-- the mark, and what stands behind it
+abbrev pub markByte : ℕ
+markByte = 255
+
+abbrev pub markSize : ℕ
+markSize = 2
+
+unfoldable pub marked : Text → Bool
+marked b = eqb (getD b 0 0) markByte && eqb (getD b 1 0) markByte
+
+-- what a block says: of both channels, or of channel 1 and what is single, with channel 2 as at *RST
 unfoldable pub settingsIn : Text → Settings
-settingsIn b = record { values = valuesIn b count; text = savedText b }
+settingsIn b = if marked b then readIn count (drop markSize b) else readIn tableCount b
 
 -- the bytes of the first rows
 unfoldable pub bytesOf : Settings → ℕ → Text
@@ -75,8 +90,14 @@ bytesOf s zero = []
 bytesOf s (suc i) = bytesOf s i ++ inBytes 2 (shifted (valueAt s i))
 
 -- "unused bytes are 0"
+abbrev pub unused : ℕ
+unused = checkedSize - (markSize + (2 * count + mostText))
+
+unfoldable pub body : Settings → Text
+body s = bytesOf s count ++ (padded mostText (s .text) ++ replicate unused 0)
+
 unfoldable pub contents : Settings → Text
-contents s = bytesOf s count ++ (padded mostText (s .text) ++ replicate (checkedSize - (textPlace + mostText)) 0)
+contents s = markByte ∷ markByte ∷ body s
 
 -- what *SAV writes
 unfoldable pub blockOf : Settings → Text

@@ -16,6 +16,7 @@ pub enum Error {
     ParameterNotAllowed,
     MissingParameter,
     UndefinedHeader,
+    HeaderSuffix,
     InvalidCharacterInNumber,
     ExponentTooLarge,
     TooManyDigits,
@@ -46,6 +47,7 @@ impl Error {
             Error::ParameterNotAllowed => 108,
             Error::MissingParameter => 109,
             Error::UndefinedHeader => 113,
+            Error::HeaderSuffix => 114,
             Error::InvalidCharacterInNumber => 121,
             Error::ExponentTooLarge => 123,
             Error::TooManyDigits => 124,
@@ -85,7 +87,7 @@ pub(crate) fn event_bit(number: u16) -> u16
 // in an answer, and zeros. The last row is for every number that has no text.
 
 // How many messages there are, and how many bytes the row of one has.
-const MESSAGES: usize = 24;
+const MESSAGES: usize = 25;
 
 const MESSAGE_SIZE: usize = 33;
 
@@ -128,6 +130,7 @@ pub fn write_error(number: u16, tail: &mut [u8]) -> usize
         \x00\x6c\x18,\"Parameter not allowed\"\0\0\0\0\0\0\
         \x00\x6d\x14,\"Missing parameter\"\0\0\0\0\0\0\0\0\0\0\
         \x00\x71\x13,\"Undefined header\"\0\0\0\0\0\0\0\0\0\0\0\
+        \x00\x72\x1d,\"Header suffix out of range\"\0\
         \x00\x79\x1e,\"Invalid character in number\"\
         \x00\x7b\x15,\"Exponent too large\"\0\0\0\0\0\0\0\0\0\
         \x00\x7c\x12,\"Too many digits\"\0\0\0\0\0\0\0\0\0\0\0\0\

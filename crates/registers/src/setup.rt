@@ -1,21 +1,26 @@
-// Saved setups (02, #108): a block of the lent store holds every setting, and its own check.
+// Saved setups (02, #108): a block of the lent store holds every setting of both channels, and its own check.
 use crate::answer;
 use crate::label::TEXT;
 use crate::settings::Settings;
 ghost use mathlib.Core.Path.{_≡_};
 ghost use mathlib.Core.Bool.{true};
 ghost use Prim.Native.Nat.{ℕ, _+_, _*_, _≤_, _<_};
-ghost use lib.ListN.{length};
+ghost use lib.ListN.{length, take, drop};
+ghost use Rattle.registers.specs.Label.{mostText};
 ghost use Rattle.registers.specs.Settings.{count};
-ghost use Rattle.registers.specs.Setup.{blockSize, checkedSize, weighted, lowFirst, checks, shifted, unshifted, blockOf, valueIn, savedText, saidIn, recallable};
+ghost use Rattle.registers.specs.Setup.{blockSize, checkedSize, weighted, lowFirst, checks, shifted, unshifted, blockOf, valueIn, readIn, settingsIn, saidIn, recallable};
 
 // The bytes of a block, and those that its check is over.
 pub const BLOCK: usize = 512;
 
 const CHECKED: usize = 508;
 
-// Where the text stands in a block, behind the values.
-const TEXT_AT: usize = 34;
+// What the first two bytes are in a block of both channels, and where its text stands, behind the values.
+const MARK: u8 = 255;
+
+const MARKED: usize = 2;
+
+const TEXT_AT: usize = 62;
 
 // What a block says: whether *RCL takes it, and its settings.
 pub struct Recalled {
@@ -92,7 +97,7 @@ fn unshift(n: u32) -> i32
 
 // Reads the value of a row from its two bytes.
 fn value_in(block: &[u8], row: usize) -> i32
-    requires { ⌜ (row < count) × (length (now block) ≡ blockSize) ⌝ }
+    requires { ⌜ (row < count) × (row * 2 + 1 < length (now block)) ⌝ }
     ensures { λ r. ⌜ r ≡ valueIn (now (block .entry)) row ⌝ }
     ensures { λ r. ⌜ ((n : ℕ) × (n < 65536) × (r ≡ unshifted n)) ⌝ }
 {
@@ -100,14 +105,40 @@ fn value_in(block: &[u8], row: usize) -> i32
     unshift(wide(block[at]) + wide(block[at + 1]) * 256)
 }
 
-// Reads the text, as the record of the settings holds it.
-fn text_in(block: &[u8]) -> [u8; TEXT]
-    requires { ⌜ length (now block) ≡ blockSize ⌝ }
-    ensures { λ r. ⌜ r ≡ savedText (now (block .entry)) ⌝ }
+// Reads the text from its place on, as the record of the settings holds it.
+fn text_in(block: &[u8], at: usize) -> [u8; TEXT]
+    requires { ⌜ (at ≤ 2 * count) × (at + mostText ≤ length (now block)) ⌝ }
+    ensures { λ r. ⌜ r ≡ take mostText (drop at (now (block .entry))) ⌝ }
 {
     let mut text = [0u8; TEXT];
-    answer::text_at(&block[TEXT_AT..TEXT_AT + TEXT], &mut text, 0);
+    answer::text_at(&block[at..at + TEXT], &mut text, 0);
     text
+}
+
+// Reads so many values and the text behind them; the slots after them are as *RST leaves them.
+fn read(body: &[u8], rows: usize) -> Settings
+    requires { ⌜ (rows ≤ count) × (rows * 2 + mostText ≤ length (now body)) ⌝ }
+    ensures { λ r. ⌜ r ≡ readIn rows (now (body .entry)) ⌝ }
+{
+    let mut settings = Settings::reset();
+    let mut row: usize = 0;
+    while row < rows {
+        settings.values[row] = value_in(body, row);
+        row += 1;
+    }
+    settings.text = text_in(body, rows * 2);
+    settings
+}
+
+// Reads a block of both channels by its mark, and any other as one that was saved when there was one channel.
+fn settings_in(block: &[u8]) -> Settings
+    requires { ⌜ length (now block) ≡ blockSize ⌝ }
+    ensures { λ r. ⌜ r ≡ settingsIn (now (block .entry)) ⌝ }
+{
+    if (block[0] == MARK) & (block[1] == MARK) {
+        return read(&block[MARKED..BLOCK], Settings::COUNT);
+    }
+    read(block, Settings::ROWS)
 }
 
 // Reads every setting of a block, and tells whether its check holds and each is within its limits. A block whose check fails is
@@ -116,19 +147,13 @@ pub fn recall(block: &[u8]) -> Recalled
     ensures { λ r. ⌜ r .good ≡ recallable (now (block .entry)) ⌝ }
     ensures { λ r. ⌜ r .settings ≡ saidIn (now (block .entry)) ⌝ }
 {
-    let mut settings = Settings::reset();
     if !holds(block) {
         return Recalled {
             good: false,
-            settings,
+            settings: Settings::reset(),
         };
     }
-    let mut row: usize = 0;
-    while row < Settings::COUNT {
-        settings.values[row] = value_in(block, row);
-        row += 1;
-    }
-    settings.text = text_in(block);
+    let settings = settings_in(block);
     Recalled {
         good: settings.possible(),
         settings,
@@ -142,10 +167,12 @@ pub fn block_of(settings: Settings) -> [u8; BLOCK]
     let values = settings.values;
     let text = settings.text;
     let mut block = [0u8; BLOCK];
+    block[0] = MARK;
+    block[1] = MARK;
     let mut row: usize = 0;
     while row < Settings::COUNT {
         let n = shift(values[row]);
-        let at = row * 2;
+        let at = row * 2 + MARKED;
         block[at] = (n % 256) as u8;
         block[at + 1] = (n / 256 % 256) as u8;
         row += 1;

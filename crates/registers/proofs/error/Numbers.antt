@@ -6,7 +6,7 @@ use lib.Dec.{eqb}
 use Rattle.registers.specs.Text.{if_then_else_}
 use Rattle.registers.specs.Error.{numberOf}
 use Rattle.registers.specs.declared.error.Error.{Error}
-use Rattle.registers.specs.declared.error.Error.the-variants.{InvalidCharacter, Syntax, DataType, ParameterNotAllowed, MissingParameter, UndefinedHeader, InvalidCharacterInNumber, ExponentTooLarge, TooManyDigits, InvalidSuffix, SuffixNotAllowed, InvalidCharacterData, StringDataError, InvalidStringData, SettingsConflict, DataOutOfRange, TooMuchData, SaveRecallMemoryLost, InputBufferOverrun, QueryInterrupted, QueryUnterminated, QueryDeadlocked}
+use Rattle.registers.specs.declared.error.Error.the-variants.{InvalidCharacter, Syntax, DataType, ParameterNotAllowed, MissingParameter, UndefinedHeader, HeaderSuffix, InvalidCharacterInNumber, ExponentTooLarge, TooManyDigits, InvalidSuffix, SuffixNotAllowed, InvalidCharacterData, StringDataError, InvalidStringData, SettingsConflict, DataOutOfRange, TooMuchData, SaveRecallMemoryLost, InputBufferOverrun, QueryInterrupted, QueryUnterminated, QueryDeadlocked}
 
 errors : List Error
 errors =
@@ -16,6 +16,7 @@ errors =
     ∷ ParameterNotAllowed
     ∷ MissingParameter
     ∷ UndefinedHeader
+    ∷ HeaderSuffix
     ∷ InvalidCharacterInNumber
     ∷ ExponentTooLarge
     ∷ TooManyDigits
@@ -48,6 +49,7 @@ back DataType = refl
 back ParameterNotAllowed = refl
 back MissingParameter = refl
 back UndefinedHeader = refl
+back HeaderSuffix = refl
 back InvalidCharacterInNumber = refl
 back ExponentTooLarge = refl
 back TooManyDigits = refl

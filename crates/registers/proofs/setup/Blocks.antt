@@ -6,23 +6,23 @@ use Prim.Native.Nat.{ℕ, zero, suc, _+_, _-_, _*_, _/_, _%_, _^_, _≤_, _<_, z
 use native.Mathlib.Omega.{arith}
 use native.Mathlib.Numerals.{add-one}
 use lib.Dec.{leb, eqb}
-use lib.ListN.{length, take, drop, set, getD, replicate, length-take, length-drop, length-append, length-replicate}
-use lib.Seq.{set-at, take-at, take-suc-set, take-all, append-snoc}
+use lib.ListN.{length, take, drop, set, getD, replicate, length-take, length-drop, length-append, length-replicate, take-append-drop}
+use lib.Seq.{set-at, take-at, take-suc-set, take-all, append-snoc, drop-set-lt, drop-drop}
 use lib.IntN.{ℤ, pos, negsuc, negℤ, natAbs}
 use lib.Signed.{ltZ}
 use mir.Syntax.{w32}
 use mir.Val.{SFits}
-use borrow.Author.Tests.{eqb-true, ltb-true, le-leb, lt-leb, not-true, not-false}
+use borrow.Author.Tests.{eqb-true, eq-eqb, ne-eqb, ltb-true, le-leb, lt-leb, not-true, not-false}
 use Rattle.registers.specs.Text.{Text, if_then_else_}
 use Rattle.registers.specs.Answer.{over}
 use Rattle.registers.specs.AnswerParts.{overAt, LaidAt}
 use Rattle.registers.specs.Label.{mostText, padded}
-use Rattle.registers.specs.Settings.{table, atReset, count, valueAt, possibleSettings}
-use Rattle.registers.specs.Setup.{blockSize, checkedSize, weighted, inBytes, checks, shifted, unshifted, valueIn, valuesIn, textPlace, savedText, settingsIn, bytesOf, contents, blockOf, recallable, saidIn}
+use Rattle.registers.specs.Settings.{atReset, count, tableCount, valueAt, possibleSettings}
+use Rattle.registers.specs.Setup.{blockSize, checkedSize, weighted, inBytes, checks, shifted, unshifted, valueIn, valuesIn, savedText, readIn, markByte, markSize, marked, settingsIn, bytesOf, unused, body, contents, blockOf, recallable, saidIn}
 use Rattle.registers.specs.declared.settings.Settings.{Settings}
 use Rattle.registers.proofs.Tests.{and-both}
 use Rattle.registers.proofs.answer.Signs.{neg-fits}
-use Rattle.registers.proofs.setup.Laws.{bytes-long, contents-long, padded-whole}
+use Rattle.registers.proofs.setup.Laws.{bytes-long, contents-long, padded-whole, unmarked-means}
 
 -- ---- a value shifted
 
@@ -63,10 +63,6 @@ unshift-fits n h = go (leb 256 n) refl
 
 -- ---- a block read
 
-pub reset-long : length (atReset .values) ≡ count
-unfolding atReset table
-reset-long = refl
-
 pub checked-long : (b : Text) (t : Bool) → t ≡ checks b → not t ≡ false → length b ≡ blockSize
 unfolding checks
 checked-long b t e n = eqb-true (length b) blockSize (and-both (eqb (length b) blockSize) _ (sym e ∙ not-false t n) .0)
@@ -79,30 +75,46 @@ value-read b row x y r p q e =
     e ∙ ap unshifted (s ∙ ap₂ (λ (u v : ℕ). u + 256 * v) (p ∙ ap (λ (i : ℕ). getD b i 0) n) (q ∙ ap (λ (i : ℕ). getD b (i + 1) 0) n))
 
 -- the values read so far
-pub record Reading (b : Text) (values : List ℤ) (row : ℕ) : Type 0 where
-  pub within : row ≤ count
+pub record Reading (n : ℕ) (b : Text) (values : List ℤ) (row : ℕ) : Type 0 where
+  pub within : row ≤ n
   pub long : length values ≡ count
   pub is : take row values ≡ valuesIn b row
+  pub rest : drop row values ≡ drop row (atReset .values)
 
-pub read-begun : (b : Text) (values : List ℤ) → length values ≡ count → Reading b values 0
+pub read-begun : (n : ℕ) (b : Text) (values : List ℤ) → length values ≡ count → values ≡ atReset .values → Reading n b values 0
 unfolding valuesIn
-read-begun b values l = record { within = zero-le; long = l; is = refl }
+read-begun n b values l e = record { within = zero-le; long = l; is = refl; rest = e }
 
-pub read-on : (b : Text) (values more : List ℤ) (row : ℕ) (v : ℤ) → Reading b values row → row < count → v ≡ valueIn b row → more ≡ set values row v
-    → length more ≡ count → Reading b more (row + 1)
+pub read-on : (n : ℕ) (b : Text) (values more : List ℤ) (row : ℕ) (v : ℤ) → Reading n b values row → n ≤ count → row < n → v ≡ valueIn b row
+    → more ≡ set values row v → length more ≡ count → Reading n b more (row + 1)
 unfolding valuesIn
-read-on b values more row v g h e s l =
+read-on n b values more row v g few h e s l =
     let long = g .long in
-    record { within = omega arith; long = l; is = rw (s, add-one row, take-suc-set values row v (omega arith), g .is, e) }
+    record {
+      within = omega arith;
+      long = l;
+      is = rw (s, add-one row, take-suc-set values row v (omega arith), g .is, e);
+      rest = ap (drop (row + 1)) s ∙ drop-set-lt (row + 1) values row v (omega arith) ∙ sym (drop-drop 1 row values) ∙ ap (drop 1) (g .rest) ∙ drop-drop 1 row (atReset .values);
+    }
 
-pub read-end : (b : Text) (values : List ℤ) (text : Text) (row : ℕ) → Reading b values row → count ≤ row → text ≡ savedText b
-    → record { values = values; text = text } ≡ settingsIn b
-unfolding settingsIn
-read-end b values text row g h is =
+pub read-end : (n : ℕ) (b : Text) (values : List ℤ) (text : Text) (row : ℕ) → Reading n b values row → n ≤ row → text ≡ take mostText (drop (n * 2) b)
+    → record { values = values; text = text } ≡ readIn n b
+unfolding readIn savedText
+read-end n b values text row g h is =
     let k = g .within in
-    let long = g .long in
-    let e : row ≡ count = omega arith in
-    ap₂ (λ (l : List ℤ) (t : Text). record { values = l; text = t }) (sym (take-all count values (omega arith)) ∙ (rw e at (g .is))) is
+    let e : row ≡ n = omega arith in
+    let m : n * 2 ≡ 2 * n = omega arith in
+    ap₂ (λ (l : List ℤ) (t : Text). record { values = l; text = t })
+    (sym (take-append-drop row values) ∙ ap₂ (λ (x y : List ℤ). x ++ y) (g .is) (g .rest) ∙ ap (λ (i : ℕ). valuesIn b i ++ drop i (atReset .values)) e)
+    (is ∙ ap (λ (i : ℕ). take mostText (drop i b)) m)
+
+-- by the mark
+pub said-marked : (b : Text) → length b ≡ blockSize → marked b ≡ true → readIn count (take (blockSize - markSize) (drop markSize b)) ≡ settingsIn b
+unfolding settingsIn if_then_else_
+said-marked b l e = rw e (ap (readIn count) (take-all (blockSize - markSize) (drop markSize b) (rw length-drop (omega arith))))
+
+pub said-unmarked : (b : Text) → marked b ≡ false → readIn tableCount b ≡ settingsIn b
+said-unmarked b e = sym (unmarked-means b e)
 
 pub recall-no : (b : Text) (t : Bool) → t ≡ checks b → not t ≡ true → false ≡ recallable b
 unfolding recallable
@@ -131,26 +143,33 @@ fill xs n k a b e =
 
 pub record Filling (s : Settings) (block : Text) (row : ℕ) : Type 0 where
   pub within : row ≤ count
-  pub is : block ≡ bytesOf s row ++ replicate (blockSize - 2 * row) 0
+  pub is : block ≡ markByte ∷ markByte ∷ (bytesOf s row ++ replicate (510 - 2 * row) 0)
 
 pub fill-long : (s : Settings) (block : Text) (row : ℕ) → Filling s block row → length block ≡ blockSize
 fill-long s block row g =
     let k = g .within in
     let n = bytes-long s row in
-    let z : length (replicate {A = ℕ} (blockSize - 2 * row) 0) ≡ blockSize - 2 * row = length-replicate {A = ℕ} (blockSize - 2 * row) 0 in
+    let z : length (replicate {A = ℕ} (510 - 2 * row) 0) ≡ 510 - 2 * row = length-replicate {A = ℕ} (510 - 2 * row) 0 in
     rw (g .is, length-append, z) (omega arith)
 
-pub fill-begun : (s : Settings) → Filling s (replicate blockSize 0) 0
+pub fill-begun : (s : Settings) → Filling s (set (set (replicate blockSize 0) 0 markByte) 1 markByte) 0
 unfolding bytesOf
 fill-begun s = record { within = zero-le; is = refl }
 
 pub fill-on : (s : Settings) (block : Text) (row n : ℕ) → Filling s block row → row < count → n ≡ shifted (valueAt s row)
-    → Filling s (set (set block (row * 2) (n % 256)) (row * 2 + 1) (n / 256 % 256)) (row + 1)
+    → Filling s (set (set block (row * 2 + 2) (n % 256)) (row * 2 + 2 + 1) (n / 256 % 256)) (row + 1)
 unfolding bytesOf inBytes
 fill-on s block row n g h e =
-    let k : blockSize - 2 * row ≡ suc (suc (blockSize - 2 * (suc row))) = omega arith in
+    let k : 510 - 2 * row ≡ suc (suc (510 - 2 * (suc row))) = omega arith in
     let l = bytes-long s row in
-    record { within = omega arith; is = rw (g .is, k, add-one row, fill (bytesOf s row) (blockSize - 2 * suc row) (row * 2) (n % 256) (n / 256 % 256) (omega arith), e) }
+    record {
+      within = omega arith;
+      is =
+          ap (λ (t : Text). set (set t (row * 2 + 2) (n % 256)) (row * 2 + 2 + 1) (n / 256 % 256)) (g .is ∙ ap (λ (m : ℕ). markByte ∷ markByte ∷ (bytesOf s row ++ replicate m 0)) k)
+          ∙ fill (markByte ∷ markByte ∷ bytesOf s row) (510 - 2 * suc row) (row * 2 + 2) (n % 256) (n / 256 % 256) (omega arith)
+          ∙ ap (λ (m : ℕ). markByte ∷ markByte ∷ ((bytesOf s row ++ inBytes 2 m) ++ replicate (510 - 2 * suc row) 0)) e
+          ∙ ap (λ (i : ℕ). markByte ∷ markByte ∷ (bytesOf s i ++ replicate (510 - 2 * i) 0)) (sym (add-one row));
+    }
 
 -- a text laid over zeros
 over-zeros : (t : Text) (m n : ℕ) → m ≡ length t + n → over t (replicate m 0) ≡ t ++ replicate n 0
@@ -165,29 +184,30 @@ over-behind [] t tail = refl
 over-behind (x ∷ xs) t tail = ap (λ (l : Text). x ∷ l) (over-behind xs t tail)
 
 -- the text of a block read over zeros
-pub text-read : (b laid : Text) (end : ℕ) → length b ≡ blockSize → LaidAt 0 (take (66 - textPlace) (drop textPlace b)) (replicate mostText 0) end laid → laid ≡ savedText b
-unfolding savedText overAt
-text-read b laid end h w =
-    let t = take mostText (drop textPlace b) in
+pub text-read : (b laid : Text) (at end : ℕ) → at + 32 ≤ length b → LaidAt 0 (take (at + 32 - at) (drop at b)) (replicate mostText 0) end laid → laid ≡ take mostText (drop at b)
+unfolding overAt
+text-read b laid at end h w =
+    let t = take mostText (drop at b) in
+    let m : at + 32 - at ≡ mostText = omega arith in
     let n : length t ≡ mostText = rw (length-take, length-drop) (omega arith) in
-    w .bytes ∙ over-zeros t mostText 0 (omega arith) ∙ append-nil t
+    w .bytes ∙ ap (λ (k : ℕ). over (take k (drop at b)) (replicate mostText 0)) m ∙ over-zeros t mostText 0 (omega arith) ∙ append-nil t
 
 -- the text laid behind the values
 pub text-filled : (s : Settings) (block laid : Text) (row end : ℕ) → Filling s block row → count ≤ row → length (s .text) ≡ mostText
-    → LaidAt textPlace (s .text) block end laid → laid ≡ contents s ++ replicate 4 0
-unfolding contents
+    → LaidAt 62 (s .text) block end laid → laid ≡ contents s ++ replicate 4 0
+unfolding contents body
 text-filled s block laid row end g h long w =
     let k = g .within in
     let r : row ≡ count = omega arith in
     let l = bytes-long s count in
-    let rest = checkedSize - (textPlace + mostText) in
     let whole : padded mostText (s .text) ≡ s .text = ap (λ (n : ℕ). padded n (s .text)) (sym long) ∙ padded-whole (s .text) in
-    let zeros : blockSize - 2 * count ≡ length (s .text) + (rest + 4) = omega arith in
-    let is : block ≡ bytesOf s count ++ replicate (blockSize - 2 * count) 0 = rw r at (g .is) in
-    let at : textPlace ≡ length (bytesOf s count) = omega arith in
-    w .bytes ∙ ap₂ (λ (n : ℕ) (b : Text). overAt n (s .text) b) at is ∙ over-behind (bytesOf s count) (s .text) (replicate (blockSize - 2 * count) 0)
-    ∙ ap (λ (t : Text). bytesOf s count ++ t) (over-zeros (s .text) (blockSize - 2 * count) (rest + 4) zeros ∙ ap (λ (t : Text). t ++ replicate (rest + 4) 0) (sym whole) ∙ sym (append-assoc (padded mostText (s .text)) (replicate rest 0) (replicate 4 0)))
-    ∙ sym (append-assoc (bytesOf s count) (padded mostText (s .text) ++ replicate rest 0) (replicate 4 0))
+    let zeros : 510 - 2 * count ≡ length (s .text) + (unused + 4) = omega arith in
+    let front : Text = markByte ∷ markByte ∷ bytesOf s count in
+    let is : block ≡ front ++ replicate (510 - 2 * count) 0 = g .is ∙ ap (λ (i : ℕ). markByte ∷ markByte ∷ (bytesOf s i ++ replicate (510 - 2 * i) 0)) r in
+    let at : 62 ≡ length front = omega arith in
+    w .bytes ∙ ap₂ (λ (n : ℕ) (b : Text). overAt n (s .text) b) at is ∙ over-behind front (s .text) (replicate (510 - 2 * count) 0)
+    ∙ ap (λ (t : Text). front ++ t) (over-zeros (s .text) (510 - 2 * count) (unused + 4) zeros ∙ ap (λ (t : Text). t ++ replicate (unused + 4) 0) (sym whole) ∙ sym (append-assoc (padded mostText (s .text)) (replicate unused 0) (replicate 4 0)))
+    ∙ sym (append-assoc front (padded mostText (s .text) ++ replicate unused 0) (replicate 4 0))
 
 -- the whole block, with its sum in the last four bytes
 pub block-made : (s : Settings) (block : Text) (sum : ℕ) → block ≡ contents s ++ replicate 4 0 → sum ≡ weighted 1 (take (checkedSize - 0) (drop 0 block))

@@ -1,7 +1,7 @@
 -- A saved setup: what is saved is recalled, an altered byte is noticed, and the other blocks stay.
 use mathlib.Core.Path.{_≡_, refl, sym, _∙_, ap, ap₂}
 use mathlib.Core.Bool.{Bool, true, false, not, _&&_, false≢true}
-use mathlib.Core.List.{List, [], _∷_, _++_, append-assoc}
+use mathlib.Core.List.{List, [], _∷_, _++_, append-assoc, append-nil}
 use Prim.Native.Nat.{ℕ, zero, suc, _+_, _-_, _*_, _/_, _%_, _^_, _≤_, _<_, zero-le}
 use native.Mathlib.Nat.{add-right-cancel, add-left-cancel, eq-of-mul-eq-mul-left, zero-lt-suc, mul-le-mul}
 use native.Mathlib.Omega.{arith}
@@ -13,10 +13,10 @@ use lib.Signed.{leZ}
 use borrow.Author.Tests.{eqb-true, eqb-false, eq-eqb, ltb-true, ltb-false, le-leb, lt-leb, leb-true}
 use Rattle.registers.specs.Text.{Text, if_then_else_, every, below, between}
 use Rattle.registers.specs.Label.{mostText, mayStand, forbidden, padded, heldIn, possibleText}
-use Rattle.registers.specs.Settings.{table, settingAt, count, voltage, kindOf, highestOf, twelveVolts, wideRange, valueAt, displayed, AsLong, within, lowest, highest, possibleValues, possibleSettings}
-use Rattle.registers.specs.Setup.{blockSize, checkedSize, weighted, lowFirst, inBytes, checks, shifted, unshifted, valueIn, valuesIn, textPlace, savedText, settingsIn, bytesOf, contents, blockOf, recallable, blockAt, savedAt, saidIn}
+use Rattle.registers.specs.Settings.{table, slots, tableCount, settingAt, count, kindOf, highestOf, twelveVolts, narrow, atReset, valueAt, displayed, AsLong, within, lowest, highest, possibleValues, possibleSettings}
+use Rattle.registers.specs.Setup.{blockSize, checkedSize, weighted, lowFirst, inBytes, checks, shifted, unshifted, valueIn, valuesIn, savedText, readIn, markByte, markSize, marked, settingsIn, bytesOf, unused, body, contents, blockOf, recallable, blockAt, savedAt, saidIn}
 use Rattle.registers.specs.declared.settings.Settings.{Settings}
-use Rattle.registers.proofs.Tests.{and-both, and-true, below-at}
+use Rattle.registers.proofs.Tests.{and-both, and-true, and-fails, below-at}
 use Rattle.registers.proofs.settings.Possible.{good-from, text-from}
 use Rattle.registers.proofs.label.Record.{padded-length}
 
@@ -85,7 +85,7 @@ module _ (b : Text) (i x : ℕ) (h : i < blockSize) (other : x ≡ getD b i 0 �
 
 -- nor does it take a block that is all zero
 pub zeros-not-recalled : recallable (replicate blockSize 0) ≡ false
-unfolding recallable checks weighted lowFirst settingsIn valuesIn valueIn unshifted possibleSettings possibleValues within lowest highest wideRange settingAt table if_then_else_
+unfolding recallable checks weighted lowFirst marked settingsIn readIn valuesIn valueIn unshifted possibleSettings possibleValues within lowest highest narrow settingAt slots table if_then_else_
 zeros-not-recalled = refl
 
 -- ---- lengths
@@ -95,12 +95,15 @@ unfolding bytesOf inBytes
 bytes-long s zero = refl
 bytes-long s (suc i) = let ih = bytes-long s i in simp length-append (omega arith)
 
+pub body-long : (s : Settings) → length (body s) ≡ 506
+unfolding body
+body-long s =
+    length-append (bytesOf s count) (padded mostText (s .text) ++ replicate unused 0)
+    ∙ ap₂ _+_ (bytes-long s count) (length-append (padded mostText (s .text)) (replicate unused 0) ∙ ap₂ _+_ (padded-length mostText (s .text)) (length-replicate {A = ℕ} unused 0))
+
 pub contents-long : (s : Settings) → length (contents s) ≡ checkedSize
 unfolding contents
-contents-long s =
-    let k = checkedSize - (textPlace + mostText) in
-    length-append (bytesOf s count) (padded mostText (s .text) ++ replicate k 0)
-    ∙ ap₂ _+_ (bytes-long s count) (length-append (padded mostText (s .text)) (replicate k 0) ∙ ap₂ _+_ (padded-length mostText (s .text)) (length-replicate {A = ℕ} k 0))
+contents-long s = let n = body-long s in omega arith
 
 pub block-long : (s : Settings) → length (blockOf s) ≡ blockSize
 unfolding blockOf inBytes
@@ -159,10 +162,10 @@ padded-sized (suc n) [] e = padded-sized n [] refl
 padded-sized (suc n) (b ∷ t) e = let p = and-both (byteSized b) (every byteSized t) e in and-true (p .0) (padded-sized n t (p .1))
 
 contents-sized : (s : Settings) → possibleText (s .text) ≡ true → every byteSized (contents s) ≡ true
-unfolding contents
+unfolding contents body
 contents-sized s p =
     every-append (bytesOf s count) _ (bytes-sized s count)
-    (every-append (padded mostText (s .text)) _ (padded-sized mostText (s .text) (text-sized (s .text) p)) (zeros-sized (checkedSize - (textPlace + mostText))))
+    (every-append (padded mostText (s .text)) _ (padded-sized mostText (s .text) (text-sized (s .text) p)) (zeros-sized unused))
 
 -- the term of a place
 pub term : (k b : ℕ) → k ≤ checkedSize → b ≤ 255 → k * b ≤ 129540
@@ -236,12 +239,12 @@ two-back : (n : ℕ) → n < 65536 → n % 256 + 256 * (n / 256 % 256) ≡ n
 two-back n h = omega arith
 
 module _ (s : Settings) (i : ℕ) (h : i < count) (held : Held (valueAt s i)) where
-  pub value-back : valueIn (blockOf s) i ≡ valueAt s i
-  unfolding valueIn blockOf contents
+  pub value-back : valueIn (drop markSize (blockOf s)) i ≡ valueAt s i
+  unfolding valueIn blockOf contents body
   value-back =
-      let behind : Text = padded mostText (s .text) ++ replicate (checkedSize - (textPlace + mostText)) 0 in
+      let behind : Text = padded mostText (s .text) ++ replicate unused 0 in
       let rest = behind ++ inBytes 4 (weighted 1 (contents s)) in
-      let whole : blockOf s ≡ bytesOf s count ++ rest = append-assoc (bytesOf s count) behind (inBytes 4 (weighted 1 (contents s))) in
+      let whole : drop markSize (blockOf s) ≡ bytesOf s count ++ rest = append-assoc (bytesOf s count) behind (inBytes 4 (weighted 1 (contents s))) in
       let two = row-bytes s count i h rest in
       let back = shift-back (valueAt s i) held in
       ap₂ (λ (x y : ℕ). unshifted (x + 256 * y)) (ap (λ (b : Text). getD b (2 * i) 0) whole ∙ two .0) (ap (λ (b : Text). getD b (2 * i + 1) 0) whole ∙ two .1)
@@ -249,7 +252,7 @@ module _ (s : Settings) (i : ℕ) (h : i < count) (held : Held (valueAt s i)) wh
 
 -- the limits of every row are held
 limits-held : below count (λ i. leZ (negsuc 255) (lowest i) && leZ (highestOf (kindOf i)) (pos 65279)) ≡ true
-unfolding lowest settingAt table
+unfolding lowest settingAt slots table
 limits-held = refl
 
 leZ-trans : (x y z : ℤ) → leZ x y ≡ true → leZ y z ≡ true → leZ x z ≡ true
@@ -263,7 +266,7 @@ leZ-trans (negsuc a) (negsuc b) (negsuc c) p q = let h = leb-true b a p in let k
 
 highest-held : (s : Settings) (i : ℕ) → leZ (highestOf (kindOf i)) (pos 65279) ≡ true → leZ (highest s i) (pos 65279) ≡ true
 unfolding highest if_then_else_
-highest-held s i e = go (eqb i voltage && not (wideRange s))
+highest-held s i e = go (narrow s i)
   where
     go : (t : Bool) → leZ (if t then twelveVolts else highestOf (kindOf i)) (pos 65279) ≡ true
     go true = refl
@@ -280,7 +283,7 @@ good-held s p i h =
     }
 
 values-back : (s : Settings) → length (s .values) ≡ count → ((i : ℕ) → i < count → Held (valueAt s i)) → (n : ℕ) → n ≤ count
-    → valuesIn (blockOf s) n ≡ take n (s .values)
+    → valuesIn (drop markSize (blockOf s)) n ≡ take n (s .values)
 unfolding valuesIn
 values-back s long held zero h = refl
 values-back s long held (suc n) h =
@@ -293,43 +296,77 @@ padded-whole [] = refl
 padded-whole (b ∷ t) = ap (λ (l : Text). b ∷ l) (padded-whole t)
 
 -- the text of the record, as it is
-pub text-back : (s : Settings) → length (s .text) ≡ mostText → savedText (blockOf s) ≡ s .text
-unfolding savedText blockOf contents
+pub text-back : (s : Settings) → length (s .text) ≡ mostText → savedText count (drop markSize (blockOf s)) ≡ s .text
+unfolding savedText blockOf contents body
 text-back s long =
-    let zeros = replicate {A = ℕ} (checkedSize - (textPlace + mostText)) 0 in
+    let zeros = replicate {A = ℕ} unused 0 in
     let sum = inBytes 4 (weighted 1 (contents s)) in
     let text = padded mostText (s .text) in
     let n = bytes-long s count in
-    let behind : drop textPlace (blockOf s) ≡ text ++ (zeros ++ sum) =
-    ap (drop textPlace) (append-assoc (bytesOf s count) (text ++ zeros) sum) ∙ drop-at (bytesOf s count) ((text ++ zeros) ++ sum) textPlace (omega arith) ∙ append-assoc text zeros sum in
+    let behind : drop (2 * count) (drop markSize (blockOf s)) ≡ text ++ (zeros ++ sum) =
+    ap (drop (2 * count)) (append-assoc (bytesOf s count) (text ++ zeros) sum) ∙ drop-at (bytesOf s count) ((text ++ zeros) ++ sum) (2 * count) (omega arith) ∙ append-assoc text zeros sum in
     let whole : text ≡ s .text = ap (λ (k : ℕ). padded k (s .text)) (sym long) ∙ padded-whole (s .text) in
     ap (take mostText) behind ∙ take-at text (zeros ++ sum) mostText (padded-length mostText (s .text)) ∙ whole
 
+-- no slot comes after the last
+after-last : (l : List ℤ) → l ++ drop count (atReset .values) ≡ l
+unfolding atReset slots table
+after-last l = append-nil l
+
+-- what *SAV writes has the mark
+pub block-marked : (s : Settings) → marked (blockOf s) ≡ true
+unfolding marked blockOf contents
+block-marked s = refl
+
+said-of-both : (b : Text) → marked b ≡ true → settingsIn b ≡ record { values = valuesIn (drop markSize b) count ++ drop count (atReset .values); text = savedText count (drop markSize b) }
+unfolding settingsIn readIn if_then_else_
+said-of-both b e = rw e
+
 pub saved-back : (s : Settings) → AsLong s → possibleSettings s ≡ true → (recallable (blockOf s) ≡ true) × (settingsIn (blockOf s) ≡ s)
-unfolding recallable settingsIn
+unfolding recallable
 saved-back s long p =
     let n = long .values in
-    let values = values-back s n (good-held s p) count (omega arith) ∙ take-all count (s .values) (omega arith) in
-    let same : settingsIn (blockOf s) ≡ s = ap₂ (λ (l : List ℤ) (t : Text). record { values = l; text = t }) values (text-back s (long .text)) in
+    let values = after-last (valuesIn (drop markSize (blockOf s)) count) ∙ values-back s n (good-held s p) count (omega arith) ∙ take-all count (s .values) (omega arith) in
+    let same : settingsIn (blockOf s) ≡ s = said-of-both (blockOf s) (block-marked s) ∙ ap₂ (λ (l : List ℤ) (t : Text). record { values = l; text = t }) values (text-back s (long .text)) in
     (and-true (block-checks s (text-from s p)) (ap possibleSettings same ∙ p), same)
 
-said-text : (b : Text) → settingsIn b .text ≡ savedText b
-unfolding settingsIn
-said-text b = refl
+-- ---- blocks that were saved before there were two channels
 
-zeros-possible : possibleText (replicate mostText 0) ≡ true
-unfolding possibleText if_then_else_
-zeros-possible = refl
+-- OUTPut's value, which they have first, is within its limits
+first-low : (b : Text) → possibleSettings (readIn tableCount b) ≡ true → leZ (unshifted (getD b 0 0 + 256 * getD b 1 0)) (pos 1) ≡ true
+unfolding within highest narrow settingAt slots table readIn valuesIn valueIn if_then_else_
+first-low b p =
+    let v = unshifted (getD b 0 0 + 256 * getD b 1 0) in
+    and-both (leZ (lowest 0) v) (leZ v (pos 1)) (good-from (readIn tableCount b) p 0 (omega arith)) .1
 
--- a block that was saved before there was a text has an empty one
-pub older-empty : (b : Text) → savedText b ≡ replicate mostText 0 → displayed (settingsIn b) ≡ []
+too-high : (x y : ℕ) → y ≡ markByte → leZ (unshifted (x + 256 * y)) (pos 1) ≡ true → ⊥
+unfolding unshifted if_then_else_
+too-high x y e t =
+    let h : leb (x + 256 * y - 256) 1 ≡ true = rw (le-leb 256 (x + 256 * y) (omega arith)) at t in
+    let k = leb-true (x + 256 * y - 256) 1 h in
+    omega (arith, k)
+
+-- none of them has the mark
+pub older-unmarked : (b : Text) → possibleSettings (readIn tableCount b) ≡ true → marked b ≡ false
+unfolding marked
+older-unmarked b p = and-fails (eqb (getD b 0 0) markByte) (eqb (getD b 1 0) markByte) (go (eqb (getD b 1 0) markByte) refl)
+  where
+    go : (t : Bool) → eqb (getD b 1 0) markByte ≡ t → t ≡ false
+    go false q = refl
+    go true q = absurd (too-high (getD b 0 0) (getD b 1 0) (eqb-true (getD b 1 0) markByte q) (first-low b p))
+
+-- so they mean what they meant, with channel 2 as at *RST
+pub unmarked-means : (b : Text) → marked b ≡ false → settingsIn b ≡ readIn tableCount b
 unfolding settingsIn if_then_else_
-older-empty b e = ap heldIn e
+unmarked-means b e = rw e
 
--- and is taken as before
-pub older-recalled : (b : Text) → checks b ≡ true → possibleValues (settingsIn b) ≡ true → savedText b ≡ replicate mostText 0 → recallable b ≡ true
-unfolding recallable possibleSettings
-older-recalled b good values e = and-true good (and-true values (ap possibleText (said-text b ∙ e) ∙ zeros-possible))
+pub older-means : (b : Text) → possibleSettings (readIn tableCount b) ≡ true → settingsIn b ≡ readIn tableCount b
+older-means b p = unmarked-means b (older-unmarked b p)
+
+-- and one that was saved before there was a text has an empty one
+pub older-empty : (b : Text) → marked b ≡ false → savedText tableCount b ≡ replicate mostText 0 → displayed (settingsIn b) ≡ []
+unfolding readIn if_then_else_
+older-empty b m e = ap displayed (unmarked-means b m) ∙ ap heldIn e
 
 -- ---- "*SAV touches only its own block"
 
@@ -380,11 +417,27 @@ unfolding valuesIn
 values-long b zero = refl
 values-long b (suc n) = let ih = values-long b n in rw length-append (omega arith)
 
+pub reset-long : length (atReset .values) ≡ count
+unfolding atReset slots table
+reset-long = refl
+
+read-long : (n : ℕ) (b : Text) → n ≤ count → 2 * n + mostText ≤ length b → AsLong (readIn n b)
+unfolding readIn savedText
+read-long n b h k =
+    let v = values-long b n in
+    let r = reset-long in
+    let d = length-drop n (atReset .values) in
+    record { values = rw length-append (omega (arith, v, r, d)); text = rw (length-take, length-drop) (omega arith) }
+
 pub recalled-long : (b : Text) → recallable b ≡ true → AsLong (settingsIn b)
-unfolding settingsIn savedText recallable checks
+unfolding settingsIn recallable checks if_then_else_
 recalled-long b e =
     let l = eqb-true (length b) blockSize (and-both (eqb (length b) blockSize) _ (and-both (checks b) _ e .0) .0) in
-    record { values = values-long b count; text = rw (length-take, length-drop) (omega arith) }
+    go (marked b) l
+  where
+    go : (t : Bool) → length b ≡ blockSize → AsLong (if t then readIn count (drop markSize b) else readIn tableCount b)
+    go true l = read-long count (drop markSize b) (omega arith) (rw length-drop (omega arith))
+    go false l = read-long tableCount b (omega arith) (omega arith)
 
 -- a block that *RCL takes is read as its settings
 pub said-recalled : (b : Text) → recallable b ≡ true → saidIn b ≡ settingsIn b

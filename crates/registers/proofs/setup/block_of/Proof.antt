@@ -45,8 +45,9 @@ block-of-spec =
     (tie.spec
     Inv-loop
     μ-loop
+    (λ c. omega arith) (λ c. omega arith)
     loop-holds
-    (λ c. omega arith) (λ c. omega arith) (λ c κs. tt) (λ c. omega arith) (λ c. omega arith) (λ c. omega arith)
+    (λ c. omega arith) (λ c. omega arith) (λ c κs. tt) (λ c. omega arith) (λ c. omega arith) (λ c. omega arith) (λ c. omega arith)
     (λ c. omega arith) (λ c. omega arith) (λ c. omega arith) (λ c. omega arith) (λ c. omega arith)
     loop-again
     (λ c. search needs) (λ c. let n = fill-long _ _ _ (c .before .before .before .loop .inv) in search needs) (λ c κs. search needs)

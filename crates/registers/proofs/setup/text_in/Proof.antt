@@ -6,7 +6,7 @@ use Rattle.registers.proofs.setup.text_in.Statement.{statement}
 use Rattle.registers.proofs.setup.text_in.Tie as tie
 
 returns : tie.Need-returns
-returns c = text-read _ _ _ (c .before .before .before .before .before .pre) (c .before .text-at .ensures)
+returns c = text-read _ _ _ _ (c .before .before .before .before .before .pre .1) (c .before .text-at .ensures)
 
 pub text-in-spec : {M : Type 1} → statement M
 text-in-spec =
