@@ -11,7 +11,7 @@ use Rattle.registers.specs.Text.{Text}
 use Rattle.registers.specs.Queue.{mayBeQueued, queueable}
 use Rattle.registers.specs.Label.{mostText, padded, possibleText}
 use Rattle.registers.proofs.label.Record.{padded-possible, padded-length}
-use Rattle.registers.specs.Settings.{table, atReset, withText, within, highest, wideRange, AsLong}
+use Rattle.registers.specs.Settings.{table, slots, atReset, withText, within, highest, narrow, wideRange, AsLong}
 use Rattle.registers.specs.Status.{Trouble, Registers}
 use Rattle.registers.specs.declared.settings.Settings.{Settings}
 use Rattle.registers.proofs.settings.Possible as limits
@@ -82,12 +82,12 @@ module _ (k : ℕ) (c : Core) (f : FitCore k c) where
 -- ---- deeds
 
 pub reset-long : AsLong atReset
-unfolding atReset table padded
+unfolding atReset slots table padded
 reset-long = record { values = refl; text = refl }
 
 -- a text leaves the other settings within their limits
 text-good : (s : Settings) (t : Text) → limits.Good s → limits.Good (withText t s)
-unfolding within highest wideRange
+unfolding within highest narrow wideRange
 text-good s t g j h = g j h
 
 pub change-fit : (k : ℕ) (x : changes.Change) (t : Text) (c : Core) → AllowedChange (c .settings) x → AllowedLabel x t

@@ -9,10 +9,10 @@ use borrow.Author.Tests.{eqb-true, eq-eqb}
 use Rattle.registers.specs.Text.{Text}
 use Rattle.registers.specs.Check.{Checked, refused, passed, check, _>>_}
 use Rattle.registers.specs.Setup.{blockSize, places, blockOf, settingsIn, recallable, blockAt, savedAt}
-use Rattle.registers.proofs.setup.Laws.{saved-back, older-recalled, older-empty, not-recalled, saved-long, saved-here, saved-before, saved-after, zeros-not-recalled}
+use Rattle.registers.proofs.setup.Laws.{saved-back, block-marked, older-unmarked, older-means, older-empty, not-recalled, saved-long, saved-here, saved-before, saved-after, zeros-not-recalled}
 use Rattle.interpreter.specs.Box.{Memory, storeSize, rightSize, withStore, Core, withMemory}
 use Rattle.interpreter.specs.Perform.{setUp}
-use Rattle.interpreter.specs.Setups.{SavedIsRecalled, OlderIsRecalled, AlteredIsNoticed, SavesOnlyItsBlock, Setups, ZerosAreRefused}
+use Rattle.interpreter.specs.Setups.{SavedIsRecalled, OlderIsRecalled, OlderHasNoText, AlteredIsNoticed, SavesOnlyItsBlock, Setups, ZerosAreRefused}
 use Rattle.interpreter.specs.declared.deed.Saving.the-variants.{Save}
 
 store-long : (m : Memory) → rightSize m ≡ true → length (m .store) ≡ storeSize
@@ -72,10 +72,14 @@ only p c d h size saved =
     }
 
 older : OlderIsRecalled
-unfolding setUp check _>>_
-older p c good values e =
+unfolding setUp recallable check _>>_
+older p c good possible =
     let b = blockAt p (c .memory .store) in
-    (rw (older-recalled b good values e), older-empty b e)
+    let means = older-means b possible in
+    (older-unmarked b possible, rw (good, means, possible))
+
+textless : OlderHasNoText
+textless p c m e = older-empty (blockAt p (c .memory .store)) m e
 
 pub setups : Setups
-setups = record { recalled = recalled; zeros = zeros; older = older; noticed = noticed; only = only }
+setups = record { recalled = recalled; zeros = zeros; marked = block-marked; older = older; textless = textless; noticed = noticed; only = only }

@@ -8,5 +8,7 @@ pub mod Demand2
 pub mod Demand3
 pub mod calls
 pub mod Lock
+pub mod Steps
+pub mod isolation
 pub mod dummies
 pub mod met

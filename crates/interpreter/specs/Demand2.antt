@@ -8,12 +8,13 @@ use lib.ListN as L
 use lib.Signed.{leZ}
 use Rattle.registers.specs.Text.{Text, white, every, empty}
 use Rattle.registers.specs.Check.{passed}
-use Rattle.registers.specs.Settings.{count, voltage, twelveVolts, wideRange, kindOf, valueAt, displayed, within, answerOf, atReset}
+use Rattle.registers.specs.Settings.{count, voltage, range, voltage2, range2, twelveVolts, wideRange, kindOf, valueAt, displayed, within, answerOf, atReset}
 use Rattle.registers.specs.Label.{mostText, mayStand, quotedText}
 use Rattle.registers.specs.declared.settings.Settings.{Settings}
 use Rattle.registers.specs.Status.{allRead, locked}
+use Rattle.registers.specs.declared.settings.Settings.{Settings}
 use Rattle.interpreter.specs.Header.{Header, header, isCommon, fullNames}
-use Rattle.interpreter.specs.Rows.{rows, findRow}
+use Rattle.interpreter.specs.Rows.{findRole}
 use Rattle.interpreter.specs.Box.{Box, box, withSettings, withRegisters, withLine}
 use Rattle.interpreter.specs.Unit.{readUnit}
 use Rattle.interpreter.specs.Perform.{perform}
@@ -39,10 +40,13 @@ abbrev pub TextWithinLimits : Type 0
 TextWithinLimits = (b : Box) → Own b → (es : List Event) →
     let t = displayed (after b es .core .settings) in (every mayStand t ≡ true) × (L.length t ≤ mostText)
 
--- "a voltage above its range" never comes
+-- "a voltage above its range" never comes, on either channel (02, #111)
+pub record InRange (s : Settings) : Type 0 where
+  pub first : wideRange s range ≡ false → leZ (valueAt s voltage) twelveVolts ≡ true
+  pub second : wideRange s range2 ≡ false → leZ (valueAt s voltage2) twelveVolts ≡ true
+
 abbrev pub WithinRange : Type 0
-WithinRange = (b : Box) → Own b → (es : List Event) →
-    let s = after b es .core .settings in wideRange s ≡ false → leZ (valueAt s voltage) twelveVolts ≡ true
+WithinRange = (b : Box) → Own b → (es : List Event) → InRange (after b es .core .settings)
 
 -- ---- "*RST the settings only"; "*CLS clears the event status register, the operation event register and the queue, nothing else", by 02 (#104)
 -- "all three event registers"
@@ -106,7 +110,7 @@ pub record Spelling (i : Which) (h : Text) : Type 0 where
   pub read : Header
   pub reads : header h ≡ passed read
   pub sets : read .query ≡ false
-  pub row : findRow (isCommon (read .place)) (fullNames (read .place) [] (read .names)) false rows ≡ passed (roleOf i)
+  pub row : findRole (isCommon (read .place)) (fullNames (read .place) [] (read .names)) false ≡ passed (roleOf i)
 
 -- a box whose waiting line is such a header with that parameter, alone, with any white space around them
 pub record Sends (i : Which) (a : Text) (b : Box) : Type 0 where

@@ -37,6 +37,8 @@ pub mod Demand3
 pub mod Server
 pub mod ServerParts
 pub mod Calls
+pub mod Steps
 pub mod Lock
 pub mod OfCalls
+pub mod Isolation
 pub mod Dummies

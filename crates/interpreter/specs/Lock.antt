@@ -1,4 +1,4 @@
--- 02, #105: "A teacher's lock key must hold." While the lock holds no line changes any setting but the output, and that only to off:
+-- 02, #105: "A teacher's lock key must hold." While the lock holds no line changes any setting but the outputs, and these only to off:
 -- for any bytes, from any state, until the next lock condition event or power-up.
 use mathlib.Core.Path.{_≡_}
 use mathlib.Core.Bool.{Bool, true, false}
@@ -6,11 +6,12 @@ use mathlib.Core.List.{List}
 use Prim.Native.Nat.{ℕ}
 use lib.IntN.{pos}
 use Rattle.registers.specs.Text.{every}
-use Rattle.registers.specs.Settings.{output, valueAt, displayed}
+use Rattle.registers.specs.Settings.{valueAt, displayed}
 use Rattle.registers.specs.Status.{Registers, registersOf, locked}
 use Rattle.registers.specs.declared.settings.Settings.{Settings}
 use Rattle.registers.specs.declared.status.RegisterSet.the-variants.{Operation, Lock, Warning}
 use Rattle.interpreter.specs.Box.{Memory, Box}
+use Rattle.interpreter.specs.Perform.{isOutput}
 use Rattle.interpreter.specs.Events.{Event, started, received, take, condition, look, altered, mislent, Result, after}
 use Rattle.interpreter.specs.State.{boxOf}
 use Rattle.interpreter.specs.Calls.{Calls}
@@ -30,12 +31,12 @@ leavesKey (mislent buffer) = true
 
 -- settings, and what they and the registers are later
 pub record UnderLock (before later : Settings) (registers : Registers) : Type 0 where
-  -- no line changes any setting but the output
-  pub others : (i : ℕ) → (i ≡ output → ⊥) → valueAt later i ≡ valueAt before i
+  -- no line changes any setting but the outputs
+  pub others : (i : ℕ) → isOutput i ≡ false → valueAt later i ≡ valueAt before i
   -- nor the display's text
   pub text : displayed later ≡ displayed before
-  -- and that only to off: "switching off is never blocked"
-  pub onlyOff : (valueAt later output ≡ valueAt before output → ⊥) → valueAt later output ≡ pos 0
+  -- and these only to off: "switching off is never blocked"
+  pub onlyOff : (i : ℕ) → isOutput i ≡ true → (valueAt later i ≡ valueAt before i → ⊥) → valueAt later i ≡ pos 0
   -- and the lock still holds
   pub still : locked registers ≡ true
 

@@ -4,16 +4,15 @@ use mathlib.Core.Bool.{true, false}
 use mathlib.Core.List.{List, [], _∷_, _++_}
 use Prim.Native.Nat.{ℕ, _≤_, _<_}
 use lib.ListN.{length, drop}
-use lib.Signed.{leZ}
 use Rattle.registers.specs.Text.{Text, every}
-use Rattle.registers.specs.Settings.{count, voltage, twelveVolts, wideRange, valueAt, displayed, AsLong, within}
+use Rattle.registers.specs.Settings.{count, valueAt, displayed, AsLong, within}
 use Rattle.registers.specs.Label.{mostText, mayStand}
 use Rattle.interpreter.specs.Box.{Memory}
 use Rattle.interpreter.specs.Events.{Event, Result, after}
 use Rattle.interpreter.specs.Histories.{newline, Recut, isTake, isPiece, noPiece, howMany, chosen, summed}
 use Rattle.interpreter.specs.State.{boxOf, possibleState, Started}
 use Rattle.interpreter.specs.Calls.{Calls}
-use Rattle.interpreter.specs.Demand2.{Which, answerTo, Asks, queried, sentBack, Premises, Back}
+use Rattle.interpreter.specs.Demand2.{InRange, Which, answerTo, Asks, queried, sentBack, Premises, Back}
 use Rattle.interpreter.specs.Demand3.{asSent, asCut, ALine, Demand3}
 use Rattle.interpreter.specs.declared.state.State.{State}
 
@@ -35,7 +34,7 @@ TextOfCalls = (s t : State) (m n : Memory) (es : List Event) (rs : List Result) 
 
 abbrev pub RangeOfCalls : Type 0
 RangeOfCalls = (s t : State) (m n : Memory) (es : List Event) (rs : List Result) → Ran s m t n es rs
-    → wideRange (t .settings) ≡ false → leZ (valueAt (t .settings) voltage) twelveVolts ≡ true
+    → InRange (t .settings)
 
 -- the same bytes in other pieces
 abbrev pub PiecesOfCalls : Type 0

@@ -1,13 +1,14 @@
 -- The seventeen settings and "Registers and queue": what a unit that passed checks 1 to 7 does to the box, with the lock and check 8
 -- before it. Check 9 is in Reply.antt.
-use mathlib.Core.Bool.{Bool, true, false, not, _&&_}
+use mathlib.Core.Bool.{Bool, true, false, not, _&&_, _||_}
+use Prim.Native.Nat.{ℕ}
 use Prim.Native.Nat.{ℕ}
 use lib.Dec.{eqb}
 use lib.IntN.{pos}
 use lib.Signed.{leZ}
 use Rattle.registers.specs.Text.{Text}
 use Rattle.registers.specs.Check.{Checked, passed, _>>=_, _>>_, check}
-use Rattle.registers.specs.Settings.{output, withValue, withText, atReset, conflict}
+use Rattle.registers.specs.Settings.{output, output2, withValue, withText, atReset, conflict}
 use Rattle.registers.specs.Status.{locked, Trouble, noTrouble, completed, eventsRead, oldestRead, setRead, allRead, storedIn}
 use Rattle.registers.specs.declared.settings.Settings.{Settings}
 use Rattle.registers.specs.declared.status.RegisterSet.{RegisterSet}
@@ -37,11 +38,15 @@ changed Label t c = withSettings (withText t (c .settings)) c
 
 -- ---- the lock (02, #105), then check 8
 
+-- OUTPut[:STATe] of a channel (02, #111)
+abbrev pub isOutput : ℕ → Bool
+isOutput i = eqb i output || eqb i output2
+
 -- what it blocks: "every setting command and *RST", and by 02 (#108) *SAV and *RCL, "before -314"; "Queries, *CLS, the register commands and OUTPut 0 still work". Off is 0, and check 7
 -- lets nothing below it pass
 abbrev pub blockedChange : changes.Change → Bool
 blockedChange Nothing = false
-blockedChange (Put i v x) = not (eqb i output && leZ v (pos 0))
+blockedChange (Put i v x) = not (isOutput i && leZ v (pos 0))
 blockedChange Reset = true
 blockedChange (Store r n x) = false
 blockedChange Label = true

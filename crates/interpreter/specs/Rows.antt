@@ -1,16 +1,17 @@
 -- The seventeen settings and "Registers and queue": every header that the box knows, with what it is for; and check 3.
-use mathlib.Core.Bool.{Bool, true, false, _&&_}
+use mathlib.Core.Bool.{Bool, true, false, _&&_, _||_}
 use mathlib.Core.List.{List, [], _∷_, _++_}
-use Prim.Native.Nat.{ℕ, suc}
+use Prim.Native.Nat.{ℕ, suc, _+_, _-_}
 use Prim.Native.String.{String}
-use Rattle.registers.specs.Text.{Text, if_then_else_, sameBool}
-use Rattle.registers.specs.Check.{Checked, refused, passed}
+use lib.Dec.{ltb}
+use Rattle.registers.specs.Text.{Text, if_then_else_, bytes, same, empty, sameBool}
+use Rattle.registers.specs.Check.{Checked, refused, passed, _>>=_}
 use Rattle.registers.specs.Words.{Node, must, may}
-use Rattle.registers.specs.Settings.{Setting, table}
+use Rattle.registers.specs.Settings.{Setting, table, tableCount}
 use Rattle.registers.specs.declared.status.Register.{Register}
 use Rattle.registers.specs.declared.status.RegisterSet.{RegisterSet}
 use Rattle.registers.specs.declared.status.RegisterSet.the-variants.{Operation, Lock, Warning}
-use Rattle.interpreter.specs.Header.{spells}
+use Rattle.interpreter.specs.Header.{spells, suffixIn}
 use Rattle.interpreter.specs.declared.deed.Role.{Role}
 use Rattle.interpreter.specs.declared.deed.Role.the-variants.{Setting as setting, Register as register, Only, Saving as saving, Label as label}
 use Rattle.interpreter.specs.declared.deed.Saving.the-variants.{Save, Recall}
@@ -93,3 +94,33 @@ fitsRow star names asked r = sameBool star (r .star) && (hasForm asked (r .role)
 unfoldable pub findRow : Bool → List Text → Bool → List Row → Checked Role
 findRow star names asked [] = refused 113
 findRow star names asked (r ∷ rs) = if fitsRow star names asked r then passed (r .role) else findRow star names asked rs
+
+-- ---- the channel (02, #111): "The thirteen rows of that kind exist per channel; monitor mode (a suffix 2 there is -114) .. stay single"
+
+-- the rows that part them: monitor mode, and the first after the channel's
+abbrev pub monitor : ℕ
+monitor = 3
+
+abbrev pub brightness : ℕ
+brightness = 14
+
+-- the slot of a row on channel 2, where it has one: they stand after the table in its order, without monitor mode
+unfoldable pub secondOf : ℕ → Checked ℕ
+secondOf i =
+    if ltb i monitor then passed (i + tableCount)
+    else (if ltb monitor i && ltb i brightness then passed (i + (tableCount - 1)) else refused 114)
+
+abbrev pub onSecond : Role → Checked Role
+onSecond (setting i) = secondOf i >>= λ j. passed (setting j)
+onSecond (register r) = refused 114
+onSecond (Only d) = refused 114
+onSecond (saving x) = refused 114
+onSecond label = refused 114
+
+-- "a numeric suffix 1 or 2 .., none meaning 1"; "other suffixes there give -114"
+unfoldable pub onChannel : Text → Role → Checked Role
+onChannel t r = if empty t || same t (bytes "1") then passed r else (if same t (bytes "2") then onSecond r else refused 114)
+
+-- check 3: the row, "-113", and then the channel, "-114 in check 3, if the header without them spells a row"
+unfoldable pub findRole : Bool → List Text → Bool → Checked Role
+findRole star names asked = findRow star names asked rows >>= onChannel (suffixIn names)

@@ -1,14 +1,16 @@
 -- 02, #108, as laws of what *SAV and *RCL do: what is saved is recalled, "Any single altered byte in a block is noticed", "*SAV touches only its own
--- block". The store persists between events, over a power-up too (Events.happens).
+-- block", and what a block means that was saved before there was a text or a second channel. The store persists between events, over a
+-- power-up too (Events.happens).
 use mathlib.Core.Path.{_≡_}
-use mathlib.Core.Bool.{true}
+use mathlib.Core.Bool.{true, false}
 use mathlib.Core.List.{[]}
 use Prim.Native.Nat.{ℕ, _+_, _*_, _≤_, _<_}
 use lib.ListN.{getD, replicate}
 use Rattle.registers.specs.Check.{refused, passed}
 use Rattle.registers.specs.Label.{mostText}
-use Rattle.registers.specs.Settings.{displayed, AsLong, possibleValues, possibleSettings}
-use Rattle.registers.specs.Setup.{places, blockSize, checks, savedText, settingsIn, blockAt}
+use Rattle.registers.specs.Settings.{tableCount, displayed, AsLong, possibleSettings}
+use Rattle.registers.specs.Setup.{places, blockSize, checks, savedText, readIn, marked, settingsIn, blockOf, blockAt}
+use Rattle.registers.specs.declared.settings.Settings.{Settings}
 use Rattle.interpreter.specs.Box.{rightSize, alteredIn, Core, withSettings, withMemory}
 use Rattle.interpreter.specs.Perform.{setUp}
 use Rattle.interpreter.specs.declared.deed.Saving.the-variants.{Save, Recall}
@@ -21,16 +23,27 @@ SavedIsRecalled =
     → setUp Save p c ≡ passed d → blockAt p (e .memory .store) ≡ blockAt p (d .memory .store)
     → setUp Recall p e ≡ passed (withSettings (c .settings) e)
 
+-- "A block saved before": one whose seventeen settings and text were within their limits when there was one channel (02, #111) doesn't carry
+-- the mark, and if its check holds it sets channel 1 and what is single as it did, and channel 2 as *RST does
+abbrev pub OlderIsRecalled : Type 0
+OlderIsRecalled =
+    (p : ℕ) (c : Core) → let b = blockAt p (c .memory .store) in
+    checks b ≡ true → possibleSettings (readIn tableCount b) ≡ true
+    → (marked b ≡ false) × (setUp Recall p c ≡ passed (withSettings (readIn tableCount b) c))
+
+-- while *SAV leaves the mark
+abbrev pub SavedIsMarked : Type 0
+SavedIsMarked = (s : Settings) → marked (blockOf s) ≡ true
+
 -- "*RCL of a block .. that is all zero .. raises -314"
 abbrev pub ZerosAreRefused : Type 0
 ZerosAreRefused = (p : ℕ) (c : Core) → blockAt p (c .memory .store) ≡ replicate blockSize 0 → setUp Recall p c ≡ refused 314
 
--- a block that was saved before there was a text (02, #109), with zeros in its place, is recalled as it was, with an empty one
-abbrev pub OlderIsRecalled : Type 0
-OlderIsRecalled =
+-- the text of a block that was saved before there was one (02, #109), with zeros in its place, is empty
+abbrev pub OlderHasNoText : Type 0
+OlderHasNoText =
     (p : ℕ) (c : Core) → let b = blockAt p (c .memory .store) in
-    checks b ≡ true → possibleValues (settingsIn b) ≡ true → savedText b ≡ replicate mostText 0
-    → (setUp Recall p c ≡ passed (withSettings (settingsIn b) c)) × (displayed (settingsIn b) ≡ [])
+    marked b ≡ false → savedText tableCount b ≡ replicate mostText 0 → displayed (settingsIn b) ≡ []
 
 -- a block whose check holds, with another byte at one place, is not recalled
 abbrev pub AlteredIsNoticed : Type 0
@@ -51,7 +64,9 @@ SavesOnlyItsBlock = (p : ℕ) (c d : Core) → p < places → rightSize (c .memo
 
 pub record Setups : Type 0 where
   pub recalled : SavedIsRecalled
+  pub marked : SavedIsMarked
   pub older : OlderIsRecalled
+  pub textless : OlderHasNoText
   pub zeros : ZerosAreRefused
   pub noticed : AlteredIsNoticed
   pub only : SavesOnlyItsBlock

@@ -12,7 +12,7 @@ use Rattle.registers.specs.Label.{textIn}
 use Rattle.registers.specs.declared.settings.Settings.{Settings}
 use Rattle.interpreter.specs.Cuts.{trim}
 use Rattle.interpreter.specs.Header.{header, fullNames, pathAfter, isCommon}
-use Rattle.interpreter.specs.Rows.{rows, findRow}
+use Rattle.interpreter.specs.Rows.{findRole}
 use Rattle.interpreter.specs.Parameter.{parameters, noneEmpty, least, greatest, deedOf}
 use Rattle.interpreter.specs.declared.deed.Deed.{Deed}
 
@@ -45,7 +45,7 @@ readUnit s path u =
     header (headerText u) >>= λ h.
     let ps = parameters (parameterText u) in
     check 102 (noneEmpty ps) >>
-    findRow (isCommon (h .place)) (fullNames (h .place) path (h .names)) (h .query) rows >>= λ r.
+    findRole (isCommon (h .place)) (fullNames (h .place) path (h .names)) (h .query) >>= λ r.
     check 108 (leb (length ps) (greatest r (h .query))) >>
     check 109 (leb (least r (h .query)) (length ps)) >>
     deedOf s r (h .query) ps >>= λ d.

@@ -3,7 +3,7 @@ use mathlib.Core.Path.{_≡_}
 use mathlib.Core.Bool.{Bool, true}
 use mathlib.Core.List.{List}
 use Prim.Native.Nat.{ℕ, _-_, _≤_, _<_}
-use lib.Dec.{leb, ltb}
+use lib.Dec.{leb, ltb, eqb}
 use lib.ListN.{length, take, drop}
 use Rattle.registers.specs.Text.{Text, if_then_else_, every}
 use Rattle.registers.specs.Check.{Checked, refused, passed, _>>=_, _>>_, check}
@@ -14,7 +14,7 @@ use Rattle.registers.specs.Status.{widest}
 use Rattle.registers.specs.declared.settings.Settings.{Settings}
 use Rattle.interpreter.specs.Cuts.{trim}
 use Rattle.interpreter.specs.Parameter.{parameters, noneEmpty, least, greatest, deedOf}
-use Rattle.interpreter.specs.DeedParts.{rowCount, roleAt}
+use Rattle.interpreter.specs.DeedParts.{placeCount, nowhere, roleAt}
 use Rattle.interpreter.specs.HeaderParts.{Holds}
 use Rattle.interpreter.specs.Unit.{allowed, readUnit}
 use Rattle.interpreter.specs.declared.deed.Deed.{Deed}
@@ -29,9 +29,9 @@ use Rattle.interpreter.specs.declared.unit.Span.{Span}
 use Rattle.interpreter.specs.declared.parameter.Decision.{Decision}
 use Rattle.interpreter.specs.declared.parameter.Decision.the-variants.{Refused, Obey}
 
--- the role of the row that a search found, if it found one
+-- the role of the place that a search found, if it found one
 unfoldable pub roleFound : ℕ → Checked Role
-roleFound row = if ltb row rowCount then passed (roleAt row) else refused 113
+roleFound place = if ltb place placeCount then passed (roleAt place) else refused (if eqb place nowhere then 113 else 114)
 
 -- the checks after the header
 unfoldable pub decided : Settings → ℕ → Bool → Text → Checked Deed

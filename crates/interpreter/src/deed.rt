@@ -1,11 +1,12 @@
 // What an accepted unit does, and what its header is for.
+use crate::table::ROWS;
 use registers::rounding::Side;
 use registers::settings::Settings;
 use registers::status::Register;
 use registers::status::RegisterSet;
 ghost use mathlib.Core.Path.{_≡_};
-ghost use Prim.Native.Nat.{_<_};
-ghost use Rattle.interpreter.specs.DeedParts.{rowCount, roleAt, setAt, roleOfSet};
+ghost use Prim.Native.Nat.{_≤_, _<_};
+ghost use Rattle.interpreter.specs.DeedParts.{rowCount, placeCount, placeOf, roleAt, setAt, roleOfSet};
 
 // A change of settings or registers, and what was rounded off the number that it was given. An enum holds no array: the text of a
 // label goes beside it.
@@ -61,9 +62,10 @@ pub enum Deed {
     Saving { saving: Saving, place: usize },
 }
 
-// What a header comes to: its row, or ROWS where it has none, and whether it asks.
+// What a header comes to: its place, and whether it asks. The place is its setting's slot, or after the slots its row among the
+// others; NOWHERE where it has no row, and NO_CHANNEL where its row doesn't take its suffix.
 pub(crate) struct Heading {
-    pub(crate) row: usize,
+    pub(crate) place: usize,
     pub(crate) asked: bool,
 }
 
@@ -105,20 +107,52 @@ const COMMON_ROWS: usize = 15;
 
 const SET_ROWS: usize = 5;
 
-// Tells what a row is for: the settings stand first, then 'Registers and queue', and the register sets last.
-pub(crate) fn role_of(row: usize) -> Role
-    requires { ⌜ row < rowCount ⌝ }
-    ensures { λ r. ⌜ r ≡ roleAt row ⌝ }
+// The rows that part the settings: those of a channel are the ones before monitor mode, and those between it and brightness.
+const MONITOR: usize = 3;
+
+const BRIGHTNESS: usize = 14;
+
+pub(crate) const NOWHERE: usize = 60;
+
+pub(crate) const NO_CHANNEL: usize = 61;
+
+// Finds the place of a row on the channel that a suffix names.
+pub(crate) fn place_of(row: usize, suffix: u64) -> usize
+    requires { ⌜ row ≤ rowCount ⌝ }
+    ensures { λ r. ⌜ r ≡ placeOf row suffix ⌝ }
 {
-    if row < Settings::COUNT {
-        return Role::Setting(row);
+    if ROWS <= row {
+        return NOWHERE;
     }
-    let place = row - Settings::COUNT;
-    if COMMON_ROWS <= place {
-        let within = place - COMMON_ROWS;
+    if suffix < 2 {
+        if row < Settings::ROWS {
+            return row;
+        }
+        return row + (Settings::COUNT - Settings::ROWS);
+    }
+    if (suffix == 2) & (row < MONITOR) {
+        return row + Settings::ROWS;
+    }
+    if (suffix == 2) & ((MONITOR < row) & (row < BRIGHTNESS)) {
+        return row + (Settings::ROWS - 1);
+    }
+    NO_CHANNEL
+}
+
+// Tells what a place is for: the settings stand first, then 'Registers and queue', and the register sets last.
+pub(crate) fn role_of(place: usize) -> Role
+    requires { ⌜ place < placeCount ⌝ }
+    ensures { λ r. ⌜ r ≡ roleAt place ⌝ }
+{
+    if place < Settings::COUNT {
+        return Role::Setting(place);
+    }
+    let other = place - Settings::COUNT;
+    if COMMON_ROWS <= other {
+        let within = other - COMMON_ROWS;
         return of_set(set_at(within / SET_ROWS), within % SET_ROWS);
     }
-    match place {
+    match other {
         0 => return Role::Only(Deed::Query(Query::Identity)),
         1 => return Role::Only(Deed::Query(Query::SelfTest)),
         2 => return Role::Only(Deed::Query(Query::Completed)),

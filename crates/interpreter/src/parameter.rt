@@ -212,9 +212,9 @@ fn obey_query(query: Query) -> Decision
 
 // Decides on a value of a setting: the limits let it pass or not, and so does exam mode. A query asks for it.
 fn decide_value(settings: Settings, heading: Heading, rounded: Rounded) -> Decision
-    ensures { λ r. ⌜ meantDeed r ≡ putFit settings (heading .row) (heading .asked) (rounded .fit) (rounded .side) ⌝ }
+    ensures { λ r. ⌜ meantDeed r ≡ putFit settings (heading .place) (heading .asked) (rounded .fit) (rounded .side) ⌝ }
 {
-    let row = heading.row;
+    let row = heading.place;
     let fit = rounded.fit;
     let side = rounded.side;
     match fit {
@@ -255,11 +255,11 @@ pub(crate) fn decide_setting(
     heading: Heading,
     text: &[u8],
 ) -> Decision
-    requires { ⌜ (now table ≡ commandTable) × (heading .row < count) ⌝ }
-    requires { ⌜ (least (Role.Setting (heading .row)) (heading .asked) ≤ length (partsOf (now text))) × (length (partsOf (now text)) ≤ greatest (Role.Setting (heading .row)) (heading .asked)) ⌝ }
-    ensures { λ r. ⌜ meantDeed r ≡ deedOf settings (Role.Setting (heading .row)) (heading .asked) (partsOf (now (text .entry))) ⌝ }
+    requires { ⌜ (now table ≡ commandTable) × (heading .place < count) ⌝ }
+    requires { ⌜ (least (Role.Setting (heading .place)) (heading .asked) ≤ length (partsOf (now text))) × (length (partsOf (now text)) ≤ greatest (Role.Setting (heading .place)) (heading .asked)) ⌝ }
+    ensures { λ r. ⌜ meantDeed r ≡ deedOf settings (Role.Setting (heading .place)) (heading .asked) (partsOf (now (text .entry))) ⌝ }
 {
-    let row = heading.row;
+    let row = heading.place;
     if text.len() == 0 {
         return obey_query(Query::Value(row));
     }

@@ -18,7 +18,7 @@ ghost use Rattle.interpreter.specs.PresentParts.{coreIn};
 ghost use Rattle.interpreter.specs.PerformParts.{settingsLeft, StatusLeft, After};
 ghost use Rattle.interpreter.specs.UnitParts.{Allowed, AllowedText};
 
-// Tells whether a deed passes the lock, which lets the settings change only by switching the output off, and then
+// Tells whether a deed passes the lock, which lets the settings change only by switching an output off, and then
 // check 8. Both refuse by -221, so one answer serves for the two.
 pub(crate) fn is_permitted(present: Present, deed: Deed) -> bool
     ensures { λ r. ⌜ permitted deed (coreIn (present .settings) (present .status)) ≡ check 221 r ⌝ }
@@ -26,7 +26,7 @@ pub(crate) fn is_permitted(present: Present, deed: Deed) -> bool
     match deed {
         Deed::Change(change) => match change {
             Change::Put { row, value, .. } => {
-                let off = (row == Settings::OUTPUT) & (value <= 0);
+                let off = ((row == Settings::OUTPUT) | (row == Settings::OUTPUT_2)) & (value <= 0);
                 let free = off | !present.status.is_locked();
                 return free & !present.settings.conflicts(row, value);
             }

@@ -1,6 +1,8 @@
 // Checks 1 to 7 on one unit, a part of the line where it stands.
 use crate::deed;
 use crate::deed::Heading;
+use crate::deed::NO_CHANNEL;
+use crate::deed::NOWHERE;
 use crate::deed::Role;
 use crate::header;
 use crate::header::Looked;
@@ -8,7 +10,6 @@ use crate::header::MOST_NAMES;
 use crate::parameter;
 use crate::parameter::Decision;
 use crate::quoted;
-use crate::table::ROWS;
 use registers::error::Error;
 use registers::settings::Settings;
 use registers::text;
@@ -19,7 +20,7 @@ ghost use lib.ListN.{length, take};
 ghost use Rattle.registers.specs.Text.{Text, every};
 ghost use Rattle.registers.specs.Error.{numberOf};
 ghost use Rattle.interpreter.specs.Cuts.{trim, trimEnd};
-ghost use Rattle.interpreter.specs.DeedParts.{rowCount};
+ghost use Rattle.interpreter.specs.DeedParts.{noChannel};
 ghost use Rattle.interpreter.specs.TableParts.{commandTable};
 ghost use Rattle.interpreter.specs.HeaderParts.{Holds, Held};
 ghost use Rattle.interpreter.specs.ParameterParts.{meantDeed};
@@ -69,19 +70,22 @@ fn trimmed_end(text: &[u8]) -> usize
 
 // Makes checks 2 to 7 after the header, on the parameters' text without white space around it.
 fn decide(table: &[u8], settings: Settings, heading: Heading, text: &[u8]) -> Decision
-    requires { ⌜ (now table ≡ commandTable) × (heading .row ≤ rowCount) × (trim (now text) ≡ now text) ⌝ }
-    ensures { λ r. ⌜ meantDeed r ≡ decided settings (heading .row) (heading .asked) (now (text .entry)) ⌝ }
+    requires { ⌜ (now table ≡ commandTable) × (heading .place ≤ noChannel) × (trim (now text) ≡ now text) ⌝ }
+    ensures { λ r. ⌜ meantDeed r ≡ decided settings (heading .place) (heading .asked) (now (text .entry)) ⌝ }
 {
     let counted = parameter::count(text);
     if !counted.full {
         return Decision::Refused(Error::Syntax);
     }
-    let row = heading.row;
+    let place = heading.place;
     let asked = heading.asked;
-    if row == ROWS {
+    if place == NOWHERE {
         return Decision::Refused(Error::UndefinedHeader);
     }
-    let role = deed::role_of(row);
+    if place == NO_CHANNEL {
+        return Decision::Refused(Error::HeaderSuffix);
+    }
+    let role = deed::role_of(place);
     let most = parameter::most(role, asked);
     if most < counted.parts {
         return Decision::Refused(Error::ParameterNotAllowed);
@@ -104,8 +108,8 @@ fn decide(table: &[u8], settings: Settings, heading: Heading, text: &[u8]) -> De
 
 // Makes check 1 first: white space is allowed, and so is every byte of a header, so that only the parameters' text is looked at.
 fn decide_text(table: &[u8], settings: Settings, heading: Heading, text: &[u8]) -> Decision
-    requires { ⌜ (now table ≡ commandTable) × (heading .row ≤ rowCount) × (trim (now text) ≡ now text) ⌝ }
-    ensures { λ r. ⌜ meantDeed r ≡ decidedText settings (heading .row) (heading .asked) (now (text .entry)) ⌝ }
+    requires { ⌜ (now table ≡ commandTable) × (heading .place ≤ noChannel) × (trim (now text) ≡ now text) ⌝ }
+    ensures { λ r. ⌜ meantDeed r ≡ decidedText settings (heading .place) (heading .asked) (now (text .entry)) ⌝ }
 {
     if !all_allowed(text) {
         return Decision::Refused(Error::InvalidCharacter);

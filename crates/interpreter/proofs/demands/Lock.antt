@@ -1,21 +1,21 @@
--- 02, #105: while the lock holds no line changes any setting but the output, and that only to off. Nothing but a deed changes settings or
--- registers, and a deed that the lock lets pass leaves settings and conditions alone, or gives the output a value that is at most 0,
+-- 02, #105: while the lock holds no line changes any setting but the outputs, and these only to off. Nothing but a deed changes settings or
+-- registers, and a deed that the lock lets pass leaves settings and conditions alone, or gives an output a value that is at most 0,
 -- and by check 7 at least 0.
 use mathlib.Core.Path.{_≡_, refl, sym, _∙_, ap, subst}
-use mathlib.Core.Bool.{Bool, true, false, not, and-true, false≢true}
+use mathlib.Core.Bool.{Bool, true, false, not, _||_, and-true, false≢true}
 use mathlib.Core.List.{List, [], _∷_, _++_}
-use Prim.Native.Nat.{ℕ}
+use Prim.Native.Nat.{ℕ, zero, suc}
 use native.Mathlib.Omega.{arith}
 use lib.Dec.{leb, ltb, eqb}
 use lib.ListN.{length, getD, set}
 use lib.Seq.{getD-set-other}
 use lib.IntN.{ℤ, pos, negsuc}
 use lib.Signed.{leZ}
-use borrow.Author.Tests.{eqb-true, leb-true, not-false}
+use borrow.Author.Tests.{eqb-true, eqb-false, leb-true, not-false}
 use Rattle.registers.specs.Text.{Text, every, empty}
 use Rattle.registers.specs.Queue.{mayBeQueued, queueable}
 use Rattle.registers.specs.Group.{widestGroup}
-use Rattle.registers.specs.Settings.{table, settingAt, output, lowest, within}
+use Rattle.registers.specs.Settings.{table, settingAt, valueAt, output, output2, lowest, within, slots}
 use Rattle.registers.specs.Status.{Registers, locked, setReported}
 use Rattle.registers.specs.declared.settings.Settings.{Settings}
 use Rattle.registers.specs.declared.status.RegisterSet.{RegisterSet}
@@ -24,7 +24,7 @@ use Rattle.registers.proofs.Tests.{and-both, and-true as both-true}
 use Rattle.registers.proofs.status.Conditions.{conditionIn, stored-kept, event-kept, clear-kept, report-kept}
 use Rattle.interpreter.specs.Box.{Memory, Core, Box, withRegisters, mostLine}
 use Rattle.interpreter.specs.UnitParts.{Allowed, AllowedChange}
-use Rattle.interpreter.specs.Perform.{blockedChange, blocked, changed, afterQuery, perform}
+use Rattle.interpreter.specs.Perform.{isOutput, blockedChange, blocked, changed, afterQuery, perform}
 use Rattle.interpreter.specs.Reply.{reply}
 use Rattle.interpreter.specs.Line.{interrupted, endLine, held, byte, piece}
 use Rattle.interpreter.specs.Events.{Event, started, received, take, condition, look, altered, mislent, Happened, Result, taken, reported, happens, after}
@@ -46,16 +46,34 @@ use Rattle.interpreter.proofs.perform.Permitted.{Lets}
 
 -- ---- a value that is off
 
--- the output's value by check 7, where the lock lets it pass
-off-value : (s : Settings) (v : ℤ) → within s output v ≡ true → leZ v (pos 0) ≡ true → v ≡ pos 0
-unfolding within lowest settingAt table
-off-value s (pos n) w e = let h = leb-true n 0 e in ap pos (omega arith)
-off-value s (negsuc n) w e = absurd (false≢true w)
+-- an output's value by check 7, where the lock lets it pass
+off-first : (s : Settings) (v : ℤ) → within s output v ≡ true → leZ v (pos 0) ≡ true → v ≡ pos 0
+unfolding within lowest settingAt slots table
+off-first s (pos n) w e = let h = leb-true n 0 e in ap pos (omega arith)
+off-first s (negsuc n) w e = absurd (false≢true w)
+
+off-second : (s : Settings) (v : ℤ) → within s output2 v ≡ true → leZ v (pos 0) ≡ true → v ≡ pos 0
+unfolding within lowest settingAt slots table
+off-second s (pos n) w e = let h = leb-true n 0 e in ap pos (omega arith)
+off-second s (negsuc n) w e = absurd (false≢true w)
+
+off-value : (s : Settings) (i : ℕ) (v : ℤ) → isOutput i ≡ true → within s i v ≡ true → leZ v (pos 0) ≡ true → v ≡ pos 0
+off-value s i v o w e = go (eqb i output) refl (eqb i output2) refl o
+  where
+    go : (a : Bool) → eqb i output ≡ a → (b : Bool) → eqb i output2 ≡ b → (a || b) ≡ true → v ≡ pos 0
+    go true q b r k = off-first s v (rw (eqb-true i output q) at w) e
+    go false q true r k = off-second s v (rw (eqb-true i output2 r) at w) e
+    go false q false r k = absurd (false≢true k)
 
 -- then the output is off
-off-set : (l : List ℤ) → getD (set l output (pos 0)) output (pos 0) ≡ pos 0
-off-set [] = refl
-off-set (x ∷ l) = refl
+off-set : (l : List ℤ) (i : ℕ) → getD (set l i (pos 0)) i (pos 0) ≡ pos 0
+off-set [] i = refl
+off-set (x ∷ l) zero = refl
+off-set (x ∷ l) (suc i) = off-set l i
+
+-- no other setting is an output that was one before
+not-output : (i j : ℕ) → isOutput i ≡ true → isOutput j ≡ false → j ≡ i → ⊥
+not-output i j o n e = false≢true (sym n ∙ rw e o)
 
 let-pass : (d : Deed) (c : Core) → Lets d c → locked (c .registers) ≡ true → blocked d ≡ false
 let-pass d c l h = sym (and-true (blocked d)) ∙ (rw h at (l .free))
@@ -75,17 +93,25 @@ module _ (s : Settings) where
 
   -- ---- deeds
 
+  -- an output that is switched off is off, and the other one is as it was
+  switched : (c : Core) (i : ℕ) → HeldCore c → (j : ℕ) → isOutput j ≡ true
+      → (getD (set (c .settings .values) i (pos 0)) j (pos 0) ≡ valueAt s j → ⊥) → (t : Bool) → eqb j i ≡ t
+      → getD (set (c .settings .values) i (pos 0)) j (pos 0) ≡ pos 0
+  switched c i h j o changed true q = rw (eqb-true j i q) (off-set (c .settings .values) i)
+  switched c i h j o changed false q =
+      let same = getD-set-other (c .settings .values) i j (pos 0) (pos 0) (eqb-false j i q) in
+      same ∙ h .onlyOff j o (λ e. changed (same ∙ e))
+
   change-held : (x : changes.Change) (t : Text) (c : Core) → AllowedChange (c .settings) x → blockedChange x ≡ false → HeldCore c → HeldCore (changed x t c)
   unfolding changed
   change-held Nothing t c a n h = h
   change-held (Put i v side) t c a n h =
-      let p = and-both (eqb i output) (leZ v (pos 0)) (not-false _ n) in
-      let here = eqb-true i output (p .0) in
-      let off = off-value (c .settings) v (rw here at (a .1)) (p .1) in
-      rw (here, off) (record {
-        others = λ j apart. getD-set-other (c .settings .values) output j (pos 0) (pos 0) apart ∙ h .others j apart;
+      let p = and-both (isOutput i) (leZ v (pos 0)) (not-false _ n) in
+      let off = off-value (c .settings) i v (p .0) (a .1) (p .1) in
+      rw off (record {
+        others = λ j apart. getD-set-other (c .settings .values) i j (pos 0) (pos 0) (not-output i j (p .0) apart) ∙ h .others j apart;
         text = h .text;
-        onlyOff = λ _. off-set (c .settings .values);
+        onlyOff = λ j o changed. switched c i h j o changed (eqb j i) refl;
         still = h .still;
       })
   change-held Reset t c a n h = absurd (false≢true (sym n))
@@ -207,7 +233,7 @@ module _ (s : Settings) where
 -- ---- the law
 
 start : (s : Settings) (r : Registers) → locked r ≡ true → UnderLock s s r
-start s r l = record { others = λ i apart. refl; text = refl; onlyOff = λ changes. absurd (changes refl); still = l }
+start s r l = record { others = λ i apart. refl; text = refl; onlyOff = λ i o changes. absurd (changes refl); still = l }
 
 pub lock-holds : LockHolds
 lock-holds =

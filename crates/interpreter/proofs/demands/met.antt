@@ -2,3 +2,4 @@ pub mod RefusedLines
 pub mod EveryRow
 pub mod Trips
 pub mod LockedLines
+pub mod TwoChannels

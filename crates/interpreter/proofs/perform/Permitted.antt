@@ -5,18 +5,17 @@ use mathlib.Core.List.{[], _∷_}
 use Prim.Native.Nat.{ℕ}
 use native.Mathlib.Omega.{arith}
 use types.Run.{OneOf, miss}
-use lib.Dec.{eqb}
 use lib.IntN.{ℤ, pos}
 use lib.Signed.{leZ}
 use denote.Enum.Declared.{tagOf}
 use borrow.Author.Tests.{not-true, not-false}
 use Rattle.registers.specs.Check.{Checked, refused, passed, _>>_, check}
 use Rattle.registers.specs.Queue.{mayBeQueued, queueable}
-use Rattle.registers.specs.Settings.{output, conflict}
+use Rattle.registers.specs.Settings.{conflict}
 use Rattle.registers.specs.Status.{locked}
 use Rattle.registers.specs.declared.rounding.Side.{Side}
 use Rattle.interpreter.specs.Box.{Core}
-use Rattle.interpreter.specs.Perform.{blocked, conflicting, permitted}
+use Rattle.interpreter.specs.Perform.{isOutput, blocked, conflicting, permitted}
 use Rattle.interpreter.specs.declared.deed.Deed.{Deed}
 use Rattle.interpreter.specs.declared.deed.Deed.the-variants.{Change, Complete, Clear, Query, Inquire, Saving}
 use Rattle.interpreter.specs.declared.deed.Saving as savings
@@ -71,9 +70,9 @@ module _ (d : Deed) (c : Core) (r : Bool) (is : permitted d c ≡ check 221 r) w
 -- a setting: its value is the output's off or the lock is open, and nothing conflicts
 pub put-permitted : (i : ℕ) (v : ℤ) (side : Side) (c : Core)
     → permitted (Change (Put i v side)) c
-    ≡ check 221 (((eqb i output && leZ v (pos 0)) || not (locked (c .registers))) && not (conflict (c .settings) i v))
+    ≡ check 221 (((isOutput i && leZ v (pos 0)) || not (locked (c .registers))) && not (conflict (c .settings) i v))
 unfolding permitted check _>>_
-put-permitted i v side c = go (eqb i output && leZ v (pos 0)) (locked (c .registers)) (conflict (c .settings) i v)
+put-permitted i v side c = go (isOutput i && leZ v (pos 0)) (locked (c .registers)) (conflict (c .settings) i v)
   where
     go : (off locks conflicts : Bool)
         → (check 221 (not (not off && locks)) >> check 221 (not conflicts)) ≡ check 221 ((off || not locks) && not conflicts)

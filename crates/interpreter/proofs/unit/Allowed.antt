@@ -3,13 +3,13 @@
 use mathlib.Core.Path.{_≡_, refl, subst}
 use mathlib.Core.Bool.{Bool, true, false, _&&_, false≢true}
 use mathlib.Core.List.{List, [], _∷_}
-use Prim.Native.Nat.{ℕ, suc, _≤_, _<_}
+use Prim.Native.Nat.{ℕ, suc, _+_, _-_, _≤_, _<_}
 use Prim.Native.String.{String}
-use lib.Dec.{leb}
+use lib.Dec.{leb, ltb}
 use lib.IntN.{ℤ, pos, negsuc, natAbs}
 use lib.Signed.{leZ}
 use native.Mathlib.Omega.{arith}
-use borrow.Author.Tests.{leb-true}
+use borrow.Author.Tests.{leb-true, ltb-true}
 use lib.ListN.{length}
 use Rattle.registers.specs.Text.{Text, if_then_else_, white, visible, every, after}
 use Rattle.registers.specs.Label.{mostText, textIn}
@@ -17,7 +17,7 @@ use Rattle.registers.specs.Check.{refused, passed}
 use Rattle.registers.specs.Queue.{mayBeQueued, queueable}
 use Rattle.registers.specs.Suffix.{suffixes, noSuffix, powerIn, remains}
 use Rattle.registers.specs.Number.{number}
-use Rattle.registers.specs.Settings.{count, table}
+use Rattle.registers.specs.Settings.{count, tableCount, table}
 use Rattle.registers.specs.Status.{widest}
 use Rattle.registers.specs.declared.settings.Settings.{Settings}
 use Rattle.registers.specs.declared.status.Register.{Register}
@@ -26,7 +26,7 @@ use Rattle.registers.specs.declared.suffix.Quantity.{Quantity}
 use Rattle.registers.specs.declared.suffix.Quantity.the-variants.{Nothing as noQuantity, Volt, Ampere, Hertz, Second}
 use Rattle.registers.proofs.Tests.{and-both}
 use Rattle.interpreter.specs.Header.{Place, header, placed, bodyOf, byFirst}
-use Rattle.interpreter.specs.Rows.{Row, rows, settingRows, otherRows, findRow}
+use Rattle.interpreter.specs.Rows.{Row, rows, settingRows, otherRows, findRow, monitor, brightness, secondOf, onSecond, onChannel, findRole}
 use Rattle.interpreter.specs.Parameter.{parameters, greatest, labelDeed, findWord, parameter, settingDeed, limitDeed, registerGiven, registerDeed, deedOf, storeGiven, placeGiven, savingDeed, readFigure, readWord}
 use Rattle.interpreter.specs.Unit.{raisable, Read, parameterText, readUnit}
 use Rattle.interpreter.specs.Cuts.{trim}
@@ -204,6 +204,31 @@ find-known s star names asked (r ∷ rs) p e =
     let q = and-both (plain (r .role)) (every (λ (r : Row). plain (r .role)) rs) e in
     hold-if (Known s) _ _ _ (passes (p .0, q .0)) (find-known s star names asked rs (p .1) (q .1))
 
+-- on a channel it is one of the thirty
+second-slot : (i : ℕ) → Holds (λ (j : ℕ). j < count) (secondOf i)
+unfolding secondOf mayBeQueued queueable if_then_else_
+second-slot i = go (ltb i monitor) refl (ltb monitor i && ltb i brightness) refl
+  where
+    go : (a : Bool) → ltb i monitor ≡ a → (b : Bool) → (ltb monitor i && ltb i brightness) ≡ b
+        → Holds (λ (j : ℕ). j < count) (if a then passed (i + tableCount) else (if b then passed (i + (tableCount - 1)) else refused 114))
+    go true p b q = passes (let h = ltb-true i monitor p in omega arith)
+    go false p true q = passes (let h = ltb-true i brightness (and-both (ltb monitor i) (ltb i brightness) q .1) in omega arith)
+    go false p false q = refuses-by refl
+
+second-known : (s : Settings) (r : Role) → Holds (Known s) (onSecond r)
+unfolding mayBeQueued queueable
+second-known s (setting i) = hold-bind (λ (j : ℕ). j < count) (Known s) _ _ (second-slot i) (λ j h. passes (h, refl))
+second-known s (register r) = refuses-by refl
+second-known s (Only d) = refuses-by refl
+second-known s (saving x) = refuses-by refl
+second-known s label = refuses-by refl
+
+role-known : (s : Settings) (star : Bool) (names : List Text) (asked : Bool) → Holds (Known s) (findRole star names asked)
+unfolding findRole onChannel mayBeQueued queueable
+role-known s star names asked =
+    hold-bind (Known s) (Known s) _ _ (find-known s star names asked rows (rows-proper s) rows-plain) (λ r p.
+    hold-if (Known s) _ _ _ (passes p) (hold-if (Known s) _ _ _ (second-known s r) (refuses-by refl)))
+
 -- of a text that is no parameter, or one
 deed-allowed : (s : Settings) (r : Role) (asked : Bool) (t : Text) → Known s r → Holds (Permits s (textIn t)) (deedOf s r asked (partsOf t))
 unfolding deedOf mayBeQueued queueable if_then_else_
@@ -237,7 +262,7 @@ reads s path u =
     hold-check Q 101 _ _ refl (λ _.
     hold-bind Any Q _ _ (header-known _) (λ h _.
     hold-check Q 102 _ _ refl (λ _.
-    hold-bind (Known s) Q _ _ (find-known s _ _ _ rows (rows-proper s) rows-plain) (λ r p.
+    hold-bind (Known s) Q _ _ (role-known s _ _ _) (λ r p.
     hold-check Q 108 _ _ refl (λ few.
     hold-check Q 109 _ _ refl (λ _.
     hold-bind (Permits s (textIn t)) Q _ _

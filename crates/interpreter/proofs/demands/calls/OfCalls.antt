@@ -9,7 +9,8 @@ use lib.Seq.{drop-at}
 use lib.Signed.{leZ}
 use Rattle.registers.specs.Text.{Text, if_then_else_, every}
 use Rattle.registers.specs.Label.{mostText, mayStand}
-use Rattle.registers.specs.Settings.{valueAt, displayed, AsLong, within, wideRange, twelveVolts, voltage}
+use Rattle.registers.specs.Settings.{valueAt, displayed, AsLong, within}
+use Rattle.interpreter.specs.Demand2.{InRange}
 use Rattle.interpreter.specs.Box.{Memory, Box, powerUp}
 use Rattle.interpreter.specs.Events.{Event, take, Result, happens, Own, after, results}
 use Rattle.interpreter.specs.Histories.{newline, Recut, isTake, isPiece, noPiece, howMany, resultsOf, chosen, summed}
@@ -63,7 +64,7 @@ text s t m n es rs ran =
 
 range : RangeOfCalls
 range s t m n es rs ran =
-    subst (λ (b : Box). wideRange (b .core .settings) ≡ false → leZ (valueAt (b .core .settings) voltage) twelveVolts ≡ true)
+    subst (λ (b : Box). InRange (b .core .settings))
     (sym (history s t m n es rs ran .box)) (demand2 .range (boxOf s m) (own s t m n es rs ran) es)
 
 pieces : PiecesOfCalls
@@ -105,7 +106,7 @@ module _ (s t : State) (m n : Memory) (h : List Event) (rs : List Result) (first
   abbrev run : Ran s m t n h rs
   run = started-ran s t m n h rs first calls
 
-  box-is : after (powerUp m) h ≡ boxOf t n
+  pub box-is : after (powerUp m) h ≡ boxOf t n
   box-is = ap (λ (b : Box). after b h) (sym (first .first m)) ∙ sym (history s t m n h rs run .box)
 
   results-are : (p : Event → Bool) → resultsOf p (powerUp m) h ≡ chosen p h rs

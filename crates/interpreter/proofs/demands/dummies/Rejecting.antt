@@ -17,12 +17,12 @@ use Rattle.registers.specs.Number.{afterSign, fractionOf, afterFraction, expone
 use Rattle.registers.specs.Suffix.{suffixes, noSuffix, powerIn, remains}
 use Rattle.registers.specs.Rounding.{nearest, sizeIn, rounded, sizeSide, sideIn}
 use Rattle.registers.specs.Answer.{inPlaces, decimal, tenths}
-use Rattle.registers.specs.Settings.{table, settingAt, atReset, wideRange, lowest, highest, within, conflict, examined, accepted, answerOf}
+use Rattle.registers.specs.Settings.{table, settingAt, atReset, wideRange, lowest, highest, within, conflict, examined, accepted, answerOf, slots, narrow}
 use Rattle.registers.specs.Status.{raised, atStart}
 use Rattle.registers.specs.Label.{mayStand, closes, undoubled, padded}
 use Rattle.interpreter.specs.Cuts.{cutAt, quoteNext, cutOpen, trimEnd, trim}
-use Rattle.interpreter.specs.Header.{name, placed, header, spells, bodyOf, byFirst}
-use Rattle.interpreter.specs.Rows.{settingRows, otherRows, rows, fitsRow, findRow}
+use Rattle.interpreter.specs.Header.{name, placed, header, spells, bodyOf, byFirst, numbered, nodeMatches, suffixIn}
+use Rattle.interpreter.specs.Rows.{settingRows, otherRows, rows, fitsRow, findRow, secondOf, onChannel, findRole}
 use Rattle.interpreter.specs.Parameter.{labelDeed, parameters, least, greatest, findWord, parameter, valueGiven, settingDeed, deedOf, readFigure, readWord}
 use Rattle.interpreter.specs.Unit.{readUnit}
 use Rattle.interpreter.specs.Box as lent
@@ -118,8 +118,8 @@ computed : Computed
 unfolding if_then_else_ bytes same white printable digit letter wordByte small capital _>>=_ _>>_ check shortForm longForm matches
     afterSign fractionOf afterFraction exponentOf afterExponent lowering written numeralFrom decimalOf valueOf scaled suffixes noSuffix powerIn remains number
     nearest sizeIn rounded sizeSide sideIn inPlaces decimal tenths
-    table settingAt atReset wideRange lowest highest within conflict examined accepted answerOf raised atStart
-    mayStand closes undoubled padded labelDeed cutAt quoteNext cutOpen trimEnd trim name placed bodyOf byFirst header spells settingRows otherRows rows fitsRow findRow
+    slots table settingAt atReset wideRange lowest highest narrow within conflict examined accepted answerOf raised atStart
+    mayStand closes undoubled padded labelDeed cutAt quoteNext cutOpen trimEnd trim name placed bodyOf byFirst header numbered nodeMatches suffixIn spells settingRows otherRows rows fitsRow findRow secondOf onChannel findRole
     parameters least greatest findWord parameter readWord readFigure valueGiven settingDeed deedOf readUnit powerUp
     permitted changed replyTo joined fitsAnswer reply perform
     attempt runUnits interrupted finished unitsOf runLine endLine held byte piece taken happens after

@@ -33,7 +33,7 @@ newline-after b es = after-append b es (newline ∷ [])
 
 -- ---- bytes one at a time
 
-singles-after : (b : Box) (xs : Text) → after b (map single xs) ≡ piece b xs
+pub singles-after : (b : Box) (xs : Text) → after b (map single xs) ≡ piece b xs
 unfolding after happens piece
 singles-after b [] = refl
 singles-after b (x ∷ xs) = singles-after (byte b x) xs

@@ -1,4 +1,4 @@
--- Demand 2's round trip holds of something: its premises for each of the seventeen settings, by its header and its answer at *RST. What
+-- Demand 2's round trip holds of something: its premises for each of the thirty settings, by its header and its answer at *RST. What
 -- they speak of is computed for the whole table at once (`seen`), and each row's premises are read off it.
 use mathlib.Core.Path.{_≡_, refl, sym, _∙_, ap}
 use mathlib.Core.Bool.{Bool, true, false}
@@ -16,13 +16,13 @@ use Rattle.registers.specs.Suffix.{suffixes, noSuffix, powerIn, remains}
 use Rattle.registers.specs.Rounding.{switchedOn, nearest, sizeIn, rounded, sizeSide, sideIn}
 use Rattle.registers.specs.Answer.{inPlaces, decimal, tenths}
 use Rattle.registers.specs.Error.{eventBit}
-use Rattle.registers.specs.Settings.{count, Setting as OneSetting, table, settingAt, atReset, wideRange, lowest, highest, within, conflict, examined, accepted, answerOf}
+use Rattle.registers.specs.Settings.{count, Setting as OneSetting, outputRows, sourceRows, table, settingAt, atReset, wideRange, lowest, highest, within, conflict, examined, accepted, answerOf, slots, narrow}
 use Rattle.registers.specs.Group.{rises, falls, eventsAfter, conditionIs}
 use Rattle.registers.specs.Status.{raised, locked, atStart}
 use Rattle.registers.specs.Label.{mayStand, closes, undoubled, padded}
 use Rattle.interpreter.specs.Cuts.{front, cutAt, quoteNext, cutOpen, trimEnd, trim}
-use Rattle.interpreter.specs.Header.{Header, here, name, placed, header, spells, bodyOf, byFirst}
-use Rattle.interpreter.specs.Rows.{settingRows, otherRows, rows, fitsRow, findRow}
+use Rattle.interpreter.specs.Header.{Header, here, name, placed, header, spells, bodyOf, byFirst, numbered as takesNumber, nodeMatches, suffixIn}
+use Rattle.interpreter.specs.Rows.{settingRows, otherRows, rows, fitsRow, findRow, secondOf, onChannel, findRole}
 use Rattle.interpreter.specs.Parameter.{labelDeed, parameters, least, greatest, findWord, parameter, valueGiven, settingDeed, deedOf, readFigure, readWord}
 use Rattle.interpreter.specs.Unit.{Read, readUnit}
 use Rattle.interpreter.specs.Box.{powerUp, blank}
@@ -38,20 +38,23 @@ use Rattle.interpreter.specs.declared.deed.Role.the-variants.{Setting}
 use Rattle.interpreter.specs.Demand2.{tabled, Premises, queried, sentBack, takenFrom}
 use Rattle.interpreter.proofs.Possible.{power-up-own}
 
--- a header in its shortest spelling
-unfoldable pub shortNames : List Node → List Text
-shortNames [] = []
-shortNames (must w ∷ nodes) = shortForm w ∷ shortNames nodes
-shortNames (may w ∷ nodes) = shortNames nodes
+-- a header in its shortest spelling, with a suffix on the node that takes one
+unfoldable pub shortNames : Text → List Node → List Text
+shortNames x [] = []
+shortNames x (must w ∷ nodes) = (if takesNumber w then shortForm w ++ x else shortForm w) ∷ shortNames x nodes
+shortNames x (may w ∷ nodes) = shortNames x nodes
 
 unfoldable pub colonJoined : List Text → Text
 colonJoined [] = []
 colonJoined (x ∷ []) = x
 colonJoined (x ∷ y ∷ names) = x ++ code ":" ∷ colonJoined (y ∷ names)
 
--- each setting's header, and its answer at *RST
+-- each setting's header, and its answer at *RST; then those of channel 2
+abbrev tripOf : Text → OneSetting → Text × Text
+tripOf x s = (colonJoined (shortNames x (s .nodes)), answerOf (s .kind) (s .reset))
+
 unfoldable pub trips : List (Text × Text)
-trips = map (λ (s : OneSetting). (colonJoined (shortNames (s .nodes)), answerOf (s .kind) (s .reset))) table
+trips = map (tripOf []) table ++ map (tripOf (bytes "2")) (outputRows ++ sourceRows)
 
 abbrev pub buffer : Text
 buffer = replicate 8 0
@@ -97,7 +100,7 @@ seenAt t =
       line = c .core .line;
       locks = locked (c .core .registers);
       heading = header (t .0);
-      row = findRow false (cutAt (code ":") (t .0)) false rows;
+      row = findRole false (cutAt (code ":") (t .0)) false;
     }
 
 unfoldable expectedAt : ℕ → Text × Text → Seen
@@ -128,8 +131,8 @@ seen : map seenAt trips ≡ numbered 0 trips
 unfolding if_then_else_ bytes same white printable digit letter wordByte small capital _>>=_ _>>_ check shortForm longForm matches
     afterSign fractionOf afterFraction exponentOf afterExponent lowering written numeralFrom decimalOf valueOf scaled suffixes noSuffix powerIn remains number switchedOn
     nearest sizeIn rounded sizeSide sideIn inPlaces decimal tenths eventBit
-    table settingAt atReset wideRange lowest highest within conflict examined accepted answerOf raised rises falls eventsAfter conditionIs atStart
-    mayStand closes undoubled padded labelDeed cutAt quoteNext cutOpen trimEnd trim name placed bodyOf byFirst header spells settingRows otherRows rows fitsRow findRow
+    slots table settingAt atReset wideRange lowest highest narrow within conflict examined accepted answerOf raised rises falls eventsAfter conditionIs atStart
+    mayStand closes undoubled padded labelDeed cutAt quoteNext cutOpen trimEnd trim name placed bodyOf byFirst header takesNumber nodeMatches suffixIn spells settingRows otherRows rows fitsRow findRow secondOf onChannel findRole
     parameters least greatest findWord parameter readWord readFigure valueGiven settingDeed deedOf readUnit powerUp
     permitted changed replyTo inquiryText joined fitsAnswer reply perform
     attempt refuse runUnits interrupted finished unitsOf runLine endLine held byte piece taken reported happens after

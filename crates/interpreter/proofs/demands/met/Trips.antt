@@ -13,15 +13,15 @@ use Rattle.registers.specs.Rounding.{switchedOn, nearest, sizeIn, rounded, size
 use Rattle.registers.specs.Answer.{inPlaces, decimal, tenths}
 use Rattle.registers.specs.Error.{eventBit}
 use Rattle.registers.specs.Queue.{mayBeQueued, queueable}
-use Rattle.registers.specs.Settings.{count, voltage, table, settingAt, atReset, wideRange, lowest, highest, within, conflict, examined, accepted, answerOf}
+use Rattle.registers.specs.Settings.{count, voltage, table, settingAt, atReset, wideRange, lowest, highest, within, conflict, examined, accepted, answerOf, slots, narrow}
 use Rattle.registers.specs.Group.{rises, falls, eventsAfter, conditionIs, possibleGroup}
 use Rattle.registers.specs.Status.{raised, locked, atStart, registersOf, possibleRegisters, possibleTrouble}
 use Rattle.registers.specs.declared.status.RegisterSet.the-variants.{Lock}
 use Rattle.registers.proofs.settings.Possible.{reset-possible}
 use Rattle.registers.specs.Label.{mayStand, closes, undoubled, padded}
 use Rattle.interpreter.specs.Cuts.{cutAt, quoteNext, cutOpen, trimEnd, trim}
-use Rattle.interpreter.specs.Header.{name, placed, header, spells, bodyOf, byFirst}
-use Rattle.interpreter.specs.Rows.{settingRows, otherRows, rows, fitsRow, findRow}
+use Rattle.interpreter.specs.Header.{name, placed, header, spells, bodyOf, byFirst, numbered, nodeMatches, suffixIn}
+use Rattle.interpreter.specs.Rows.{settingRows, otherRows, rows, fitsRow, findRow, secondOf, onChannel, findRole}
 use Rattle.interpreter.specs.Parameter.{labelDeed, parameters, least, greatest, findWord, parameter, valueGiven, settingDeed, deedOf, readFigure, readWord}
 use Rattle.interpreter.specs.Unit.{readUnit}
 use Rattle.interpreter.specs.Box.{Box, box, powerUp, blank}
@@ -98,8 +98,8 @@ pub met2 : Met2
 unfolding if_then_else_ bytes same white printable digit letter wordByte small capital _>>=_ _>>_ check shortForm longForm matches
     afterSign fractionOf afterFraction exponentOf afterExponent lowering written numeralFrom decimalOf valueOf scaled suffixes noSuffix powerIn remains number switchedOn
     nearest sizeIn rounded sizeSide sideIn inPlaces decimal tenths eventBit
-    table settingAt atReset wideRange lowest highest within conflict examined accepted answerOf raised rises falls eventsAfter conditionIs atStart
-    mayStand closes undoubled padded labelDeed cutAt quoteNext cutOpen trimEnd trim name placed bodyOf byFirst header spells settingRows otherRows rows fitsRow findRow
+    slots table settingAt atReset wideRange lowest highest narrow within conflict examined accepted answerOf raised rises falls eventsAfter conditionIs atStart
+    mayStand closes undoubled padded labelDeed cutAt quoteNext cutOpen trimEnd trim name placed bodyOf byFirst header numbered nodeMatches suffixIn spells settingRows otherRows rows fitsRow findRow secondOf onChannel findRole
     parameters least greatest findWord parameter readWord readFigure valueGiven settingDeed deedOf readUnit powerUp
     permitted changed replyTo inquiryText joined fitsAnswer reply perform
     attempt refuse runUnits interrupted finished unitsOf runLine endLine held byte piece taken reported happens after

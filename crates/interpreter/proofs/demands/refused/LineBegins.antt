@@ -63,7 +63,7 @@ perform-fresh (Query q) t b f = hold-bind Fresh FreshBox _ _ (reply-fresh _ _ (q
 perform-fresh (Inquire q) t b f = hold-bind Fresh FreshBox _ _ (reply-fresh _ _ f) (λ c g. passes g)
 perform-fresh (Saving x p) t b f = hold-bind Fresh FreshBox _ _ (setup-fresh x p (b .core) f) (λ c g. passes g)
 
-newline-fresh : (b : Box) → FreshBox (endLine b)
+pub newline-fresh : (b : Box) → FreshBox (endLine b)
 unfolding interrupted
 newline-fresh b =
     line-keeps FreshBox (λ d t b a x l f. perform-fresh d t b f) (λ n b e f. f) (λ b f. f) (λ a b f. f) b

@@ -32,7 +32,7 @@ row-found : (p : tie.After-looked)
     let a = entry w .args in
     let v = p .looked .given .0 in
     (names : List Text) → Holds names (a .path .now) (a .used)
-    → Headed (a .settings) names (a .unit .now) (w .white-end .result) (v .0 .row) (v .1 .0) (v .0 .asked) (v .1 .1 .0) (p .before .before .look-up .last .1 .0)
+    → Headed (a .settings) names (a .unit .now) (w .white-end .result) (v .0 .place) (v .1 .0) (v .0 .asked) (v .1 .1 .0) (p .before .before .look-up .last .1 .0)
 row-found p names h =
     let w = white-at p in
     let a = entry w .args in
