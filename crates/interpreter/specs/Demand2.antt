@@ -12,7 +12,6 @@ use Rattle.registers.specs.Settings.{count, voltage, range, voltage2, range2, t
 use Rattle.registers.specs.Label.{mostText, mayStand, quotedText}
 use Rattle.registers.specs.declared.settings.Settings.{Settings}
 use Rattle.registers.specs.Status.{allRead, locked}
-use Rattle.registers.specs.declared.settings.Settings.{Settings}
 use Rattle.interpreter.specs.Header.{Header, header, isCommon, fullNames}
 use Rattle.interpreter.specs.Rows.{findRole}
 use Rattle.interpreter.specs.Box.{Box, box, withSettings, withRegisters, withLine}
