@@ -191,13 +191,20 @@ fn show_answer(state: State, from: usize, out: &mut [u8]) -> usize {
     report::hex_front(out, from, &answer, state.waiting)
 }
 
-// Writes the settings in the order of their rows, and after them the text.
+// Writes the values of the slots, and the text between those of the rows and channel 2's.
+fn show_slots(values: &[i32; Settings::COUNT], text: &[u8], from: usize, out: &mut [u8]) -> usize {
+    let slots = &values[..];
+    let rows = report::signed_numbers(out, from, b' ', &slots[0..Settings::ROWS]);
+    let comma = report::put(out, rows, b',');
+    let held = report::put_held(out, comma, text);
+    report::signed_numbers(out, held, b',', &slots[Settings::ROWS..])
+}
+
+// Writes the settings.
 fn show_settings(settings: Settings, from: usize, out: &mut [u8]) -> usize {
     let values = settings.values;
     let text = settings.text;
-    let numbers = report::signed_numbers(out, from, &values);
-    let comma = report::put(out, numbers, b',');
-    report::put_held(out, comma, &text)
+    show_slots(&values, &text, from, out)
 }
 
 // Writes what a report has after the line: the answer, and the registers of LOCK and WARNing.

@@ -139,9 +139,9 @@ fn single(name: &[u8]) -> Field {
 
 // Finds the field that a name spells.
 fn named(name: &[u8]) -> Field {
-    let row = place_in(name, b"setting.");
-    if row < Settings::COUNT {
-        return Field::Setting(row);
+    let slot = place_in(name, b"setting.");
+    if slot < Settings::COUNT {
+        return Field::Setting(slot);
     }
     let item = place_in(name, b"error.");
     if item < Status::MOST {
@@ -150,10 +150,10 @@ fn named(name: &[u8]) -> Field {
     single(name)
 }
 
-// Puts a value into the setting of a row, if there is such a row.
-fn in_settings(mut settings: Settings, row: usize, value: i32) -> Settings {
-    if row < Settings::COUNT {
-        settings.values[row] = value;
+// Puts a value into the setting of a slot, if there is such a slot.
+fn in_settings(mut settings: Settings, slot: usize, value: i32) -> Settings {
+    if slot < Settings::COUNT {
+        settings.values[slot] = value;
     }
     settings
 }
@@ -220,10 +220,10 @@ fn in_state(mut state: State, field: Field, n: u16) -> State {
 }
 
 // Overwrites a setting, whose value may have a minus.
-fn setting(mut state: State, row: usize, value: &[u8]) -> Overwritten {
+fn setting(mut state: State, slot: usize, value: &[u8]) -> Overwritten {
     match script::signed(value) {
         Reading::Value(v) => {
-            state.settings = in_settings(state.settings, row, v);
+            state.settings = in_settings(state.settings, slot, v);
             Overwritten {
                 state,
                 readable: true,
@@ -284,7 +284,7 @@ fn number(state: State, field: Field, value: &[u8]) -> Overwritten {
 pub(crate) fn overwrite(state: State, name: &[u8], value: &[u8]) -> Overwritten {
     let field = named(name);
     match field {
-        Field::Setting(row) => setting(state, row, value),
+        Field::Setting(slot) => setting(state, slot, value),
         Field::Text => text(state, value),
         Field::Unknown => Overwritten {
             state,

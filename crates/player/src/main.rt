@@ -22,16 +22,17 @@
 //
 // NUMBER is 0 or the refusal's in 01's table; COUNT that of the piece's newlines; LENGTH the
 // answer's, also where the buffer is too short for it. Every byte of take's buffer is AA before.
-// SETTINGS are the sixteen in 01's order, SYSTem:EXAM and the text, with commas between (bools 0 and 1,
-// words by their place, numbers in steps, the text in hex, as far as its first zero); QUEUE the error
-// numbers, without their minus; OVERLONG 0 or 1; BUFFER, LINE and ANSWER hex in capitals; LOCK and
-// WARNING the five registers of each, in the order CONDITION EVENT ENABLE PTR NTR. What is empty is
-// `-`. A hand-made length past its array shows the whole array.
+// SETTINGS are the sixteen in 01's order, SYSTem:EXAM, the text, and channel 2's thirteen in 01's
+// order, with commas between (bools 0 and 1, words by their place, numbers in steps, the text in hex,
+// as far as its first zero); QUEUE the error numbers, without their minus; OVERLONG 0 or 1; BUFFER,
+// LINE and ANSWER hex in capitals; LOCK and WARNING the five registers of each, in the order CONDITION
+// EVENT ENABLE PTR NTR. What is empty is `-`. A hand-made length past its array shows the whole array.
 //
-// FIELD is `setting.0` to `setting.16`, `error.0` to `error.15`, `esr`, `ese`, `sre`, `condition`,
-// `event`, `enable`, `ptr`, `ntr`, `lock_condition` to `warning_ntr`, a length: `queued`, `line`,
-// `answer`, or `text`. VALUE is decimal, of a setting also with a minus: 32 bits signed for a setting,
-// else 0 to 65535. Of the text it is any 1 to 32 bytes in hex, zeros after them, or `-` for none.
+// FIELD is `setting.0` to `setting.29`, of which channel 2's are from `setting.17` on, `error.0` to
+// `error.15`, `esr`, `ese`, `sre`, `condition`, `event`, `enable`, `ptr`, `ntr`, `lock_condition` to
+// `warning_ntr`, a length: `queued`, `line`, `answer`, or `text`. VALUE is decimal, of a setting also
+// with a minus: 32 bits signed for a setting, else 0 to 65535. Of the text it is any 1 to 32 bytes in
+// hex, zeros after them, or `-` for none.
 //
 // The store of saved setups starts as zeros and outlives a power-up. DIGITS are ten, one for each
 // block: 1 where *RCL would find it good. Every event but a power-up is lent the store. After `S` the

@@ -117,10 +117,10 @@ pub(crate) fn hex_front(out: &mut [u8], from: usize, bytes: &[u8], count: usize)
     hex(out, from, bytes)
 }
 
-// Writes what stands before an item of a list: a blank before the first, a comma before the others.
-fn put_separator(out: &mut [u8], at: usize, i: usize) -> usize {
+// Writes what stands before an item of a list: its opening before the first, a comma before the others.
+fn put_separator(out: &mut [u8], at: usize, opening: u8, i: usize) -> usize {
     if i == 0 {
-        return put(out, at, b' ');
+        return put(out, at, opening);
     }
     put(out, at, b',')
 }
@@ -136,19 +136,19 @@ pub(crate) fn numbers(out: &mut [u8], from: usize, list: &[u16], count: usize) -
         if i == count {
             return at;
         }
-        let item = put_separator(out, at, i);
+        let item = put_separator(out, at, b' ', i);
         at = put_number(out, item, list[i] as u64);
         i += 1;
     }
     at
 }
 
-// Writes all the numbers of a list, which may have a minus.
-pub(crate) fn signed_numbers(out: &mut [u8], from: usize, list: &[i32]) -> usize {
+// Writes all the numbers of a list, which may have a minus. A list that goes on opens with a comma.
+pub(crate) fn signed_numbers(out: &mut [u8], from: usize, opening: u8, list: &[i32]) -> usize {
     let mut at = from;
     let mut i: usize = 0;
     while i < list.len() {
-        let item = put_separator(out, at, i);
+        let item = put_separator(out, at, opening, i);
         at = put_signed(out, item, list[i]);
         i += 1;
     }

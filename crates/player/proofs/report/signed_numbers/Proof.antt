@@ -7,10 +7,10 @@ use Rattle.player.proofs.report.signed_numbers.Statement.{statement}
 use Rattle.player.proofs.report.signed_numbers.Tie as tie
 
 abbrev Inv-loop : tie.InvT-loop
-Inv-loop out₀ from list at₀ i₀ out at i = length out ≡ length out₀
+Inv-loop out₀ from opening list at₀ i₀ out at i = length out ≡ length out₀
 
 abbrev μ-loop : tie.MeasureT-loop
-μ-loop out₀ from list at₀ i₀ out at i = length list - i
+μ-loop out₀ from opening list at₀ i₀ out at i = length list - i
 
 pub signed-numbers-spec : {M : Type 1} → statement M
 signed-numbers-spec =
