@@ -1,4 +1,5 @@
-// Overwrites a number of the raw record, or its text, so that states can be tried that the box never comes to.
+// Overwrites a number of the raw record, or its text, so that states can be tried that the box never
+// comes to.
 use crate::script;
 use crate::script::Reading;
 use interpreter::state::State;

@@ -25,8 +25,9 @@
 // SETTINGS are the sixteen in 01's order, SYSTem:EXAM, the text, and channel 2's thirteen in 01's
 // order, with commas between (bools 0 and 1, words by their place, numbers in steps, the text in hex,
 // as far as its first zero); QUEUE the error numbers, without their minus; OVERLONG 0 or 1; BUFFER,
-// LINE and ANSWER hex in capitals; LOCK and WARNING the five registers of each, in the order CONDITION
-// EVENT ENABLE PTR NTR. What is empty is `-`. A hand-made length past its array shows the whole array.
+// LINE and ANSWER hex in capitals; LOCK and WARNING the five registers of each, in the order
+// CONDITION EVENT ENABLE PTR NTR. What is empty is `-`. A hand-made length past its array shows the
+// whole array.
 //
 // FIELD is `setting.0` to `setting.29`, of which channel 2's are from `setting.17` on, `error.0` to
 // `error.15`, `esr`, `ese`, `sre`, `condition`, `event`, `enable`, `ptr`, `ntr`, `lock_condition` to

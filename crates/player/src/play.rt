@@ -1,5 +1,5 @@
-// Plays the line that a letter begins: an event, which is lent the store, or what changes and shows the
-// box and the store by hand.
+// Plays the line that a letter begins: an event, which is lent the store, or what changes and shows
+// the box and the store by hand.
 use crate::event;
 use crate::event::Played;
 use crate::field;
@@ -57,9 +57,9 @@ fn show_store(state: State, lent: usize, store: &[u8; STORE], out: &mut [u8]) ->
     }
 }
 
-// Plays an event on as much of the store as it is lent. Where that is more than there is, zeros follow
-// the store; what would be written there is lost, but an event leaves a store of a wrong length as it
-// is. No mark is longer than LONGEST: the second test only tells the prover so.
+// Plays an event on as much of the store as it is lent. Where that is more than there is, zeros
+// follow a copy of the store; what would be written there is lost, but an event leaves a store of a
+// wrong length as it is. No mark is longer than LONGEST: the second test only tells the prover so.
 fn lend(
     state: State,
     lent: usize,

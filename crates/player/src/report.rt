@@ -96,8 +96,8 @@ pub(crate) fn put_hex(out: &mut [u8], from: usize, bytes: &[u8]) -> usize {
     at
 }
 
-// Writes in hex the text that an array holds, which ends before the first zero. What a hand-made record
-// has after that isn't shown.
+// Writes in hex the text that an array holds, which ends before the first zero. What a hand-made
+// record has after that isn't shown.
 pub(crate) fn put_held(out: &mut [u8], from: usize, array: &[u8]) -> usize {
     let end = scan::find(array, 0, array.len(), 0);
     put_hex(out, from, &array[0..end])
@@ -117,7 +117,8 @@ pub(crate) fn hex_front(out: &mut [u8], from: usize, bytes: &[u8], count: usize)
     hex(out, from, bytes)
 }
 
-// Writes what stands before an item of a list: its opening before the first, a comma before the others.
+// Writes what stands before an item of a list: its opening before the first, a comma before the
+// others.
 fn put_separator(out: &mut [u8], at: usize, opening: u8, i: usize) -> usize {
     if i == 0 {
         return put(out, at, opening);

@@ -1,4 +1,5 @@
-// Changes the store by hand, as nothing but *SAV does it otherwise, and shows which blocks are good.
+// Changes the store by hand, which otherwise only *SAV does, and shows which blocks are good. Each
+// change tells whether its numbers could be read, and does nothing where they couldn't.
 use crate::report;
 use crate::script;
 use bytes::scan;
