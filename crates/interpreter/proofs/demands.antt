@@ -10,5 +10,6 @@ pub mod calls
 pub mod Lock
 pub mod Steps
 pub mod isolation
+pub mod Account
 pub mod dummies
 pub mod met

@@ -41,4 +41,5 @@ pub mod Steps
 pub mod Lock
 pub mod OfCalls
 pub mod Isolation
+pub mod Account
 pub mod Dummies

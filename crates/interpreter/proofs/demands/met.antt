@@ -3,3 +3,4 @@ pub mod EveryRow
 pub mod Trips
 pub mod LockedLines
 pub mod TwoChannels
+pub mod Accounts
