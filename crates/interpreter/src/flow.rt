@@ -1,5 +1,6 @@
 // The bytes that come in: line by line, with the line and the waiting answer in place.
 use crate::line;
+use crate::memory;
 use crate::present::Present;
 use crate::sizes::ANSWER;
 use crate::sizes::LINE;
@@ -8,7 +9,6 @@ ghost use mathlib.Core.Path.{_≡_};
 ghost use mathlib.Core.List.{[], _∷_};
 ghost use Prim.Native.Nat.{_+_, _^_, _≤_, _<_, min};
 ghost use lib.ListN.{length, drop};
-ghost use lib.Seq as seq;
 ghost use Rattle.registers.specs.Text.{Text};
 ghost use Rattle.interpreter.specs.TableParts.{commandTable};
 ghost use Rattle.interpreter.specs.Box.{storeSize, Memory, memory};
@@ -33,15 +33,6 @@ fn smaller(a: usize, b: usize) -> usize
     b
 }
 
-// Lays the first n bytes of a text over another at a place, and gives the place after them.
-pub(crate) fn paste(text: &[u8], n: usize, into: &mut [u8], at: usize) -> usize
-    requires { ⌜ (n ≤ length (now text)) × (at + n ≤ length (now into)) ⌝ }
-    ensures { λ r. ⌜ r ≡ at + n ⌝ }
-    ensures { λ _. ⌜ now (into .exit) ≡ seq.paste (now (into .entry)) at (now (text .entry)) n ⌝ }
-{
-    at + bytes::copy(&text[0..n], &mut into[at..])
-}
-
 // Adds bytes without a newline to the line, as many as it has room for; "further bytes are dropped".
 fn hold(mut flow: Flow, line: &mut [u8; LINE], part: &[u8]) -> Flow
     requires { ⌜ FlowFits flow × (flow .read + length (now part) < 2 ^ 63) × (newlines (now part) ≡ 0) ⌝ }
@@ -49,7 +40,7 @@ fn hold(mut flow: Flow, line: &mut [u8; LINE], part: &[u8]) -> Flow
 {
     let at = flow.filled;
     let n = smaller(part.len(), LINE - at);
-    flow.filled = paste(part, n, line, at);
+    flow.filled = memory::paste(part, n, line, at);
     flow.overlong = flow.overlong | (n < part.len());
     flow.read += part.len();
     flow

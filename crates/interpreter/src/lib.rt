@@ -9,6 +9,7 @@ mod deed;
 mod flow;
 mod header;
 mod line;
+mod memory;
 mod name;
 mod parameter;
 mod perform;

@@ -2,8 +2,8 @@
 use crate::cuts;
 use crate::deed::Deed;
 use crate::deed::Saving;
-use crate::flow;
 use crate::header::MOST_NAMES;
+use crate::memory;
 use crate::parameter::Decision;
 use crate::perform;
 use crate::present::Present;
@@ -60,7 +60,7 @@ fn set_up(present: Present, saving: Saving, place: usize, used: usize, store: &m
     match saving {
         Saving::Save => {
             let block = setup::block_of(present.settings);
-            flow::paste(&block, setup::BLOCK, store, at);
+            memory::paste(&block, setup::BLOCK, store, at);
             return Done {
                 present,
                 used,

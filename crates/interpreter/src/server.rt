@@ -1,6 +1,7 @@
 // A chunk of input served for a program: fed line by line, each answer taken after the one before.
 use crate::flow;
 use crate::flow::Flow;
+use crate::memory;
 use crate::sizes::ANSWER;
 use crate::sizes::LINE;
 use crate::sizes::STORE;
@@ -48,7 +49,7 @@ fn lines(
     while (flow.read < input.len()) & (ANSWER <= output.len() - written) {
         flow = flow::feed_line(&table, flow, line, out, store, input);
         let waiting = flow.present.answered;
-        written = flow::paste(out, waiting, output, written);
+        written = memory::paste(out, waiting, output, written);
         flow.present.answered = 0;
     }
     Progress { flow, written }

@@ -1,6 +1,7 @@
 // The box's state, and the five events that can happen to it.
 use crate::flow;
 use crate::flow::Flow;
+use crate::memory;
 use crate::present::Present;
 use crate::sizes;
 use registers::error::Error;
@@ -209,7 +210,7 @@ impl State {
             };
         }
         let answer = self.answer;
-        let n = flow::paste(&answer, waiting, buffer, 0);
+        let n = memory::paste(&answer, waiting, buffer, 0);
         self.waiting = 0;
         Taken {
             outcome: Outcome::Done,

@@ -6,12 +6,10 @@ use mathlib.Core.Bool.{Bool, true, false, _||_, or-true, or-false}
 use mathlib.Core.List.{[], _∷_, _++_, append-nil, append-assoc}
 use Prim.Native.Nat.{ℕ, zero, suc, _+_, _-_, _≤_, _<_, min}
 use native.Mathlib.Omega.{arith}
-use native.Mathlib.Nat.{sub-zero}
 use native.Mathlib.Numerals.{add-one, unary-clauses}
 use lib.Dec.{eqb, ltb, leb·suc-suc}
-use lib.ListN.{length, take, drop, getD, length-take, length-drop, length-append, drop-of-length-le}
-use lib.Seq.{take-all, take-add, take-suc, take-nil, take-length, length-take-le, drop-drop, paste, take-paste}
-use borrow.Rule.Slice.PartMut.{putMid}
+use lib.ListN.{length, take, drop, getD, length-take, length-drop, length-append}
+use lib.Seq.{take-all, take-add, take-suc, take-nil, take-length, length-take-le, paste, take-paste}
 use borrow.Author.Tests.{lt-ltb, le-ltb, eqb-true, ltb-true, ltb-false}
 use Rattle.bytes.specs.Bytes.{indexOf, indexAfter, slice}
 use Rattle.registers.specs.Text.{Text, if_then_else_}
@@ -19,21 +17,7 @@ use Rattle.interpreter.specs.Box.{Memory, memory, storeSize, Core, Box, 
 use Rattle.interpreter.specs.Line.{held, byte, piece, newlines}
 use Rattle.interpreter.specs.FlowParts.{flowBox, FlowFits, firstLine, FlowFed}
 use Rattle.interpreter.specs.declared.flow.Flow.{Flow}
-use Rattle.interpreter.proofs.Lists.{rest-is}
 use Rattle.interpreter.proofs.line.Pieces.{piece-append, newlines-append}
-
--- ---- a text laid over another
-
-module _ (d : Text) (at : ℕ) (s : Text) (n : ℕ) (has : n ≤ length s) (room : at + n ≤ length d) where
-  pub pasted : (r : ℕ) (ys : Text) → r ≡ length (take (n - 0) s)
-      → ys ≡ take (length (take (n - 0) s)) (take (n - 0) s) ++ drop (length (take (n - 0) s)) (take (length d - at) (drop at d))
-      → (at + r ≡ at + n) × (putMid at (length d - at) d ys ≡ paste d at s n)
-  pasted r ys e is =
-      let l : length (take n s) ≡ n = length-take-le n s has in
-      let e′ : r ≡ length (take n s) = rw sub-zero at e in
-      let all : take (length d - at) (drop at d) ≡ drop at d = rest-is d at (omega arith) in
-      let none : drop (length d - at) (drop at d) ≡ [] = drop-of-length-le (drop at d) {i = length d - at} (rw length-drop (omega arith)) in
-      (omega arith, rw (is, sub-zero, take-length (take n s), l, all, none, append-nil, append-assoc, drop-drop n at d))
 
 -- ---- the first newline
 

@@ -1,10 +1,10 @@
--- The copy goes over the part of the text that starts at the place; `pasted` (flow/Laws) says what that makes of the whole.
+-- The copy goes over the part of the text that starts at the place; `pasted` (memory/Laws) says what that makes of the whole.
 use Prim.Native.Nat.{zero-le}
 use native.Mathlib.Nat.{le-refl}
 use native.Mathlib.Omega.{arith}
-use Rattle.interpreter.proofs.flow.Laws.{pasted}
-use Rattle.interpreter.proofs.flow.paste.Statement.{statement}
-use Rattle.interpreter.proofs.flow.paste.Tie as tie
+use Rattle.interpreter.proofs.memory.Laws.{pasted}
+use Rattle.interpreter.proofs.memory.paste.Statement.{statement}
+use Rattle.interpreter.proofs.memory.paste.Tie as tie
 
 abbrev entry : tie.After-copy → tie.Start
 entry y = y .before .before .before .before .before
