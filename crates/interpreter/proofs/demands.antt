@@ -7,9 +7,11 @@ pub mod Demand1
 pub mod Demand2
 pub mod Demand3
 pub mod calls
+pub mod Counts
 pub mod Lock
 pub mod Steps
 pub mod isolation
+pub mod InExam
 pub mod Account
 pub mod dummies
 pub mod met

@@ -40,6 +40,7 @@ pub mod Calls
 pub mod Steps
 pub mod Lock
 pub mod OfCalls
+pub mod Counts
 pub mod Isolation
 pub mod Account
 pub mod Dummies

@@ -47,7 +47,7 @@ module _ (s t : State) (m n : Memory) (es : List Event) (rs : List Result) (ran 
   own : Own (boxOf s m)
   own = record { could = box-from s m (ran .could); values = ran .values }
 
-  chosen-is : (p : Event → Bool) → chosen p es rs ≡ resultsOf p (boxOf s m) es
+  pub chosen-is : (p : Event → Bool) → chosen p es rs ≡ resultsOf p (boxOf s m) es
   chosen-is p = ap (chosen p es) (history .results) ∙ chosen-results p (boxOf s m) es
 
 -- ---- demand 2
