@@ -1,7 +1,7 @@
 -- Each of the programs in specs/Dummies is the dummy that it stands for. The refuser and the fixed answer by an invariant of their memory
 -- (no answer waits; no answer but the one), the others by what a piece does to theirs.
 use mathlib.Core.Path.{_≡_, refl, sym, _∙_, ap, subst}
-use mathlib.Core.Bool.{Bool, true, false}
+use mathlib.Core.Bool.{Bool, true, false, false≢true}
 use mathlib.Core.List.{List, [], _∷_, _++_}
 use Prim.Native.Nat.{ℕ, zero, suc}
 use native.Mathlib.Omega.{arith}
@@ -9,14 +9,14 @@ use lib.Dec.{eqb, leb, ltb}
 use lib.ListN as L
 use lib.ListN.{length, drop}
 use lib.Seq.{take-at}
-use Rattle.registers.specs.Text.{Text, if_then_else_, empty}
+use Rattle.registers.specs.Text.{Text, if_then_else_, empty, every}
 use Rattle.registers.specs.Number.{number}
 use Rattle.registers.specs.Group.{widestGroup}
 use Rattle.interpreter.specs.Box as lent
 use Rattle.interpreter.specs.Box.{Core, Box, box, powerUp, blank, mostLine}
 use Rattle.interpreter.specs.Line.{interrupted, unitsOf, held, byte, piece, newlines}
 use Rattle.interpreter.specs.Events.{Event, started, received, take, condition, look, altered, mislent, Happened, taken, reported, happens}
-use Rattle.interpreter.specs.Dummies.{Program, reached, RefusesUnits, refusingByte, refusingPiece, refusing, refuser, AnswersAlike, answering, fixedAnswer, OnlyFirstLine, firstByte, firstPiece, firstLiner, Invents, inventor, AreSo}
+use Rattle.interpreter.specs.Dummies.{Program, reached, tellsNext, RefusesUnits, refusingByte, refusingPiece, refusing, refuser, unheard, IgnoresPieces, ignorer, oneLine, AnswersAlike, answering, fixedAnswer, noStart, OnlyFirstLine, firstByte, firstPiece, firstOnly, firstLiner, firstCounter, Invents, inventor, AreSo}
 use Rattle.interpreter.proofs.Choices.{if-elim}
 use Rattle.interpreter.proofs.Lists.{is-empty}
 
@@ -82,7 +82,7 @@ none-taken b buffer h = rw h
 
 refuser-is : RefusesUnits refuser
 unfolding happens
-refuser-is es buffer =
+refuser-is es buffer t =
     none-taken (reached refuser (powerUp blank) es) buffer (reached-so refuser Answerless refusing-answerless es (powerUp blank) (start-answerless blank))
 
 -- ---- one answer or none waits in the box with a fixed answer
@@ -109,10 +109,26 @@ module _ (a : Text) where
 
   fixed-is : AnswersAlike a (fixedAnswer a)
   unfolding happens
-  fixed-is es buffer =
+  fixed-is l buffer one none t =
       let p = fixedAnswer a in
-      one-alike (reached p (powerUp blank) es) buffer
-      (reached-so p One (λ b e _. answering-one (happens b e .box)) es (powerUp blank) (nothing (ap empty (start-answerless blank))))
+      one-alike (reached p (powerUp blank) (oneLine l)) buffer
+      (reached-so p One (λ b e _. answering-one (happens b e .box)) (oneLine l) (powerUp blank) (nothing (ap empty (start-answerless blank))))
+
+-- ---- the ignorer remembers no piece
+
+unheard-so : (b : Box) (es : List Event) → reached ignorer b es ≡ reached ignorer b (unheard es)
+unfolding reached unheard if_then_else_
+unheard-so b [] = refl
+unheard-so b (started ∷ es) = unheard-so _ es
+unheard-so b (received xs ∷ es) = unheard-so b es
+unheard-so b (take buffer ∷ es) = unheard-so _ es
+unheard-so b (condition x n ∷ es) = unheard-so _ es
+unheard-so b (look ∷ es) = unheard-so b es
+unheard-so b (altered i x ∷ es) = unheard-so _ es
+unheard-so b (mislent buffer ∷ es) = unheard-so b es
+
+ignorer-is : IgnoresPieces ignorer
+ignorer-is es e t _ = ap (λ (b : Box). happens b e .result) (unheard-so (powerUp blank) es)
 
 -- ---- the first-liner obeys the first line, and drops what comes after it
 
@@ -131,12 +147,37 @@ over m [] = go (m .1) refl
     go false e = rw e
 over m (x ∷ l) = over (firstByte m x) l
 
+-- and then it remembers no piece until the next power-up
+dropped-so : (b : Box) (es : List Event) → every noStart es ≡ true → reached firstLiner (b, true) es ≡ reached firstLiner (b, true) (unheard es)
+unfolding reached unheard if_then_else_
+dropped-so b [] t = refl
+dropped-so b (started ∷ es) t = absurd (false≢true t)
+dropped-so b (received xs ∷ es) t = ap (λ (m : Box × Bool). reached firstLiner m es) (dropped b xs) ∙ dropped-so b es t
+dropped-so b (take buffer ∷ es) t = dropped-so _ es t
+dropped-so b (condition x n ∷ es) t = dropped-so _ es t
+dropped-so b (look ∷ es) t = dropped-so b es t
+dropped-so b (altered i x ∷ es) t = dropped-so _ es t
+dropped-so b (mislent buffer ∷ es) t = dropped-so b es t
+
 first-is : OnlyFirstLine firstLiner
 unfolding reached
-first-is l xs =
+first-is l es e quiet t _ =
     let m = firstPiece ((powerUp blank), false) (l ++ 10 ∷ []) in
-    let e : m ≡ (m .0, true) = ap (λ (t : Bool). (m .0, t)) (over ((powerUp blank), false) l) in
-    subst (λ (x : Box × Bool). firstPiece x xs ≡ x) (sym e) (dropped (m .0) xs)
+    let is : m ≡ (m .0, true) = ap (λ (t : Bool). (m .0, t)) (over ((powerUp blank), false) l) in
+    ap (λ (x : Box × Bool). happens (x .0) e .result)
+    (subst (λ (x : Box × Bool). reached firstLiner x es ≡ reached firstLiner x (unheard es)) (sym is) (dropped-so (m .0) es quiet))
+
+-- what is counted besides changes nothing that is told
+counted-so : (m : Box × Bool) (n : ℕ) (es : List Event) → reached firstCounter (m, n) es .0 ≡ reached firstLiner m es
+unfolding reached
+counted-so m n [] = refl
+counted-so m n (e ∷ es) = counted-so (firstOnly m e) (suc n) es
+
+counter-is : OnlyFirstLine firstCounter
+counter-is l es e quiet t other =
+    let tell : (fs : List Event) → tellsNext firstCounter fs e ≡ tellsNext firstLiner fs e =
+    λ fs. ap (λ (m : Box × Bool). happens (m .0) e .result) (counted-so ((powerUp blank), false) 0 fs) in
+    tell (oneLine l ++ es) ∙ first-is l es e quiet t other ∙ sym (tell (oneLine l ++ unheard es))
 
 obeyed-first : (l : Text) (b : Box) → newlines l ≡ 0 → firstPiece (b, false) (l ++ 10 ∷ []) ≡ (piece b (l ++ 10 ∷ []), true)
 unfolding firstPiece firstByte piece newlines if_then_else_
@@ -153,17 +194,18 @@ obeyed-first (x ∷ l) b h = go (eqb x 10) refl h (λ z. obeyed-first l (byte b 
 
 inventor-is : (k : ℕ) → Invents (inventor k)
 unfolding newlines reached if_then_else_
-inventor-is zero = ([], 10 ∷ [], λ e. omega (arith, e))
-inventor-is (suc k) = ([], [], λ e. omega (arith, e))
+inventor-is zero = ([], 10 ∷ [], refl, λ e. omega (arith, e))
+inventor-is (suc k) = ([], [], refl, λ e. omega (arith, e))
 
 pub are-so : AreSo
 unfolding happens
 are-so =
     record {
       refuser = refuser-is;
-      ignorer = λ es xs. refl;
+      ignorer = ignorer-is;
       fixedAnswer = fixed-is;
       firstLiner = first-is;
+      firstCounter = counter-is;
       firstObeyed = λ l h. obeyed-first l (powerUp blank) h;
       inventor = inventor-is;
     }

@@ -1,16 +1,17 @@
 -- The dummies of 01 are rejected: a program that meets the definition tells of each event what the definition tells, and after a line
 -- or two that differs from what the dummy tells.
 use mathlib.Core.Path.{_≡_, refl, sym, _∙_, ap, ap₂}
-use mathlib.Core.Bool.{true}
+use mathlib.Core.Bool.{Bool, true}
 use mathlib.Core.List.{List, [], _∷_, _++_, head-eq-of-cons-eq}
 use Prim.Native.Nat.{ℕ, suc}
+use Prim.Native.Char.{code}
 use Prim.Native.String.{String}
 use native.Mathlib.Omega.{arith}
 use lib.ListN as L
 use lib.ListN.{length, drop, replicate, length-replicate}
 use borrow.Author.Tests.{eq-eqb}
 use lib.Seq.{drop-at}
-use Rattle.registers.specs.Text.{Text, if_then_else_, bytes, same, white, printable, digit, letter, wordByte, small, capital}
+use Rattle.registers.specs.Text.{Text, if_then_else_, every, bytes, same, white, printable, digit, letter, wordByte, small, capital}
 use Rattle.registers.specs.Check.{_>>=_, _>>_, check}
 use Rattle.registers.specs.Words.{shortForm, longForm, matches}
 use Rattle.registers.specs.Number.{afterSign, fractionOf, afterFraction, exponentOf, afterExponent, lowering, written, numeralFrom, decimalOf, valueOf, scaled, number}
@@ -20,6 +21,7 @@ use Rattle.registers.specs.Answer.{inPlaces, decimal, tenths}
 use Rattle.registers.specs.Settings.{table, settingAt, atReset, wideRange, lowest, highest, within, conflict, examined, accepted, answerOf, slots, narrow}
 use Rattle.registers.specs.Status.{raised, atStart}
 use Rattle.registers.specs.Label.{mayStand, closes, undoubled, padded}
+use Rattle.registers.proofs.Tests.{and-both}
 use Rattle.interpreter.specs.Cuts.{cutAt, quoteNext, cutOpen, trimEnd, trim}
 use Rattle.interpreter.specs.Header.{name, placed, header, spells, bodyOf, byFirst, numbered, nodeMatches, suffixIn}
 use Rattle.interpreter.specs.Rows.{settingRows, otherRows, rows, fitsRow, findRow, secondOf, onChannel, findRole}
@@ -29,12 +31,13 @@ use Rattle.interpreter.specs.Box as lent
 use Rattle.interpreter.specs.Box.{Box, box, powerUp, blank, rightSize, storeSize}
 use Rattle.interpreter.specs.Perform.{permitted, changed, perform}
 use Rattle.interpreter.specs.Reply.{replyTo, joined, fitsAnswer, reply}
-use Rattle.interpreter.specs.Line.{attempt, runUnits, interrupted, finished, unitsOf, runLine, endLine, held, byte, piece}
+use Rattle.interpreter.specs.Line.{attempt, runUnits, interrupted, finished, unitsOf, runLine, endLine, held, byte, piece, newlines}
 use Rattle.interpreter.specs.Events.{Event, received, take, Result, Happened, taken, happens, after, results}
-use Rattle.interpreter.specs.State.{boxOf, possibleState}
+use Rattle.interpreter.specs.State.{boxOf, possibleState, Started}
+use Rattle.interpreter.specs.Calls.{Calls}
 use Rattle.interpreter.specs.declared.state.State.{State}
-use Rattle.interpreter.specs.Dummies.{Program, told, reached, tellsNext, Meets, theBox, Promised, functions, Does, RefusesUnits, IgnoresPieces, AnswersAlike, OnlyFirstLine, Invents, Rejected}
-use Rattle.interpreter.proofs.demands.calls.AsHistory.{happens-there}
+use Rattle.interpreter.specs.Dummies.{typed, Typed, Program, told, reached, tellsNext, Meets, theBox, Promised, functions, Does, RefusesUnits, unheard, oneLine, IgnoresPieces, AnswersAlike, OnlyFirstLine, Invents, Rejected}
+use Rattle.interpreter.proofs.demands.calls.AsHistory.{happens-there, calls-are-a-history}
 
 -- ---- what a program that meets the definition tells of one more event
 
@@ -60,26 +63,32 @@ reached-after b [] = refl
 reached-after b (e ∷ es) = reached-after (happens b e .box) es
 
 pub box-meets : Meets theBox
-box-meets es = definition (powerUp blank) es
+box-meets es t = definition (powerUp blank) es
 
 -- so are the public functions
-functions-tell : (begins : State) (does : Does) → Promised begins does → (s : State) (m : lent.Memory) → possibleState s ≡ true
-    → rightSize m ≡ true → (es : List Event) → told (functions begins does) (s, m) es ≡ results (boxOf s m) es
+functions-tell : (begins : State) (does : Does) (h : Promised begins does) (s : State) (m : lent.Memory) → h .Held s m → possibleState s ≡ true
+    → rightSize m ≡ true → (es : List Event) → every typed es ≡ true → told (functions begins does) (s, m) es ≡ results (boxOf s m) es
 unfolding told results
-functions-tell begins does h s m p q [] = refl
-functions-tell begins does h s m p q (e ∷ es) =
+functions-tell begins does h s m k p q [] t = refl
+functions-tell begins does h s m k p q (e ∷ es) t =
     let d = does s m e in
-    let one = happens-there s (d .1) m (d .2) e (d .0) (h .events s m e) p q in
+    let these = and-both (typed e) (every typed es) t in
+    let kept = h .events s m e k (these .0) in
+    let one = happens-there s (d .1) m (d .2) e (d .0) (kept .0) p q in
     ap₂ _∷_ (ap (λ (x : Happened). x .result) (one .1))
-    (functions-tell begins does h (d .1) (d .2) (one .0) (one .2) es ∙ ap (λ (x : Happened). results (x .box) es) (one .1))
+    (functions-tell begins does h (d .1) (d .2) (kept .1) (one .0) (one .2) es (these .1) ∙ ap (λ (x : Happened). results (x .box) es) (one .1))
 
 blank-size : rightSize blank ≡ true
 unfolding rightSize blank
 blank-size = eq-eqb _ _ (length-replicate {A = ℕ} storeSize 0)
 
 functions-meet : (begins : State) (does : Does) → Promised begins does → Meets (functions begins does)
-functions-meet begins does h es =
-    functions-tell begins does h begins blank (h .atStart .possible) blank-size es ∙ ap (λ (b : Box). results b es) (h .atStart .first blank)
+functions-meet begins does h es t =
+    functions-tell begins does h begins blank (h .firstHeld) (h .atStart .possible) blank-size es t ∙ ap (λ (b : Box). results b es) (h .atStart .first blank)
+
+-- and what calls of them told is what the definition tells
+calls-tell : (s t : State) (n : lent.Memory) (es : List Event) (rs : List Result) → Started s → Calls t n s blank es rs → rs ≡ results (powerUp blank) es
+calls-tell s t n es rs h c = calls-are-a-history s t blank n es rs (h .possible) c .results ∙ ap (λ (b : Box). results b es) (h .first blank)
 
 -- the last of what a program tells
 last-told : (p : Program) (es : List Event) (e : Event) → drop (length es) (told p (p .start) (es ++ e ∷ [])) ≡ tellsNext p es e ∷ []
@@ -88,10 +97,10 @@ last-told p es e =
     ap (drop (length es)) (told-append p (p .start) es (e ∷ []))
     ∙ drop-at (told p (p .start) es) (told p (reached p (p .start) es) (e ∷ [])) (length es) (told-length p (p .start) es)
 
-pub next-is : (p : Program) → Meets p → (es : List Event) (e : Event) → tellsNext p es e ≡ happens (after (powerUp blank) es) e .result
-next-is p m es e =
+pub next-is : (p : Program) → Meets p → (es : List Event) (e : Event) → Typed es e → tellsNext p es e ≡ happens (after (powerUp blank) es) e .result
+next-is p m es e t =
     head-eq-of-cons-eq
-    (sym (last-told p es e) ∙ ap (drop (length es)) (m (es ++ e ∷ []) ∙ sym (box-meets (es ++ e ∷ []))) ∙ last-told theBox es e)
+    (sym (last-told p es e) ∙ ap (drop (length es)) (m (es ++ e ∷ []) t ∙ sym (box-meets (es ++ e ∷ []) t)) ∙ last-told theBox es e)
     ∙ ap (λ (b : Box). happens b e .result) (reached-after (powerUp blank) es)
 
 -- ---- computed: what the definition tells of a take after these lines
@@ -104,6 +113,22 @@ takes = take (replicate 8 0)
 
 abbrev taken-after : List Event → Result
 taken-after es = happens (after (powerUp blank) es) takes .result
+
+-- each of those lines is of bytes, and of one unit
+record Lines : Type 0 where
+  none : Typed [] takes
+  set : Typed (line "VOLT 5" ∷ []) takes
+  asked : Typed (line "VOLT 5" ∷ line "VOLT?" ∷ []) takes
+  volts : Typed (line "VOLT?" ∷ []) takes
+  hertz : Typed (line "FREQ?" ∷ []) takes
+  voltsAlone : cutOpen (code ";") 0 (bytes "VOLT?") ≡ bytes "VOLT?" ∷ []
+  hertzAlone : cutOpen (code ";") 0 (bytes "FREQ?") ≡ bytes "FREQ?" ∷ []
+  voltsLine : newlines (bytes "VOLT?") ≡ 0
+  hertzLine : newlines (bytes "FREQ?") ≡ 0
+
+lines : Lines
+unfolding bytes cutOpen quoteNext newlines if_then_else_
+lines = record { none = refl; set = refl; asked = refl; volts = refl; hertz = refl; voltsAlone = refl; hertzAlone = refl; voltsLine = refl; hertzLine = refl }
 
 record Computed : Type 0 where
   none : taken-after [] .number ≡ 2
@@ -128,50 +153,52 @@ computed = record { none = refl; set = refl; asked = refl; volts = refl; hertz =
 -- ---- none of the five meets the definition
 
 module _ (p : Program) (m : Meets p) where
-  takes-next : (es : List Event) → tellsNext p es takes ≡ taken-after es
-  takes-next es = next-is p m es takes
+  takes-next : (es : List Event) → Typed es takes → tellsNext p es takes ≡ taken-after es
+  takes-next es t = next-is p m es takes t
 
-  number-next : (es : List Event) → tellsNext p es takes .number ≡ taken-after es .number
-  number-next es = ap (λ (r : Result). r .number) (takes-next es)
+  number-next : (es : List Event) → Typed es takes → tellsNext p es takes .number ≡ taken-after es .number
+  number-next es t = ap (λ (r : Result). r .number) (takes-next es t)
 
   no-refuser : RefusesUnits p → ⊥
   no-refuser h =
       let es = line "VOLT?" ∷ [] in
-      omega (arith, sym (h es (replicate 8 0)) ∙ number-next es ∙ computed .volts)
+      omega (arith, sym (h es (replicate 8 0) (lines .volts)) ∙ number-next es (lines .volts) ∙ computed .volts)
 
   no-ignorer : IgnoresPieces p → ⊥
-  unfolding reached
+  unfolding unheard if_then_else_
   no-ignorer h =
       let es = line "VOLT?" ∷ [] in
-      let left : reached p (p .start) es ≡ p .start = h [] (bytes "VOLT?" ++ 10 ∷ []) in
-      let alike = ap (λ (x : p .Memory). p .tells x takes .number) left in
-      omega (arith, sym (computed .volts) ∙ sym (number-next es) ∙ alike ∙ number-next [] ∙ computed .none)
+      let alike = ap (λ (r : Result). r .number) (h es takes (lines .volts) refl) in
+      omega (arith, sym (computed .volts) ∙ sym (number-next es (lines .volts)) ∙ alike ∙ number-next [] (lines .none) ∙ computed .none)
 
   no-answerer : (a : Text) → AnswersAlike a p → ⊥
   no-answerer a h =
-      let is : (es : List Event) → taken-after es .number ≡ 0 → L.take (taken-after es .value) (taken-after es .buffer) ≡ a =
-      λ es n. sym (ap (λ (r : Result). L.take (r .value) (r .buffer)) (takes-next es)) ∙ h es (replicate 8 0) (number-next es ∙ n) in
-      let v = ap length (is (line "VOLT?" ∷ []) (computed .volts)) in
-      let w = ap length (is (line "FREQ?" ∷ []) (computed .hertz)) in
+      let is : (l : Text) → cutOpen (code ";") 0 l ≡ l ∷ [] → newlines l ≡ 0 → Typed (oneLine l) takes → taken-after (oneLine l) .number ≡ 0
+      → L.take (taken-after (oneLine l) .value) (taken-after (oneLine l) .buffer) ≡ a =
+      λ l one none t n.
+      sym (ap (λ (r : Result). L.take (r .value) (r .buffer)) (takes-next (oneLine l) t))
+      ∙ h l (replicate 8 0) one none t (number-next (oneLine l) t ∙ n) in
+      let v = ap length (is (bytes "VOLT?") (lines .voltsAlone) (lines .voltsLine) (lines .volts) (computed .volts)) in
+      let w = ap length (is (bytes "FREQ?") (lines .hertzAlone) (lines .hertzLine) (lines .hertz) (computed .hertz)) in
       omega (arith, v, w, computed .four, computed .five)
 
   no-first-liner : OnlyFirstLine p → ⊥
-  unfolding reached
+  unfolding unheard if_then_else_
   no-first-liner h =
       let one = line "VOLT 5" ∷ [] in
       let two = line "VOLT 5" ∷ line "VOLT?" ∷ [] in
-      let left : reached p (p .start) two ≡ reached p (p .start) one = h (bytes "VOLT 5") (bytes "VOLT?" ++ 10 ∷ []) in
-      let alike = ap (λ (x : p .Memory). p .tells x takes .number) left in
-      omega (arith, sym (computed .asked) ∙ sym (number-next two) ∙ alike ∙ number-next one ∙ computed .set)
+      let alike = ap (λ (r : Result). r .number) (h (bytes "VOLT 5") (line "VOLT?" ∷ []) takes refl (lines .asked) refl) in
+      omega (arith, sym (computed .asked) ∙ sym (number-next two (lines .asked)) ∙ alike ∙ number-next one (lines .set) ∙ computed .set)
 
   no-inventor : Invents p → ⊥
   unfolding happens
-  no-inventor h = h .2 (ap (λ (r : Result). r .value) (next-is p m (h .0) (received (h .1))))
+  no-inventor h = h .3 (ap (λ (r : Result). r .value) (next-is p m (h .0) (received (h .1)) (h .2)))
 
 pub rejected : Rejected
 rejected =
     record {
       functionsMeet = functions-meet;
+      callsTell = calls-tell;
       refusers = no-refuser;
       ignorers = no-ignorer;
       answerers = λ p a m. no-answerer p m a;
