@@ -8,6 +8,7 @@ pub mod Demand2
 pub mod Demand3
 pub mod calls
 pub mod Counts
+pub mod Written
 pub mod Lock
 pub mod Steps
 pub mod isolation

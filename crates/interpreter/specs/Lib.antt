@@ -41,6 +41,7 @@ pub mod Steps
 pub mod Lock
 pub mod OfCalls
 pub mod Counts
+pub mod Written
 pub mod Isolation
 pub mod Account
 pub mod Dummies

@@ -4,3 +4,4 @@ pub mod Trips
 pub mod LockedLines
 pub mod TwoChannels
 pub mod Accounts
+pub mod WrittenLines

@@ -215,12 +215,12 @@ heard-history room long b (l ∷ ls) f =
 
 -- ---- however the bytes are cut: where no answer waits, chunks heard one after the other are heard as one
 
-plain-answer : (b : Box) (x : ℕ) → eqb x 10 ≡ false → byte b x .core .answer ≡ b .core .answer
+pub plain-answer : (b : Box) (x : ℕ) → eqb x 10 ≡ false → byte b x .core .answer ≡ b .core .answer
 unfolding byte held if_then_else_
 plain-answer b x e =
     rw e (if-elim (λ (c : Core). c .answer ≡ b .core .answer) (ltb (length (b .core .line)) mostLine) (λ _. refl) (λ _. refl))
 
-joined-heard : (b : Box) (x : ℕ) (ls : List Text) → byte b x .core .answer ≡ [] → heard b (joinFirst x ls) ≡ heard (byte b x) ls
+pub joined-heard : (b : Box) (x : ℕ) (ls : List Text) → byte b x .core .answer ≡ [] → heard b (joinFirst x ls) ≡ heard (byte b x) ls
 unfolding heard happens piece
 joined-heard b x [] e = no-answer (byte b x) e
 joined-heard b x (l ∷ ls) e = refl

@@ -82,7 +82,7 @@ byte-watch x c t t′ =
     refl
 
 -- the first that is not neither, where the boxes that are left agree
-then-watch : (w w′ : Watch) → w ≡ w′ → (a b : Box) → Agree w a b → (f : Box → Watch) → ((c : Core) (t t′ : Trouble) → f (box c t) ≡ f (box c t′))
+pub then-watch : (w w′ : Watch) → w ≡ w′ → (a b : Box) → Agree w a b → (f : Box → Watch) → ((c : Core) (t t′ : Trouble) → f (box c t) ≡ f (box c t′))
     → thenWatch w (f a) ≡ thenWatch w′ (f b)
 then-watch w w′ e a b g f h = rw (sym e) (go w g)
   where
@@ -98,7 +98,7 @@ piece-watch (x ∷ xs) c t t′ =
     then-watch (watchByte (box c t) x) (watchByte (box c t′) x) (byte-watch x c t t′) _ _ (byte-agree x c t t′)
     (λ b. watchPiece b xs) (λ d s s′. piece-watch xs d s s′)
 
-event-watch : (e : Event) (c : Core) (t t′ : Trouble) → watchEvent (box c t) e ≡ watchEvent (box c t′) e
+pub event-watch : (e : Event) (c : Core) (t t′ : Trouble) → watchEvent (box c t) e ≡ watchEvent (box c t′) e
 unfolding watchEvent
 event-watch started c t t′ = refl
 event-watch (received xs) c t t′ = piece-watch xs c t t′
