@@ -12,7 +12,8 @@ use Rattle.registers.specs.Text.{Text, if_then_else_, empty, every}
 use Rattle.interpreter.specs.Cuts.{cutOpen}
 use Rattle.interpreter.specs.Box as lent
 use Rattle.interpreter.specs.Box.{Box, box, raise, answerIs, powerUp, blank}
-use Rattle.interpreter.specs.Line.{unitsOf, atNewline, held, byte, newlines}
+use Rattle.interpreter.specs.Reply.{joined}
+use Rattle.interpreter.specs.Line.{attempt, next, finished, unitsOf, atNewline, held, byte, newlines}
 use Rattle.interpreter.specs.Events.{Event, started, received, take, condition, look, altered, mislent, Result, result, happens, results}
 use Rattle.interpreter.specs.Histories.{isPiece, noPiece}
 use Rattle.interpreter.specs.State.{Happens, Started}
@@ -161,6 +162,37 @@ abbrev pub fixedAnswer : Text → Program
 fixedAnswer a =
     record { Memory = Box; start = first; tells = λ b e. happens b e .result; keeps = λ b e. answering a (happens b e .box) }
 
+-- one that answers this to every query, as `0`, and `0;0` to two: it is the box, but that a unit's own answer is replaced
+abbrev pub instead : Text → Box → Box → Box
+instead a b c = if eqb (L.length (c .core .answer)) (L.length (b .core .answer)) then c else answerIs (joined (b .core .answer) a) c
+
+unfoldable pub eachUnit : Text → List Text → List Text → Box → Box
+eachUnit a [] path b = b
+eachUnit a (u ∷ us) path b = next (λ p c. eachUnit a us p (instead a b c)) b (attempt path b u)
+
+unfoldable pub eachByte : Text → Box → ℕ → Box
+eachByte a b x =
+    let c = atNewline b in
+    if eqb x 10
+    then (if b .core .overlong then raise 363 c else finished (eachUnit a (unitsOf (b .core .line)) [] c))
+    else box (held x (b .core)) (b .trouble)
+
+unfoldable pub eachPiece : Text → Box → Text → Box
+eachPiece a b [] = b
+eachPiece a b (x ∷ xs) = eachPiece a (eachByte a b x) xs
+
+abbrev pub answeringEach : Text → Box → Event → Box
+answeringEach a b started = powerUp (b .core .memory)
+answeringEach a b (received xs) = eachPiece a b xs
+answeringEach a b (take buffer) = happens b (take buffer) .box
+answeringEach a b (condition x n) = happens b (condition x n) .box
+answeringEach a b look = b
+answeringEach a b (altered i x) = happens b (altered i x) .box
+answeringEach a b (mislent buffer) = b
+
+abbrev pub eachAnswer : Text → Program
+eachAnswer a = record { Memory = Box; start = first; tells = λ b e. happens b e .result; keeps = answeringEach a }
+
 -- ---- "one that obeys the first line and afterwards only reports success": after a first line, until the next power-up, it tells of any other event
 -- what it tells without the pieces, whatever it tells of those
 
@@ -243,6 +275,7 @@ pub record AreSo : Type 0 where
   pub refuser : RefusesUnits refuser
   pub ignorer : IgnoresPieces ignorer
   pub fixedAnswer : (a : Text) → AnswersAlike a (fixedAnswer a)
+  pub eachAnswer : (a : Text) → AnswersAlike (a ++ 10 ∷ []) (eachAnswer a)
   pub firstLiner : OnlyFirstLine firstLiner
   pub firstCounter : OnlyFirstLine firstCounter
   -- it does obey the first line, whatever that is

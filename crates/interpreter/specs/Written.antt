@@ -52,6 +52,10 @@ pub record SentLine (m : Memory) (before line : Text) : Type 0 where
   pub alone : every inLine (received line ∷ []) ≡ true
   pub other : lineRefusal (ending m before line) ≡ 430 → ⊥
 
+-- a line begins at power-up, and where the bytes before it end with a newline
+abbrev pub LinesBeginHeard : Type 0
+LinesBeginHeard = (m : Memory) → Fresh (beginning m [] .core) × ((before : Text) → Fresh (beginning m (before ++ 10 ∷ []) .core))
+
 -- "Compare the same history with that line cut to its first n units"
 abbrev pub cutText : Memory → Text → Text → Text
 cutText m before line = take (length (cutLine (ending m before line))) line

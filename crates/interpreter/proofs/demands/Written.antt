@@ -21,11 +21,12 @@ use Rattle.interpreter.specs.Histories.{newline, moments}
 use Rattle.interpreter.specs.State.{boxOf, possibleState, Started}
 use Rattle.interpreter.specs.Server.{linesOf, heardLine, heard, answersTo, hearing}
 use Rattle.interpreter.specs.Demand3.{keep, cutLine, lineRefusal, inLine, atEnd, asSent, asCut, Fresh, ALine, Watch, neither, asked, cleared, thenWatch, watchEvent, watch, Agree}
-use Rattle.interpreter.specs.Written.{Written, done, chunk, Ready, AnyChunks, beginning, ending, SentLine, cutText, input, afterLine, watchHeard, AgreeTexts, Demand3OfProgram}
+use Rattle.interpreter.specs.Written.{Written, done, chunk, Ready, AnyChunks, LinesBeginHeard, beginning, ending, SentLine, cutText, input, afterLine, watchHeard, AgreeTexts, Demand3OfProgram}
 use Rattle.interpreter.specs.declared.state.State.{State}
 use Rattle.interpreter.proofs.Possible.{power-up-fit, power-up-own}
 use Rattle.interpreter.proofs.server.Heard.{left-long, part-heard, part-answered, plain-answer, joined-heard, heard-on, heard-history}
 use Rattle.interpreter.proofs.demands.histories.Pieces.{after-append, newline-after}
+use Rattle.interpreter.proofs.demands.refused.LineBegins.{newline-fresh}
 use Rattle.interpreter.proofs.demands.refused.Agreement.{over-cores, event-agree}
 use Rattle.interpreter.proofs.demands.refused.Watching.{then-watch, event-watch}
 use Rattle.interpreter.proofs.demands.Demand2.{demand2}
@@ -88,6 +89,14 @@ any-chunks s t m n _ _ r (chunk {u = u} {k = k} {input = input} {output = output
 started-quiet : (m : Memory) → powerUp m .core .answer ≡ []
 unfolding powerUp
 started-quiet m = refl
+
+pub lines-begin-heard : LinesBeginHeard
+unfolding powerUp linesOf heard happens piece byte if_then_else_
+lines-begin-heard m = (
+  (refl, refl),
+  λ before.
+      subst (λ (b : Box). Fresh (b .core)) (sym (heard-on before (10 ∷ []) (powerUp m) (started-quiet m))) (newline-fresh (heard (powerUp m) (linesOf before))),
+)
 
 -- ---- one line
 

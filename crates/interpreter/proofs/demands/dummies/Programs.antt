@@ -3,22 +3,28 @@
 use mathlib.Core.Path.{_≡_, refl, sym, _∙_, ap, subst}
 use mathlib.Core.Bool.{Bool, true, false, false≢true}
 use mathlib.Core.List.{List, [], _∷_, _++_}
-use Prim.Native.Nat.{ℕ, zero, suc}
+use Prim.Native.Nat.{ℕ, zero, suc, zero-le}
+use Prim.Native.Char.{code}
 use native.Mathlib.Omega.{arith}
 use lib.Dec.{eqb, leb, ltb}
 use lib.ListN as L
 use lib.ListN.{length, drop}
-use lib.Seq.{take-at}
-use Rattle.registers.specs.Text.{Text, if_then_else_, empty, every}
+use lib.Seq.{take-at, take-all}
+use borrow.Author.Tests.{eqb-true, ltb-false}
+use Rattle.registers.specs.Text.{Text, if_then_else_, empty, every, white}
+use Rattle.registers.specs.Check.{Checked, refused, passed}
 use Rattle.registers.specs.Number.{number}
 use Rattle.registers.specs.Group.{widestGroup}
+use Rattle.interpreter.specs.Cuts.{cutOpen}
+use Rattle.interpreter.specs.Reply.{joined}
 use Rattle.interpreter.specs.Box as lent
 use Rattle.interpreter.specs.Box.{Core, Box, box, powerUp, blank, mostLine}
-use Rattle.interpreter.specs.Line.{interrupted, unitsOf, held, byte, piece, newlines}
+use Rattle.interpreter.specs.Line.{Obeyed, attempt, refuse, next, finished, interrupted, unitsOf, held, byte, piece, newlines}
 use Rattle.interpreter.specs.Events.{Event, started, received, take, condition, look, altered, mislent, Happened, taken, reported, happens}
-use Rattle.interpreter.specs.Dummies.{Program, reached, tellsNext, RefusesUnits, refusingByte, refusingPiece, refusing, refuser, unheard, IgnoresPieces, ignorer, oneLine, AnswersAlike, answering, fixedAnswer, noStart, OnlyFirstLine, firstByte, firstPiece, firstOnly, firstLiner, firstCounter, Invents, inventor, AreSo}
+use Rattle.interpreter.specs.Dummies.{Program, reached, tellsNext, RefusesUnits, refusingByte, refusingPiece, refusing, refuser, unheard, IgnoresPieces, ignorer, oneLine, AnswersAlike, answering, fixedAnswer, instead, eachUnit, eachByte, eachPiece, eachAnswer, noStart, OnlyFirstLine, firstByte, firstPiece, firstOnly, firstLiner, firstCounter, Invents, inventor, AreSo}
 use Rattle.interpreter.proofs.Choices.{if-elim}
-use Rattle.interpreter.proofs.Lists.{is-empty}
+use Rattle.interpreter.proofs.Lists.{is-empty, no-bytes}
+use Rattle.interpreter.proofs.flow.Laws.{piece-held}
 
 -- what every event leaves holds in every history
 reached-so : (p : Program) (P : p .Memory → Type 0) → ((m : p .Memory) (e : Event) → P m → P (p .keeps m e))
@@ -92,6 +98,12 @@ module _ (a : Text) where
     nothing : empty (b .core .answer) ≡ true → One b
     this : b .core .answer ≡ a → One b
 
+  one-none : (b : Box) → empty (b .core .answer) ≡ true → One b
+  one-none b e = nothing e
+
+  one-this : (b : Box) → b .core .answer ≡ a → One b
+  one-this b e = this e
+
   answering-one : (b : Box) → One (answering a b)
   unfolding answering
   answering-one b = if-elim One (empty (b .core .answer)) (λ e. nothing e) (λ _. this refl)
@@ -113,6 +125,71 @@ module _ (a : Text) where
       let p = fixedAnswer a in
       one-alike (reached p (powerUp blank) (oneLine l)) buffer
       (reached-so p One (λ b e _. answering-one (happens b e .box)) (oneLine l) (powerUp blank) (nothing (ap empty (start-answerless blank))))
+
+-- ---- one answer or none waits after a first line of one unit, where each query is answered alike
+
+plain-byte : (a : Text) (b : Box) (x : ℕ) → eqb x 10 ≡ false → eachByte a b x ≡ byte b x
+unfolding eachByte byte if_then_else_
+plain-byte a b x e = rw e
+
+-- bytes before a newline are held as the box holds them
+each-held : (a l : Text) (b : Box) → newlines l ≡ 0 → eachPiece a b (l ++ 10 ∷ []) ≡ eachByte a (piece b l) 10
+unfolding eachPiece piece newlines if_then_else_
+each-held a [] b z = refl
+each-held a (x ∷ l) b z = go (eqb x 10) refl z (λ c k. each-held a l c k)
+  where
+    go : (t : Bool) → eqb x 10 ≡ t → (if t then suc (newlines l) else newlines l) ≡ 0
+        → ((c : Box) → newlines l ≡ 0 → eachPiece a c (l ++ 10 ∷ []) ≡ eachByte a (piece c l) 10)
+        → eachPiece a (eachByte a b x) (l ++ 10 ∷ []) ≡ eachByte a (piece (byte b x) l) 10
+    go true e k more = absurd (omega (arith, k))
+    go false e k more = ap (λ (c : Box). eachPiece a c (l ++ 10 ∷ [])) (plain-byte a b x e) ∙ more (byte b x) k
+
+-- a line that isn't overlong is held whole
+held-whole : (l : Text) → newlines l ≡ 0 → piece (powerUp blank) l .core .overlong ≡ false → piece (powerUp blank) l .core .line ≡ l
+unfolding powerUp
+held-whole l z =
+    rw (piece-held l (powerUp blank) z zero-le) (λ o. let h = ltb-false mostLine (length l) o in take-all mostLine l (omega arith))
+
+module _ (a : Text) where
+  -- before the newline that ends the answers
+  data Half (b : Box) : Type 0 where
+    none : b .core .answer ≡ [] → Half b
+    some : b .core .answer ≡ a → Half b
+
+  whole : (b : Box) → Half b → empty (b .core .answer) ≡ false → b .core .answer ++ 10 ∷ [] ≡ a ++ 10 ∷ []
+  whole b (none q) e = absurd (false≢true (sym e ∙ ap empty q))
+  whole b (some q) e = ap (λ (t : Text). t ++ 10 ∷ []) q
+
+  finish : (b : Box) → Half b → One (a ++ 10 ∷ []) (finished b)
+  unfolding finished
+  finish b h =
+      if-elim (One (a ++ 10 ∷ [])) (empty (b .core .answer)) (λ e. one-none (a ++ 10 ∷ []) b e) (λ e. one-this (a ++ 10 ∷ []) _ (whole b h e))
+
+  one-unit : (c : Box) → Answerless c → (o : Checked Obeyed) → Half (next (λ p d. eachUnit a [] p (instead a c d)) c o)
+  unfolding eachUnit refuse joined if_then_else_
+  one-unit c q (refused n) = none (if-elim Answerless (eqb n 430) (λ _. refl) (λ _. q))
+  one-unit c q (passed o) =
+      if-elim Half (eqb (length (o .box .core .answer)) (length (c .core .answer)))
+      (λ e. none (no-bytes (o .box .core .answer) (eqb-true _ _ e ∙ ap length q))) (λ _. some (ap (λ (t : Text). joined t a) q))
+
+  units-half : (l line : Text) (c : Box) → Answerless c → line ≡ l → cutOpen (code ";") 0 l ≡ l ∷ [] → Half (eachUnit a (unitsOf line) [] c)
+  unfolding unitsOf eachUnit
+  units-half l line c q is one =
+      if-elim (λ (us : List Text). Half (eachUnit a us [] c)) (every white line) (λ _. none q)
+      (λ _. subst (λ (us : List Text). Half (eachUnit a us [] c)) (sym (ap (cutOpen (code ";") 0) is ∙ one)) (one-unit c q (attempt [] c l)))
+
+  line-one : (l : Text) (b : Box) → (b .core .overlong ≡ false → b .core .line ≡ l) → cutOpen (code ";") 0 l ≡ l ∷ [] → One (a ++ 10 ∷ []) (eachByte a b 10)
+  unfolding eachByte if_then_else_
+  line-one l b is one =
+      let q = interrupted-answerless _ in
+      if-elim (One (a ++ 10 ∷ [])) (b .core .overlong) (λ _. one-none (a ++ 10 ∷ []) _ (ap empty q))
+      (λ o. finish _ (units-half l (b .core .line) _ q (is o) one))
+
+  each-is : AnswersAlike (a ++ 10 ∷ []) (eachAnswer a)
+  unfolding happens reached
+  each-is l buffer one z t =
+      one-alike (a ++ 10 ∷ []) (eachPiece a (powerUp blank) (l ++ 10 ∷ [])) buffer
+      (subst (One (a ++ 10 ∷ [])) (sym (each-held a l (powerUp blank) z)) (line-one l (piece (powerUp blank) l) (held-whole l z) one))
 
 -- ---- the ignorer remembers no piece
 
@@ -204,6 +281,7 @@ are-so =
       refuser = refuser-is;
       ignorer = ignorer-is;
       fixedAnswer = fixed-is;
+      eachAnswer = each-is;
       firstLiner = first-is;
       firstCounter = counter-is;
       firstObeyed = λ l h. obeyed-first l (powerUp blank) h;
