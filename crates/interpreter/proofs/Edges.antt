@@ -6,17 +6,15 @@ use Prim.Native.Nat.{ℕ, zero, suc, _+_, _≤_, _<_, zero-le}
 use Prim.Native.Char.{code}
 use native.Mathlib.Omega.{arith}
 use lib.Dec.{ltb}
-use lib.IntN.{pos}
-use lib.ListN.{length, take, replicate, length-replicate, length-append}
+use lib.ListN.{length, take, length-replicate, length-append}
 use lib.Seq.{take-all}
 use borrow.Author.Tests.{lt-ltb, le-ltb}
-use Rattle.registers.specs.Text.{Text, if_then_else_, bytes, same, white, visible, printable, digit, letter, wordByte, small, capital, every, after as afterAll}
+use Rattle.registers.specs.Text.{Text, if_then_else_, bytes, same, white, printable, digit, letter, wordByte, small, capital, every, after as afterAll}
 use Rattle.registers.specs.Check.{_>>=_, _>>_, check}
 use Rattle.registers.specs.Words.{shortForm, longForm, matches}
 use Rattle.registers.specs.Number.{afterSign, fractionOf, afterFraction, exponentOf, afterExponent, lowering, written, numeralFrom, decimalOf, valueOf, scaled, number}
 use Rattle.registers.specs.Suffix.{suffixes, noSuffix, powerIn, remains}
 use Rattle.registers.specs.Rounding.{nearest, sizeIn, rounded, sizeSide, sideIn}
-use Rattle.registers.specs.Error.{eventBit}
 use Rattle.registers.specs.Settings.{table, settingAt, atReset, wideRange, lowest, highest, within, conflict, examined, accepted, slots, narrow}
 use Rattle.registers.specs.Status.{raised, atStart}
 use Rattle.registers.specs.Label.{mayStand, closes, undoubled, padded}
@@ -24,11 +22,11 @@ use Rattle.interpreter.specs.Cuts.{cutAt, quoteNext, cutOpen, trimEnd, t
 use Rattle.interpreter.specs.Header.{name, placed, header, spells, bodyOf, byFirst, numbered, nodeMatches, suffixIn}
 use Rattle.interpreter.specs.Rows.{settingRows, otherRows, rows, fitsRow, findRow, secondOf, onChannel, findRole}
 use Rattle.interpreter.specs.Parameter.{labelDeed, parameters, least, greatest, findWord, parameter, valueGiven, settingDeed, deedOf, readFigure, readWord}
-use Rattle.interpreter.specs.Unit.{allowed, headerText, parameterText, readUnit}
+use Rattle.interpreter.specs.Unit.{allowed, readUnit}
 use Rattle.interpreter.specs.Box.{Box, powerUp, blank, mostLine, mostAnswer}
 use Rattle.interpreter.specs.Perform.{permitted, changed, perform}
 use Rattle.interpreter.specs.Reply.{joined, fitsAnswer}
-use Rattle.interpreter.specs.Line.{attempt, runUnits, interrupted, finished, unitsOf, runLine, endLine, atNewline, piece, newlines}
+use Rattle.interpreter.specs.Line.{attempt, runUnits, interrupted, finished, unitsOf, runLine, endLine, newlines}
 use Rattle.interpreter.specs.Events.{received, happens, after}
 use Rattle.interpreter.specs.Demand3.{inLine}
 use Rattle.interpreter.specs.Edges.{letters, lineOf, spaces, spaced, Runs, Overruns, Edges}

@@ -2,14 +2,12 @@
 -- they differ in a line alone, the pieces before it and those after it do.
 use mathlib.Core.Path.{_≡_}
 use mathlib.Core.List.{List, [], _∷_, _++_, map}
-use Prim.Native.Nat.{ℕ}
 use lib.ListN as L
 use Rattle.registers.specs.Text.{Text}
 use Rattle.interpreter.specs.Box.{Memory, Box}
 use Rattle.interpreter.specs.Line.{newlines}
 use Rattle.interpreter.specs.Events.{Event, started, received, take, condition, look, altered, mislent, Result, result}
 use Rattle.interpreter.specs.Histories.{isPiece, howMany, resultsOf, chosen}
-use Rattle.interpreter.specs.Calls.{Calls}
 use Rattle.interpreter.specs.OfCalls.{Ran}
 use Rattle.interpreter.specs.declared.state.State.{State}
 

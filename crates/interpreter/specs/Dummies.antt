@@ -261,8 +261,9 @@ inventor k = record { Memory = Box; start = first; tells = invented k; keeps = �
 -- ---- all five are rejected, and each of the programs above is one of them
 
 pub record Rejected : Type 1 where
-  -- the public functions are none of them: functions that keep their promises meet the definition, and whatever calls of them told since a power-up,
+  -- the public functions are none of them: functions that keep their promises are there, and meet the definition, and whatever calls of them told since a power-up,
   -- each known by its own promise, is what the definition tells
+  pub someKeep : (begins : State) × (does : Does) × Promised begins does
   pub functionsMeet : (begins : State) (does : Does) → Promised begins does → Meets (functions begins does)
   pub callsTell : (s t : State) (n : lent.Memory) (es : List Event) (rs : List Result) → Started s → Calls t n s blank es rs → rs ≡ results first es
   pub refusers : (p : Program) → Meets p → RefusesUnits p → ⊥

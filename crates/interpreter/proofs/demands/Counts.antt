@@ -1,6 +1,6 @@
 -- Counts piece by piece.
 use mathlib.Core.Path.{_≡_, refl, sym, _∙_, ap}
-use mathlib.Core.List.{List, [], _∷_, _++_, map, append-assoc}
+use mathlib.Core.List.{List, [], _∷_, _++_, append-assoc}
 use lib.ListN as L
 use lib.Seq.{take-at, drop-at}
 use Rattle.registers.specs.Text.{if_then_else_}

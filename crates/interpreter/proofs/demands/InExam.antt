@@ -1,5 +1,5 @@
 -- Exam mode on a whole unit (02, #107): over settings that differ in it alone, every check is the same but the one of a number's side.
-use mathlib.Core.Path.{_≡_, refl, sym, _∙_, ap}
+use mathlib.Core.Path.{_≡_, refl, _∙_, ap}
 use mathlib.Core.Bool.{Bool, true, false, not}
 use mathlib.Core.List.{List, [], _∷_}
 use Prim.Native.Nat.{ℕ, zero, suc}
@@ -9,7 +9,7 @@ use lib.Signed.{leZ}
 use borrow.Author.Tests.{not-true}
 use Rattle.registers.specs.Text.{Text, if_then_else_, every, first}
 use Rattle.registers.specs.Check.{Checked, refused, passed, _>>=_, _>>_, check}
-use Rattle.registers.specs.Settings.{Kind, bool, words, number, table, kindOf, range, range2, exam, wideRange, narrow, highest, within, examined, accepted}
+use Rattle.registers.specs.Settings.{Kind, bool, words, number, table, kindOf, range, range2, exam, wideRange, narrow, highest, within, accepted}
 use Rattle.registers.specs.Label.{textIn}
 use Rattle.registers.specs.declared.rounding.Side.{Side}
 use Rattle.registers.specs.declared.rounding.Side.the-variants.{On, Below, Above}
@@ -17,9 +17,9 @@ use Rattle.registers.specs.declared.settings.Settings.{Settings}
 use Rattle.registers.specs.declared.status.Register.{Register}
 use Rattle.registers.proofs.Tests.{and-both}
 use Rattle.interpreter.specs.Cuts.{isQuote}
-use Rattle.interpreter.specs.Header.{Header, header, isCommon, fullNames, pathAfter}
-use Rattle.interpreter.specs.Rows.{Row, rows, settingRows, otherRows, fitsRow, findRow, secondOf, onSecond, onChannel, findRole}
-use Rattle.interpreter.specs.Parameter.{parameters, Given, Word, Figure, limitAt, limitGiven, valueGiven, sideGiven, putGiven, settingDeed, limitDeed, registerGiven, registerSide, registerDeed, storeGiven, labelDeed, placeGiven, savingDeed, deedOf}
+use Rattle.interpreter.specs.Header.{Header, isCommon, fullNames, pathAfter}
+use Rattle.interpreter.specs.Rows.{Row, rows, settingRows, otherRows, fitsRow, findRow, onSecond, onChannel, findRole}
+use Rattle.interpreter.specs.Parameter.{parameters, Given, Word, Figure, limitAt, limitGiven, valueGiven, sideGiven, putGiven, settingDeed, limitDeed, registerDeed, storeGiven, labelDeed, placeGiven, savingDeed, deedOf}
 use Rattle.interpreter.specs.Unit.{Read, parameterText, readUnit}
 use Rattle.interpreter.specs.Exam.{Switched, offStep, inExam, ExamUnits}
 use Rattle.interpreter.specs.declared.deed.Deed.{Deed}

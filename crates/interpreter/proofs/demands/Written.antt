@@ -17,8 +17,8 @@ use Rattle.interpreter.specs.Box.{Memory, rightSize, Core, Box, box, wit
 use Rattle.registers.specs.Status.{Trouble}
 use Rattle.interpreter.specs.Line.{endLine, byte, piece}
 use Rattle.interpreter.specs.Events.{Event, received, happens, after}
-use Rattle.interpreter.specs.Histories.{newline, moments}
-use Rattle.interpreter.specs.State.{boxOf, possibleState, Started}
+use Rattle.interpreter.specs.Histories.{moments}
+use Rattle.interpreter.specs.State.{boxOf, Started}
 use Rattle.interpreter.specs.Server.{linesOf, heardLine, heard, answersTo, hearing}
 use Rattle.interpreter.specs.Demand3.{keep, cutLine, lineRefusal, inLine, atEnd, asSent, asCut, Fresh, ALine, Watch, neither, asked, cleared, thenWatch, watchEvent, watch, Agree}
 use Rattle.interpreter.specs.Written.{Written, done, chunk, Ready, AnyChunks, LinesBeginHeard, beginning, ending, SentLine, cutText, input, afterLine, watchHeard, AgreeTexts, Demand3OfProgram}

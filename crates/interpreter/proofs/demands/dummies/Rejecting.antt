@@ -1,15 +1,14 @@
 -- The dummies of 01 are rejected: a program that meets the definition tells of each event what the definition tells, and after a line
 -- or two that differs from what the dummy tells.
 use mathlib.Core.Path.{_≡_, refl, sym, _∙_, ap, ap₂}
-use mathlib.Core.Bool.{Bool, true}
+use mathlib.Core.Bool.{true}
 use mathlib.Core.List.{List, [], _∷_, _++_, head-eq-of-cons-eq}
-use Prim.Native.Nat.{ℕ, suc}
+use Prim.Native.Nat.{suc}
 use Prim.Native.Char.{code}
 use Prim.Native.String.{String}
 use native.Mathlib.Omega.{arith}
 use lib.ListN as L
-use lib.ListN.{length, drop, replicate, length-replicate}
-use borrow.Author.Tests.{eq-eqb}
+use lib.ListN.{length, drop, replicate}
 use lib.Seq.{drop-at}
 use Rattle.registers.specs.Text.{Text, if_then_else_, every, bytes, same, white, printable, digit, letter, wordByte, small, capital}
 use Rattle.registers.specs.Check.{_>>=_, _>>_, check}
@@ -28,7 +27,7 @@ use Rattle.interpreter.specs.Rows.{settingRows, otherRows, rows, fitsRow
 use Rattle.interpreter.specs.Parameter.{labelDeed, parameters, least, greatest, findWord, parameter, valueGiven, settingDeed, deedOf, readFigure, readWord}
 use Rattle.interpreter.specs.Unit.{readUnit}
 use Rattle.interpreter.specs.Box as lent
-use Rattle.interpreter.specs.Box.{Box, box, powerUp, blank, rightSize, storeSize}
+use Rattle.interpreter.specs.Box.{Box, box, powerUp, blank, rightSize}
 use Rattle.interpreter.specs.Perform.{permitted, changed, perform}
 use Rattle.interpreter.specs.Reply.{replyTo, joined, fitsAnswer, reply}
 use Rattle.interpreter.specs.Line.{attempt, runUnits, interrupted, finished, unitsOf, runLine, endLine, held, byte, piece, newlines}
@@ -37,6 +36,7 @@ use Rattle.interpreter.specs.State.{boxOf, possibleState, Started}
 use Rattle.interpreter.specs.Calls.{Calls}
 use Rattle.interpreter.specs.declared.state.State.{State}
 use Rattle.interpreter.specs.Dummies.{typed, Typed, Program, told, reached, tellsNext, Meets, theBox, Promised, functions, Does, RefusesUnits, unheard, oneLine, IgnoresPieces, AnswersAlike, OnlyFirstLine, Invents, Rejected}
+use Rattle.interpreter.proofs.demands.dummies.Model.{some-keep, blank-size}
 use Rattle.interpreter.proofs.demands.calls.AsHistory.{happens-there, calls-are-a-history}
 
 -- ---- what a program that meets the definition tells of one more event
@@ -77,10 +77,6 @@ functions-tell begins does h s m k p q (e ∷ es) t =
     let one = happens-there s (d .1) m (d .2) e (d .0) (kept .0) p q in
     ap₂ _∷_ (ap (λ (x : Happened). x .result) (one .1))
     (functions-tell begins does h (d .1) (d .2) (kept .1) (one .0) (one .2) es (these .1) ∙ ap (λ (x : Happened). results (x .box) es) (one .1))
-
-blank-size : rightSize blank ≡ true
-unfolding rightSize blank
-blank-size = eq-eqb _ _ (length-replicate {A = ℕ} storeSize 0)
 
 functions-meet : (begins : State) (does : Does) → Promised begins does → Meets (functions begins does)
 functions-meet begins does h es t =
@@ -197,6 +193,7 @@ module _ (p : Program) (m : Meets p) where
 pub rejected : Rejected
 rejected =
     record {
+      someKeep = some-keep;
       functionsMeet = functions-meet;
       callsTell = calls-tell;
       refusers = no-refuser;

@@ -1,8 +1,6 @@
 -- Demand 3 of what is written holds of something: a line that is refused at its second unit, after another line, and each outcome of what comes
 -- first in the lines after it. Computed from the definitions.
 use mathlib.Core.Path.{_≡_, refl}
-use mathlib.Core.List.{[], _∷_}
-use Prim.Native.Nat.{ℕ}
 use Prim.Native.String.{String}
 use native.Mathlib.Omega.{arith}
 use Rattle.registers.specs.Text.{Text, if_then_else_, bytes, same, white, printable, digit, letter, wordByte, small, capital}
