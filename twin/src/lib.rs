@@ -11,6 +11,7 @@ mod header;
 mod line;
 mod number;
 pub mod paper;
+mod session;
 mod settings;
 mod setups;
 mod state;
@@ -22,6 +23,7 @@ mod unit;
 
 pub use answer::{Answer, ANSWER_LIMIT};
 pub use line::{Line, LINE_LIMIT};
+pub use session::{Difference, Marker, Verdict};
 pub use settings::{Settings, SETTINGS, SETTINGS_OF_ONE};
 pub use setups::{Store, BLOCK_LENGTH, PLACES, STORE_LENGTH};
 pub use state::{Refusal, State};

@@ -1,4 +1,4 @@
-//! The three programs, run as programs.
+//! bench24, player and histories, run as programs.
 
 use std::io::Write;
 use std::process::{Child, Command, Stdio};
