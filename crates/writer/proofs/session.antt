@@ -1,0 +1,5 @@
+pub mod Bytes
+pub mod Serving
+pub mod Feeding
+pub mod Verdicts
+pub mod Calls
