@@ -239,19 +239,19 @@ def rows(name):
 
 
 def sessions(name):
-    """Every session of a page, as (where, steps): indented lines that begin with `> `, `< ` or `# `."""
+    """Every session of a page, as (where, steps): indented lines that begin with `>` or `<`, as a saved session has them, or with `# `."""
     found = []
     for number, line in enumerate(lines_of(name), 1):
-        mark, text = line[4:6], line[6:]
-        if not line.startswith('    ') or mark not in ('> ', '< ', '# '):
+        mark, text = ('#', line[6:]) if line[4:6] == '# ' else (line[4:5], line[5:])
+        if not line.startswith('    ') or mark not in ('>', '<', '#') or line[4:] == '#':
             if found:
                 yield found
             found = []
-        elif mark == '> ':
+        elif mark == '>':
             found.append(('%s:%d' % (name, number), Step(line=text)))
-        elif mark == '# ' and text in EVENTS:
+        elif mark == '#' and text in EVENTS:
             found.append(('%s:%d' % (name, number), Step(event=text)))
-        elif mark == '< ' and found:
+        elif mark == '<' and found:
             found[-1][1].answer = text
         else:
             sys.exit('%s:%d: an answer before any line, or nothing that can happen' % (name, number))
