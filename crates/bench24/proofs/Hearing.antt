@@ -6,14 +6,15 @@ use Prim.Native.Nat.{ℕ, _+_, _-_, _≤_, _<_, zero-le}
 use native.Mathlib.Omega.{arith}
 use lib.ListN.{length, take, drop, length-drop}
 use Rattle.registers.specs.Text.{Text}
-use Rattle.registers.specs.Settings.{count}
-use Rattle.interpreter.specs.Box.{powerUp, mostAnswer}
+use Rattle.registers.specs.Settings.{AsLong}
+use Rattle.interpreter.specs.Box.{Memory, memory, storeSize, rightSize, powerUp, mostAnswer}
 use Rattle.interpreter.specs.State.{boxOf, possibleState, Started}
 use Rattle.interpreter.specs.Server.{linesOf, WholeLines, heard, hearing, Serves}
 use Rattle.interpreter.specs.Calls.{Brings}
 use Rattle.interpreter.specs.declared.state.State.{State}
 use Rattle.interpreter.proofs.Lists.{rest-is}
 use Rattle.interpreter.proofs.Possible.{power-up-fit}
+use Rattle.interpreter.proofs.state.Events.{size-right}
 use Rattle.interpreter.proofs.server.Bytes.{lines-whole, whole-further}
 use Rattle.interpreter.proofs.server.Headway.{reads-within, reads-some}
 use Rattle.interpreter.proofs.server.Heard.{left-long, part-heard, heard-append, heard-on, heard-history}
@@ -23,28 +24,32 @@ use Rattle.bench24.specs.declared.Bench.{Bench}
 -- ---- what was read: a part of it is served, then the rest
 
 -- what was served so far was heard
-pub record Hearing (start : State) (room : ℕ) (input output : Text) (state : State) (at : ℕ) : Type 0 where
+pub record Hearing (start : State) (store₀ : Text) (room : ℕ) (input store output : Text) (state : State) (at : ℕ) : Type 0 where
+  pub sized : length store ≡ storeSize
   pub outputs : length output ≡ room
   pub within : at ≤ length input
   pub possible : possibleState state ≡ true
-  pub long : length (state .settings .values) ≡ count
+  pub long : AsLong (state .settings)
   pub whole : WholeLines at input
-  pub box : boxOf state ≡ heard (boxOf start) (linesOf (take at input))
+  pub box : boxOf state (memory store) ≡ heard (boxOf start (memory store₀)) (linesOf (take at input))
 
-pub hear-begun : (start : State) (input output : Text) → possibleState start ≡ true → length (start .settings .values) ≡ count
-    → Hearing start (length output) input output start 0
+pub hear-begun : (start : State) (store input output : Text) → possibleState start ≡ true → AsLong (start .settings)
+    → length store ≡ storeSize → Hearing start store (length output) input store output start 0
 unfolding linesOf heard
-hear-begun start input output p long = record { outputs = refl; within = zero-le; possible = p; long = long; whole = refl; box = refl }
+hear-begun start store input output p long l = record { sized = l; outputs = refl; within = zero-le; possible = p; long = long; whole = refl; box = refl }
 
-module _ (start state : State) (room at : ℕ) (input output : Text) (g : Hearing start room input output state at)
-    (t : State) (number read written : ℕ) (outputs′ : Text)
-    (w : Serves state (take (length input - at) (drop at input)) output number read written t outputs′) where
-  served : Serves state (drop at input) output number read written t outputs′
+module _ (start state : State) (store₀ : Text) (room at : ℕ) (input store output : Text) (g : Hearing start store₀ room input store output state at)
+    (t : State) (number read written : ℕ) (stored outputs′ : Text)
+    (w : Serves state (memory store) (take (length input - at) (drop at input)) output number read written t (memory stored) outputs′) where
+  served : Serves state (memory store) (drop at input) output number read written t (memory stored) outputs′
   served = rw (rest-is input at (g .within)) at w
+
+  right : rightSize (memory store) ≡ true
+  right = size-right store (g .sized)
 
   pub read-within : at + read ≤ length input
   read-within =
-      let r = reads-within _ _ _ _ _ _ _ _ served (g .possible) in
+      let r = reads-within _ _ _ _ _ _ _ _ _ _ served right (g .possible) in
       let n = length-drop at input in
       let h = g .within in
       omega arith
@@ -53,27 +58,28 @@ module _ (start state : State) (room at : ℕ) (input output : Text) (g : Hearin
   read-some h more =
       let same = g .outputs in
       let n = length-drop at input in
-      reads-some _ _ _ _ _ _ _ _ served (g .possible) (omega arith) (omega arith)
+      reads-some _ _ _ _ _ _ _ _ _ _ served right (g .possible) (omega arith) (omega arith)
 
   pub wrote-within : written ≤ length outputs′
-  wrote-within = served .possible (g .possible) .2
+  wrote-within = served .possible right (g .possible) .2
 
-  pub hear-on : length outputs′ ≡ length output → Hearing start room input outputs′ t (at + read)
-  hear-on same =
-      let part = part-heard _ _ _ _ _ _ _ _ served (g .possible) (g .long) in
+  pub hear-on : length stored ≡ length store → length outputs′ ≡ length output → Hearing start store₀ room input stored outputs′ t (at + read)
+  hear-on kept same =
+      let part = part-heard _ _ _ _ _ _ _ _ _ _ served right (g .possible) (g .long) in
       let further = whole-further input at read read-within (g .whole) (part .0) in
       record {
+        sized = kept ∙ g .sized;
         outputs = same ∙ g .outputs;
         within = read-within;
-        possible = served .possible (g .possible) .0;
-        long = left-long _ _ _ _ _ _ _ _ served (g .possible) (g .long);
+        possible = served .possible right (g .possible) .0;
+        long = left-long _ _ _ _ _ _ _ _ _ _ served right (g .possible) (g .long);
         whole = further .0;
-        box = rw (further .1, heard-append (boxOf start) (linesOf (take at input)) (linesOf (take read (drop at input))), ← g .box) (part .1);
+        box = rw (further .1, heard-append (boxOf start (memory store₀)) (linesOf (take at input)) (linesOf (take read (drop at input))), ← g .box) (part .1);
       }
 
 -- a write failed, or all was heard
-module _ (start state : State) (room at : ℕ) (input output : Text) (g : Hearing start room input output state at) where
-  pub hear-stop : 0 < at → HeardPart start input (record { state = state; serving = false })
+module _ (start state : State) (store₀ : Text) (room at : ℕ) (input store output : Text) (g : Hearing start store₀ room input store output state at) where
+  pub hear-stop : 0 < at → HeardPart start (memory store₀) input (record { state = state; serving = false }) (memory store)
   hear-stop some =
       record {
         possible = g .possible;
@@ -85,7 +91,7 @@ module _ (start state : State) (room at : ℕ) (input output : Text) (g : Hearin
         all = λ e. absurd (false≢true e);
       }
 
-  pub hear-end : length input ≤ at → (serving : Bool) → HeardPart start input (record { state = state; serving = serving })
+  pub hear-end : length input ≤ at → (serving : Bool) → HeardPart start (memory store₀) input (record { state = state; serving = serving }) (memory store)
   hear-end h serving =
       let k = g .within in
       record {
@@ -100,25 +106,26 @@ module _ (start state : State) (room at : ℕ) (input output : Text) (g : Hearin
 
 -- ---- reads one after the other
 
-pub since-begun : (s : State) → Started s → HeardSince s
+pub since-begun : (m : Memory) (s : State) → Started s → HeardSince m s m
 unfolding linesOf heard
-since-begun s w = record { possible = w .possible; bytes = []; box = w .first }
+since-begun m s w = record { possible = w .possible; bytes = []; box = w .first m }
 
-quiet-start : powerUp .core .answer ≡ []
+quiet-start : (m : Memory) → powerUp m .core .answer ≡ []
 unfolding powerUp
-quiet-start = refl
+quiet-start m = refl
 
-pub since-on : (s : State) (input : Text) (r : Bench) → HeardSince s → HeardPart s input r → HeardSince (r .state)
-since-on s input r h w =
+pub since-on : (m₀ : Memory) (s : State) (m : Memory) (input : Text) (r : Bench) (n : Memory) → HeardSince m₀ s m → HeardPart s m input r n
+    → HeardSince m₀ (r .state) n
+since-on m₀ s m input r n h w =
     let more = take (w .bytes) input in
     record {
       possible = w .possible;
       bytes = h .bytes ++ more;
-      box = w .box ∙ rw (h .box, heard-on (h .bytes) more powerUp quiet-start);
+      box = w .box ∙ rw (h .box, heard-on (h .bytes) more (powerUp m₀) (quiet-start m₀));
     }
 
 -- what the program has heard since power-up is a history, whatever bytes are lent to its takes: so the demands speak of the program
-pub a-history : (s : State) (h : HeardSince s) (room : Text) → mostAnswer ≤ length room
-    → Brings (h .bytes) powerUp (boxOf s) (hearing room powerUp (linesOf (h .bytes)))
-a-history s h room long =
-    rw (h .box) (rw (lines-whole (h .bytes)) at (heard-history room long powerUp (linesOf (h .bytes)) power-up-fit))
+pub a-history : (m : Memory) (s : State) (n : Memory) (h : HeardSince m s n) (room : Text) → mostAnswer ≤ length room
+    → Brings (h .bytes) (powerUp m) (boxOf s n) (hearing room (powerUp m) (linesOf (h .bytes)))
+a-history m s n h room long =
+    rw (h .box) (rw (lines-whole (h .bytes)) at (heard-history room long (powerUp m) (linesOf (h .bytes)) (power-up-fit m)))

@@ -7,7 +7,7 @@ use Prim.Native.Char.{code}
 use lib.Dec.{ltb}
 use lib.ListN.{length-replicate}
 use Rattle.registers.specs.Text.{if_then_else_, every}
-use Rattle.interpreter.specs.Box.{powerUp, mostLine, mostAnswer}
+use Rattle.interpreter.specs.Box.{powerUp, blank, mostLine, mostAnswer}
 use Rattle.interpreter.specs.Reply.{joined, fitsAnswer}
 use Rattle.interpreter.specs.Line.{newlines}
 use Rattle.interpreter.specs.Events.{happens, after}
@@ -25,9 +25,9 @@ unfolding inLine
 under-way zero = refl
 under-way (suc n) = under-way n
 
-pub overlong-is : (n : ℕ) → after powerUp (lineOf n) .core .overlong ≡ ltb mostLine n
+pub overlong-is : (n : ℕ) → after (powerUp blank) (lineOf n) .core .overlong ≡ ltb mostLine n
 unfolding powerUp happens after
-overlong-is n = rw (piece-held (letters n) powerUp (no-newline n) zero-le, length-replicate n (code "X"))
+overlong-is n = rw (piece-held (letters n) (powerUp blank) (no-newline n) zero-le, length-replicate n (code "X"))
 
 fits-is : (n : ℕ) → fitsAnswer [] (letters n) ≡ ltb n mostAnswer
 unfolding joined fitsAnswer if_then_else_

@@ -8,29 +8,32 @@ use Rattle.registers.specs.Suffix.{suffixes, noSuffix, powerIn, remains}
 use Rattle.registers.specs.Rounding.{switchedOn, nearest, sizeIn, rounded, sizeSide, sideIn}
 use Rattle.registers.specs.Answer.{inPlaces, decimal, tenths}
 use Rattle.registers.specs.Error.{eventBit}
-use Rattle.registers.specs.Settings.{table, settingAt, atReset, wideRange, lowest, highest, within, conflict, examined, accepted, answerOf}
+use Rattle.registers.specs.Settings.{table, slots, narrow, settingAt, atReset, wideRange, lowest, highest, within, conflict, examined, accepted, answerOf}
 use Rattle.registers.specs.Group.{rises, falls, eventsAfter, conditionIs, eventRead}
 use Rattle.registers.specs.Status.{raised, completed, withoutBit6, setBits, summary, statusByte, storedIn, registerIn, atStart}
-use Rattle.interpreter.specs.Cuts.{cutAt, trimEnd, trim}
-use Rattle.interpreter.specs.Header.{name, placed, header, spells, bodyOf, byFirst}
-use Rattle.interpreter.specs.Rows.{settingRows, otherRows, rows, fitsRow, findRow}
-use Rattle.interpreter.specs.Parameter.{parameters, least, greatest, findWord, parameter, valueGiven, settingDeed, limitDeed, registerDeed, deedOf, storeGiven, readFigure, readWord}
+use Rattle.registers.specs.Label.{mayStand, closes, undoubled, padded, possibleText}
+use Rattle.interpreter.specs.Cuts.{cutAt, quoteNext, cutOpen, trimEnd, trim}
+use Rattle.interpreter.specs.Header.{name, placed, header, spells, bodyOf, byFirst, numbered, nodeMatches, suffixIn}
+use Rattle.interpreter.specs.Rows.{settingRows, otherRows, rows, fitsRow, findRow, secondOf, onChannel, findRole}
+use Rattle.interpreter.specs.Parameter.{labelDeed, parameters, least, greatest, findWord, parameter, valueGiven, settingDeed, limitDeed, registerDeed, deedOf, storeGiven, placeGiven, savingDeed, readFigure, readWord}
 use Rattle.interpreter.specs.Unit.{readUnit}
-use Rattle.interpreter.specs.Box.{powerUp}
-use Rattle.interpreter.specs.Perform.{permitted, changed, perform}
+use Rattle.registers.specs.Settings as limits
+use Rattle.registers.specs.Setup.{weighted, lowFirst, inBytes, checks, shifted, unshifted, valueIn, valuesIn, savedText, readIn, marked, settingsIn, bytesOf, body, contents, blockOf, recallable, blockAt, savedAt}
+use Rattle.interpreter.specs.Box.{powerUp, blank}
+use Rattle.interpreter.specs.Perform.{permitted, changed, setUp, perform}
 use Rattle.interpreter.specs.Reply.{replyTo, inquiryText, joined, fitsAnswer, reply}
 use Rattle.interpreter.specs.Line.{attempt, refuse, runUnits, interrupted, finished, unitsOf, runLine, endLine, held, byte, piece}
 use Rattle.interpreter.specs.Events.{reported, happens, after}
-use Rattle.interpreter.specs.Examples.{examples, outcome, ran, allSet, expected, AllHold}
+use Rattle.interpreter.specs.Examples.{examples, sameValues, outcome, ran, allSet, expected, AllHold}
 
 pub all-hold : AllHold
 unfolding if_then_else_ bytes same white printable digit letter wordByte small capital _>>=_ _>>_ check shortForm longForm matches
     afterSign fractionOf afterFraction exponentOf afterExponent lowering written numeralFrom decimalOf valueOf scaled suffixes noSuffix powerIn remains number
     switchedOn nearest sizeIn rounded sizeSide sideIn inPlaces decimal tenths eventBit
-    table settingAt atReset wideRange lowest highest within conflict examined accepted answerOf raised completed withoutBit6 rises falls eventsAfter conditionIs eventRead setBits summary statusByte storedIn registerIn atStart
-    cutAt trimEnd trim name placed bodyOf byFirst header spells settingRows otherRows rows fitsRow findRow
-    parameters least greatest findWord parameter readWord readFigure valueGiven settingDeed limitDeed registerDeed storeGiven deedOf readUnit powerUp
-    permitted changed replyTo inquiryText joined fitsAnswer reply perform
+    slots table settingAt atReset wideRange lowest highest narrow within conflict examined accepted answerOf raised completed withoutBit6 rises falls eventsAfter conditionIs eventRead setBits summary statusByte storedIn registerIn atStart
+    mayStand closes undoubled padded labelDeed cutAt quoteNext cutOpen trimEnd trim name placed bodyOf byFirst header numbered nodeMatches suffixIn spells settingRows otherRows rows fitsRow findRow secondOf onChannel findRole
+    parameters least greatest findWord parameter readWord readFigure valueGiven settingDeed limitDeed registerDeed storeGiven placeGiven savingDeed deedOf readUnit powerUp blank
+    permitted changed setUp weighted lowFirst inBytes checks shifted unshifted valueIn valuesIn savedText readIn marked settingsIn bytesOf body contents blockOf recallable blockAt savedAt limits.possibleSettings limits.possibleValues possibleText replyTo inquiryText joined fitsAnswer reply perform
     attempt refuse runUnits interrupted finished unitsOf runLine endLine held byte piece reported happens after
-    examples outcome ran allSet expected
+    examples sameValues outcome ran allSet expected
 all-hold = refl

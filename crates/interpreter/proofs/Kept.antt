@@ -11,13 +11,13 @@ use Rattle.registers.specs.Queue.{mayBeQueued, queueable}
 use Rattle.registers.proofs.Tests.{and-both}
 use Rattle.interpreter.specs.Box.{Box, answerIs, raise}
 use Rattle.interpreter.specs.Unit.{raisable, Read, readUnit}
-use Rattle.interpreter.specs.UnitParts.{Allowed}
+use Rattle.interpreter.specs.UnitParts.{Allowed, AllowedText}
 use Rattle.interpreter.specs.Perform.{perform}
 use Rattle.interpreter.specs.Line.{Obeyed, attempt, refuse, next, runUnits, finished, runLine, endLine, atNewline}
 use Rattle.interpreter.specs.declared.deed.Deed.{Deed}
 use Rattle.interpreter.proofs.Choices.{if-elim}
 use Rattle.interpreter.proofs.Checks.{Holds, passes, hold-bind, holds-from}
-use Rattle.interpreter.proofs.unit.Allowed.{read-allowed, read-known}
+use Rattle.interpreter.proofs.unit.Allowed.{read-allowed, text-allowed, read-known}
 use Rattle.interpreter.proofs.perform.Permitted.{Lets, hold-permitted}
 
 -- what a unit raises may stand in the queue
@@ -25,7 +25,7 @@ pub raisable-queueable : (n : ℕ) → raisable n ≡ true → mayBeQueued n ≡
 raisable-queueable n e = and-both (mayBeQueued n) _ e .0
 
 module _ (P : Box → Type 0)
-    (performs : (d : Deed) (b : Box) → Allowed (b .core .settings) d → Lets d (b .core) → P b → Holds P (perform d b))
+    (performs : (d : Deed) (t : Text) (b : Box) → Allowed (b .core .settings) d → AllowedText d t → Lets d (b .core) → P b → Holds P (perform d t b))
     (raises : (n : ℕ) (b : Box) → mayBeQueued n ≡ true → P b → P (raise n b))
     (drops : (b : Box) → P b → P (answerIs [] b)) where
   abbrev Keeps : Obeyed → Type 0
@@ -35,10 +35,10 @@ module _ (P : Box → Type 0)
   unfolding attempt
   attempt-keeps path b u f =
       let s = b .core .settings in
-      hold-bind (λ (r : Read). Allowed s (r .deed)) Keeps _ _
-      (holds-from (readUnit s path u) (λ r e. read-allowed s path u e) (λ n e. read-known s path u e)) (λ r a.
+      hold-bind (λ (r : Read). Allowed s (r .deed) × AllowedText (r .deed) (r .text)) Keeps _ _
+      (holds-from (readUnit s path u) (λ r e. (read-allowed s path u e, text-allowed s path u e)) (λ n e. read-known s path u e)) (λ r a.
       hold-permitted (r .deed) (b .core) Keeps _ (λ l.
-      hold-bind P Keeps _ _ (performs (r .deed) b a l f) (λ c g. passes g)))
+      hold-bind P Keeps _ _ (performs (r .deed) (r .text) b (a .0) (a .1) l f) (λ c g. passes g)))
 
   refuse-keeps : (n : ℕ) (b : Box) → mayBeQueued n ≡ true → P b → P (refuse n b)
   unfolding refuse

@@ -7,4 +7,5 @@ pub mod Bounds
 pub mod Possible
 pub mod Edges
 pub mod Examples
+pub mod Setups
 pub mod demands

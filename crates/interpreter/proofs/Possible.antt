@@ -11,19 +11,19 @@ use borrow.Author.Tests.{leb-true, le-leb, ltb-true}
 use Rattle.registers.specs.Text.{Text, empty}
 use Rattle.registers.specs.Queue.{mayBeQueued, queueable}
 use Rattle.registers.specs.Group.{widestGroup, possibleGroup}
-use Rattle.registers.specs.Settings.{count, atReset, possibleSettings}
+use Rattle.registers.specs.Settings.{atReset, possibleSettings, AsLong}
 use Rattle.registers.specs.Status.{possibleRegisters, possibleTrouble, atStart}
 use Rattle.registers.proofs.Tests.{and-both, and-true}
 use Rattle.registers.proofs.settings.Possible as limits
 use Rattle.registers.proofs.settings.Possible.{reset-possible}
 use Rattle.registers.proofs.status.Possible as status
 use Rattle.registers.proofs.status.Possible.{condition-fit}
-use Rattle.interpreter.specs.Box.{Core, Box, box, powerUp, mostLine, mostAnswer}
+use Rattle.interpreter.specs.Box.{Memory, Core, Box, box, powerUp, mostLine, mostAnswer}
 use Rattle.interpreter.specs.Line.{unitsOf, interrupted, finished, runLine, endLine, held, byte, piece}
-use Rattle.interpreter.specs.Events.{Event, started, received, take, condition, look, Happened, taken, reported, happens, possibleCore, possible, Own, after}
+use Rattle.interpreter.specs.Events.{Event, started, received, take, condition, look, altered, mislent, Happened, taken, reported, happens, possibleCore, possible, Own, after}
 use Rattle.interpreter.proofs.Lists.{is-empty}
 use Rattle.interpreter.proofs.Choices.{if-elim}
-use Rattle.interpreter.proofs.Bounds.{FitCore, Fit, running, fit, fit-registers, fit-line, fit-answer, reset-long, raise-fit, answered-fit, dropped-fit, units-fit}
+use Rattle.interpreter.proofs.Bounds.{FitCore, Fit, running, fit, fit-registers, fit-line, fit-answer, fit-memory, reset-long, raise-fit, answered-fit, dropped-fit, units-fit}
 
 -- ---- lines
 
@@ -75,22 +75,23 @@ piece-fit b (x ∷ xs) f = piece-fit (byte b x) xs (byte-fit b x f)
 
 -- ---- events
 
-start-fits : (possibleRegisters (powerUp .core .registers) ≡ true) × (possibleTrouble (powerUp .trouble) ≡ true)
+start-fits : (m : Memory) → (possibleRegisters (powerUp m .core .registers) ≡ true) × (possibleTrouble (powerUp m .trouble) ≡ true)
 unfolding powerUp atStart possibleRegisters possibleTrouble possibleGroup
-start-fits = (refl, refl)
+start-fits m = (refl, refl)
 
-pub power-up-fit : Fit mostAnswer powerUp
+pub power-up-fit : (m : Memory) → Fit mostAnswer (powerUp m)
 unfolding powerUp
-power-up-fit =
+power-up-fit m =
     record {
       core = record {
         settings = limits.good-from atReset reset-possible;
+        text = limits.text-from atReset reset-possible;
         long = reset-long;
-        registers = status.fit-from _ (start-fits .0);
+        registers = status.fit-from _ (start-fits m .0);
         line = zero-le;
         answer = zero-le;
       };
-      trouble = status.good-from _ (start-fits .1);
+      trouble = status.good-from _ (start-fits m .1);
     }
 
 abbrev FitHappened : Happened → Type 0
@@ -98,7 +99,7 @@ FitHappened h = Fit mostAnswer (h .box)
 
 pub event-fit : (b : Box) (e : Event) → Fit mostAnswer b → Fit mostAnswer (happens b e .box)
 unfolding happens taken reported mayBeQueued queueable
-event-fit b started f = power-up-fit
+event-fit b started f = power-up-fit (b .core .memory)
 event-fit b (received xs) f = piece-fit b xs f
 event-fit b (take buffer) f =
     if-elim FitHappened (empty (b .core .answer)) (λ _. raise-fit 420 mostAnswer b refl f)
@@ -111,6 +112,9 @@ event-fit b (condition x n) f =
     (f .trouble))
     (λ _. f)
 event-fit b look f = f
+event-fit b (altered i x) f =
+    fit mostAnswer _ _ (fit-memory mostAnswer (b .core) (f .core) _) (f .trouble)
+event-fit b (mislent buffer) f = f
 
 pub history-fit : (b : Box) (es : List Event) → Fit mostAnswer b → Fit mostAnswer (after b es)
 unfolding after
@@ -119,7 +123,7 @@ history-fit b (e ∷ es) f = history-fit (happens b e .box) es (event-fit b e f)
 
 -- ---- the same as the test of number 4
 
-pub fit-from : (b : Box) → length (b .core .settings .values) ≡ count → possible b ≡ true → Fit mostAnswer b
+pub fit-from : (b : Box) → AsLong (b .core .settings) → possible b ≡ true → Fit mostAnswer b
 unfolding possible possibleCore
 fit-from b long e =
     let c = b .core in
@@ -130,6 +134,7 @@ fit-from b long e =
     record {
       core = record {
         settings = limits.good-from (c .settings) (q .0);
+        text = limits.text-from (c .settings) (q .0);
         long = long;
         registers = status.fit-from (c .registers) (r .0);
         line = leb-true (length (c .line)) mostLine (s .0);
@@ -143,7 +148,7 @@ unfolding possible possibleCore
 fit-to b f =
     let c = f .core in
     let sizes = and-true (le-leb _ _ (c .line)) (le-leb _ _ (c .answer)) in
-    and-true (and-true (limits.good-to _ (c .settings)) (and-true (status.fit-to _ (c .registers)) sizes)) (status.good-to _ (f .trouble))
+    and-true (and-true (limits.good-to _ (c .settings) (c .text)) (and-true (status.fit-to _ (c .registers)) sizes)) (status.good-to _ (f .trouble))
 
 pub own-fit : (b : Box) → Own b → Fit mostAnswer b
 own-fit b o = fit-from b (o .values) (o .could)
@@ -151,18 +156,18 @@ own-fit b o = fit-from b (o .values) (o .could)
 pub fit-own : (b : Box) → Fit mostAnswer b → Own b
 fit-own b f = record { could = fit-to b f; values = f .core .long }
 
--- what an event leaves could again be the box's, and still has seventeen settings
-pub still-possible : (b : Box) (e : Event) → length (b .core .settings .values) ≡ count → possible b ≡ true
+-- what an event leaves could again be the box's, and its settings are as long as before
+pub still-possible : (b : Box) (e : Event) → AsLong (b .core .settings) → possible b ≡ true
     → possible (happens b e .box) ≡ true
 still-possible b e long p = fit-to _ (event-fit b e (fit-from b long p))
 
-pub still-counted : (b : Box) (e : Event) → length (b .core .settings .values) ≡ count → possible b ≡ true
-    → length (happens b e .box .core .settings .values) ≡ count
+pub still-counted : (b : Box) (e : Event) → AsLong (b .core .settings) → possible b ≡ true
+    → AsLong (happens b e .box .core .settings)
 still-counted b e long p = event-fit b e (fit-from b long p) .core .long
 
-pub power-up-own : Own powerUp
-power-up-own = fit-own powerUp power-up-fit
+pub power-up-own : (m : Memory) → Own (powerUp m)
+power-up-own m = fit-own (powerUp m) (power-up-fit m)
 
 -- so refusal 4 never comes in a history from power-up
-pub history-possible : (es : List Event) → possible (after powerUp es) ≡ true
-history-possible es = fit-to _ (history-fit powerUp es power-up-fit)
+pub history-possible : (m : Memory) (es : List Event) → possible (after (powerUp m) es) ≡ true
+history-possible m es = fit-to _ (history-fit (powerUp m) es (power-up-fit m))

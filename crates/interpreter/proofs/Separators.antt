@@ -1,14 +1,13 @@
--- A text cut at a separator: no part has one, the first part ends at the first of them, and a text without any is one part.
+-- A text cut at a separator: the first part ends at the first of them, and a text without any is one part.
 use mathlib.Core.Path.{_≡_, refl}
 use mathlib.Core.Bool.{Bool, true, not}
-use mathlib.Core.List.{List, [], _∷_, _++_}
+use mathlib.Core.List.{[], _∷_, _++_}
 use Prim.Native.Nat.{ℕ}
 use lib.Dec.{eqb}
 use borrow.Author.Tests.{eq-eqb, not-true}
 use Rattle.registers.specs.Text.{Text, if_then_else_, every}
 use Rattle.registers.proofs.Tests.{and-both}
-use Rattle.interpreter.specs.Cuts.{joinFirst, cutAt}
-use Rattle.interpreter.proofs.Choices.{if-elim}
+use Rattle.interpreter.specs.Cuts.{cutAt}
 
 -- a byte other than the separator, and a text of such bytes
 abbrev pub other : ℕ → ℕ → Bool
@@ -16,17 +15,6 @@ other s b = not (eqb b s)
 
 unfoldable pub free : ℕ → Text → Bool
 free s u = every (other s) u
-
-join-free : (s b : ℕ) (us : List Text) → other s b ≡ true → every (free s) us ≡ true → every (free s) (joinFirst b us) ≡ true
-unfolding free
-join-free s b [] h t = rw h
-join-free s b (u ∷ us) h t = rw h t
-
-pub cut-free : (s : ℕ) (t : Text) → every (free s) (cutAt s t) ≡ true
-unfolding cutAt free
-cut-free s [] = refl
-cut-free s (b ∷ bs) =
-    if-elim (λ (us : List Text). every (free s) us ≡ true) (eqb b s) (λ _. cut-free s bs) (λ q. join-free s b (cutAt s bs) (rw q) (cut-free s bs))
 
 -- the first part ends at the first separator
 pub cut-more : (s : ℕ) (u v : Text) → free s u ≡ true → cutAt s (u ++ s ∷ v) ≡ u ∷ cutAt s v

@@ -8,5 +8,8 @@ pub mod Demand2
 pub mod Demand3
 pub mod calls
 pub mod Lock
+pub mod Steps
+pub mod isolation
+pub mod Account
 pub mod dummies
 pub mod met

@@ -4,3 +4,5 @@ pub mod Numbers
 pub mod Walks
 pub mod Start
 pub mod Search
+pub mod Suffixes
+pub mod OneSuffix

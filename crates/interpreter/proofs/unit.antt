@@ -5,3 +5,4 @@ pub mod Found
 pub mod Laws
 pub mod Chain
 pub mod Allowed
+pub mod Spans

@@ -3,6 +3,8 @@
 use mathlib.Core.Bool.{Bool, false}
 use mathlib.Core.List.{[]}
 use Prim.Native.Nat.{ℕ}
+use lib.Dec.{eqb}
+use lib.ListN.{length, set, replicate}
 use Rattle.registers.specs.Text.{Text}
 use Rattle.registers.specs.Settings.{atReset}
 use Rattle.registers.specs.Status.{Registers, Trouble, raised, registersOf, troubleOf, atStart}
@@ -16,12 +18,40 @@ mostLine = 4096
 abbrev pub mostAnswer : ℕ
 mostAnswer = 4096
 
+-- 02, #108: "a lent store of ten blocks of 512 bytes"
+abbrev pub storeSize : ℕ
+storeSize = 5120
+
+-- what the caller lends to every event but power-up. It is the caller's, so it outlives a power-up
+pub record Memory : Type 0 where
+  pub store : Text
+
+abbrev pub memory : Text → Memory
+memory t = record { store = t }
+
+-- it is of the right size; otherwise number 5
+unfoldable pub rightSize : Memory → Bool
+rightSize m = eqb (length (m .store)) storeSize
+
+-- a store of zeros
+unfoldable pub blank : Memory
+blank = memory (replicate storeSize 0)
+
+-- another store in it
+abbrev pub withStore : Text → Memory → Memory
+withStore t m = record { store = t }
+
+-- another byte at a place of the store
+abbrev pub alteredIn : ℕ → ℕ → Memory → Memory
+alteredIn i x m = withStore (set (m .store) i x) m
+
 pub record Core : Type 0 where
   pub settings : Settings
   pub registers : Registers
   pub line : Text  -- the bytes of the line so far, at most mostLine
   pub overlong : Bool  -- further bytes were dropped
   pub answer : Text  -- the waiting answer; while a line runs, the answers of its units so far
+  pub memory : Memory  -- as it is lent
 
 pub record Box : Type 0 where
   pub core : Core
@@ -33,16 +63,19 @@ box c t = record { core = c; trouble = t }
 -- ---- a part of the core changed
 
 abbrev pub withSettings : Settings → Core → Core
-withSettings s c = record { settings = s; registers = c .registers; line = c .line; overlong = c .overlong; answer = c .answer }
+withSettings s c = record { settings = s; registers = c .registers; line = c .line; overlong = c .overlong; answer = c .answer; memory = c .memory }
 
 abbrev pub withRegisters : Registers → Core → Core
-withRegisters r c = record { settings = c .settings; registers = r; line = c .line; overlong = c .overlong; answer = c .answer }
+withRegisters r c = record { settings = c .settings; registers = r; line = c .line; overlong = c .overlong; answer = c .answer; memory = c .memory }
 
 abbrev pub withLine : Text → Bool → Core → Core
-withLine l o c = record { settings = c .settings; registers = c .registers; line = l; overlong = o; answer = c .answer }
+withLine l o c = record { settings = c .settings; registers = c .registers; line = l; overlong = o; answer = c .answer; memory = c .memory }
 
 abbrev pub withAnswer : Text → Core → Core
-withAnswer a c = record { settings = c .settings; registers = c .registers; line = c .line; overlong = c .overlong; answer = a }
+withAnswer a c = record { settings = c .settings; registers = c .registers; line = c .line; overlong = c .overlong; answer = a; memory = c .memory }
+
+abbrev pub withMemory : Memory → Core → Core
+withMemory m c = record { settings = c .settings; registers = c .registers; line = c .line; overlong = c .overlong; answer = c .answer; memory = m }
 
 abbrev pub answerIs : Text → Box → Box
 answerIs a b = box (withAnswer a (b .core)) (b .trouble)
@@ -52,7 +85,8 @@ abbrev pub raise : ℕ → Box → Box
 raise n b = box (b .core) (raised n (b .trouble))
 
 -- "Power-up: settings as *RST, event status 128, enables 0, PTR 32,767, NTR 0, condition 0, all else empty"
-unfoldable pub powerUp : Box
-powerUp =
-    box (record { settings = atReset; registers = registersOf atStart; line = []; overlong = false; answer = [] })
+-- The lent memory stays as it is
+unfoldable pub powerUp : Memory → Box
+powerUp m =
+    box (record { settings = atReset; registers = registersOf atStart; line = []; overlong = false; answer = []; memory = m })
     (troubleOf atStart)

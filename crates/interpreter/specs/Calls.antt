@@ -7,30 +7,37 @@ use lib.Dec.{eqb, leb}
 use lib.ListN as L
 use lib.ListN.{length}
 use Rattle.registers.specs.Text.{Text, every}
-use Rattle.interpreter.specs.Box.{Box, mostAnswer}
-use Rattle.interpreter.specs.Events.{Event, started, received, take, condition, look, Result, after, results}
-use Rattle.interpreter.specs.State.{boxOf, possibleState, Happens}
+use Rattle.interpreter.specs.Box.{Memory, rightSize, alteredIn, Box, mostAnswer}
+use Rattle.interpreter.specs.Events.{Event, started, received, take, condition, look, altered, mislent, Result, result, lent, after, results}
+use Rattle.interpreter.specs.State.{boxOf, possibleState, rightly, Happens}
 use Rattle.interpreter.specs.Histories.{answers, sent, copied}
 use Rattle.interpreter.specs.Server.{linesOf, eventsOf, begun, Serves}
 use Rattle.interpreter.specs.declared.state.State.{State}
 
--- one call on a state s left the state t: the events that it makes, and their results. A power-up is a call on any state at all, and a
--- chunk served is the list of its events
-pub data Call (s t : State) : List Event → List Result → Type 0 where
-  event : {e : Event} {r : Result} → Happens s e r t → Call s t (e ∷ []) (r ∷ [])
-  chunk : {input output left : Text} {number read written : ℕ} → Serves s input output number read written t left
-      → Call s t (eventsOf (begun s output) (linesOf input)) (results (boxOf s) (eventsOf (begun s output) (linesOf input)))
+-- one call on a state s with the memory m there left the state t and the memory n: the events that it makes, and their results
+pub data Call (s : State) (m : Memory) (t : State) (n : Memory) : List Event → List Result → Type 0 where
+  -- a function, with this memory lent if it is lent any. A power-up is a call on any state at all
+  event : {e : Event} {r : Result} → rightly m e ≡ true → Happens s m e r t n → Call s m t n (e ∷ []) (r ∷ [])
+  -- a function that was lent another memory, of the wrong size, in the place of this one
+  instead : {w w′ : Memory} {e : Event} {r : Result} → rightly w e ≡ false → Happens s w e r t w′ → n ≡ m → Call s m t n (mislent (lent e) ∷ []) (r ∷ [])
+  -- a chunk served is the list of its events, and with a memory of the wrong size there are none
+  chunk : {input output left : Text} {number read written : ℕ} → rightSize m ≡ true → Serves s m input output number read written t n left
+      → Call s m t n (eventsOf (begun s m output) (linesOf input)) (results (boxOf s m) (eventsOf (begun s m output) (linesOf input)))
+  noChunk : {w w′ : Memory} {input output left : Text} {number read written : ℕ} → rightSize w ≡ false
+      → Serves s w input output number read written t w′ left → n ≡ m → Call s m t n [] []
+  -- no call: the caller alters the store
+  alters : {i x : ℕ} → t ≡ s → n ≡ alteredIn i x m → Call s m t n (altered i x ∷ []) (result 0 0 [] ∷ [])
 
--- each call is given the state that the one before handed back
-pub data Calls (t : State) : State → List Event → List Result → Type 0 where
-  done : Calls t t [] []
-  call : {s u : State} {es fs : List Event} {rs qs : List Result} → Call s u es rs → Calls t u fs qs → Calls t s (es ++ fs) (rs ++ qs)
+-- each call is given the state that the one before handed back, and finds the memory as it was left
+pub data Calls (t : State) (n : Memory) : State → Memory → List Event → List Result → Type 0 where
+  done : Calls t n t n [] []
+  call : {s u : State} {m k : Memory} {es fs : List Event} {rs qs : List Result} → Call s m u k es rs → Calls t n u k fs qs → Calls t n s m (es ++ fs) (rs ++ qs)
 
 -- calls are the definition's history: the same results, and the last state means its box and could be the box's
-pub record History (s t : State) (es : List Event) (rs : List Result) : Type 0 where
+pub record History (s : State) (m : Memory) (t : State) (n : Memory) (es : List Event) (rs : List Result) : Type 0 where
   pub possible : possibleState t ≡ true
-  pub box : boxOf t ≡ after (boxOf s) es
-  pub results : rs ≡ results (boxOf s) es
+  pub box : boxOf t n ≡ after (boxOf s m) es
+  pub results : rs ≡ results (boxOf s m) es
 
 -- ---- a chunk served is a history of pieces and takes
 
@@ -41,6 +48,8 @@ roomy (received xs) = true
 roomy (take buffer) = leb mostAnswer (length buffer)
 roomy (condition x n) = false
 roomy look = false
+roomy (altered i x) = false
+roomy (mislent buffer) = false
 
 -- events that bring these bytes to a box, none of them refused, and lead to that box
 pub record Brings (text : Text) (b c : Box) (es : List Event) : Type 0 where
@@ -50,6 +59,6 @@ pub record Brings (text : Text) (b c : Box) (es : List Event) : Type 0 where
   pub box : after b es ≡ c
 
 -- a call of the chunk server: what it answers and leaves is what its events answer and leave
-pub record ChunkHistory (s t : State) (input left : Text) (read written : ℕ) (es : List Event) : Type 0 where
-  pub events : Brings (L.take read input) (boxOf s) (boxOf t) es
-  pub answers : copied (answers (boxOf s) es) ≡ L.take written left
+pub record ChunkHistory (s t : State) (m n : Memory) (input left : Text) (read written : ℕ) (es : List Event) : Type 0 where
+  pub events : Brings (L.take read input) (boxOf s m) (boxOf t n) es
+  pub answers : copied (answers (boxOf s m) es) ≡ L.take written left

@@ -2,20 +2,20 @@
 use mathlib.Core.Path.{_≡_}
 use mathlib.Core.Bool.{true, false}
 use mathlib.Core.List.{List, [], _∷_}
-use Prim.Native.Nat.{ℕ}
+use Prim.Native.Nat.{ℕ, _≤_}
 use Prim.Native.Char.{code}
 use lib.Dec.{ltb, eqb}
 use lib.ListN.{length}
 use Rattle.registers.specs.Text.{Text, if_then_else_, every, white, empty}
 use Rattle.registers.specs.Check.{refused}
 use Rattle.registers.specs.Group.{widestGroup}
-use Rattle.interpreter.specs.Cuts.{cutAt}
-use Rattle.interpreter.specs.Box.{Box, box, raise, answerIs}
+use Rattle.interpreter.specs.Cuts.{cutOpen}
+use Rattle.interpreter.specs.Box.{Memory, Box, box, raise, answerIs}
 use Rattle.interpreter.specs.Unit.{raisable}
 use Rattle.interpreter.specs.Line.{atNewline, attempt, refuse, runUnits, finished}
-use Rattle.interpreter.specs.Events.{Event, started, received, take, condition, look, Result, result, Happened, happened, happens, lent}
+use Rattle.interpreter.specs.Events.{Event, started, received, take, condition, look, altered, mislent, Result, result, Happened, happened, happens, lent}
 use Rattle.interpreter.specs.Histories.{newline}
-use Rattle.interpreter.specs.State.{boxOf, admitted, Happens}
+use Rattle.interpreter.specs.State.{boxOf, admitted, rightly, Happens}
 use Rattle.interpreter.specs.Demand3.{obeyed, refusal}
 use Rattle.interpreter.specs.declared.state.State.{State}
 
@@ -27,10 +27,12 @@ numberFor b (received xs) = 0
 numberFor b (take buffer) = if empty (b .core .answer) then 2 else (if ltb (length buffer) (length (b .core .answer)) then 1 else 0)
 numberFor b (condition x n) = if ltb widestGroup n then 3 else 0
 numberFor b look = 0
+numberFor b (altered i x) = 0
+numberFor b (mislent buffer) = 5
 
--- "Number 4 is tested first", on the record's own numbers, and for "any but power-up"
-unfoldable pub refusalOf : State → Event → ℕ
-refusalOf s e = if admitted s e then numberFor (boxOf s) e else 4
+-- "Number 4 is tested first", on the record's own numbers, and for "any but power-up"; by 02 (#108) number 5 before it
+unfoldable pub refusalOf : State → Memory → Event → ℕ
+refusalOf s m e = if rightly m e then (if admitted s e then numberFor (boxOf s m) e else 4) else 5
 
 -- ---- its column "What it leaves", by the number. 1: "result gives the needed length"; 2: "error -420 raised"; else the state is
 -- unchanged and the count, length or status byte is 0. The lent buffer is never touched
@@ -38,14 +40,14 @@ refusalOf s e = if admitted s e then numberFor (boxOf s) e else 4
 abbrev pub leaves : Box → Event → ℕ → Happened
 leaves b e n = happened (result n (if eqb n 1 then length (b .core .answer) else 0) (lent e)) (if eqb n 2 then raise 420 b else b)
 
--- a call, known by its promise alone, left the result r and the state t
-pub record Refuses (s : State) (e : Event) (r : Result) (t : State) : Type 0 where
-  pub number : r .number ≡ refusalOf s e
-  pub left : (refusalOf s e ≡ 0 → ⊥) → happened r (boxOf t) ≡ leaves (boxOf s) e (refusalOf s e)
-  pub untouched : refusalOf s e ≡ 4 → t ≡ s
+-- a call, known by its promise alone, left the result r, the state t and the lent memory n
+pub record Refuses (s : State) (m : Memory) (e : Event) (r : Result) (t : State) (n : Memory) : Type 0 where
+  pub number : r .number ≡ refusalOf s m e
+  pub left : (refusalOf s m e ≡ 0 → ⊥) → happened r (boxOf t n) ≡ leaves (boxOf s m) e (refusalOf s m e)
+  pub untouched : 4 ≤ refusalOf s m e → (t ≡ s) × (n ≡ m)
 
 abbrev pub EventRefusals : Type 0
-EventRefusals = (s t : State) (e : Event) (r : Result) → Happens s e r t → Refuses s e r t
+EventRefusals = (s t : State) (m n : Memory) (e : Event) (r : Result) → Happens s m e r t n → Refuses s m e r t n
 
 -- ---- "The first refused unit raises one error and changes nothing else (but check 9 drops the answer), and the rest of the
 -- line is dropped"
@@ -75,8 +77,8 @@ pub record LineRefused (b after : Box) : Type 0 where
   pub blank : b .core .overlong ≡ false → every white (b .core .line) ≡ true → after ≡ atNewline b
   -- "Otherwise the line is cut at every `;`"; a unit raises no -363 and no -410
   pub units : b .core .overlong ≡ false → every white (b .core .line) ≡ false
-      → after ≡ finished (unitsLeave (cutAt (code ";") (b .core .line)) (atNewline b))
-  pub ofUnit : let n = refusal (cutAt (code ";") (b .core .line)) [] (atNewline b) in (n ≡ 0 → ⊥) → raisable n ≡ true
+      → after ≡ finished (unitsLeave (cutOpen (code ";") 0 (b .core .line)) (atNewline b))
+  pub ofUnit : let n = refusal (cutOpen (code ";") 0 (b .core .line)) [] (atNewline b) in (n ≡ 0 → ⊥) → raisable n ≡ true
 
 abbrev pub LineRefusals : Type 0
 LineRefusals = (b : Box) → LineRefused b (happens b newline .box)

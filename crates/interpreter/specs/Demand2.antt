@@ -3,15 +3,18 @@
 use mathlib.Core.Path.{_≡_}
 use mathlib.Core.Bool.{true, false}
 use mathlib.Core.List.{List, [], _∷_, _++_}
-use Prim.Native.Nat.{ℕ, _+_, _<_}
+use Prim.Native.Nat.{ℕ, _+_, _≤_, _<_}
 use lib.ListN as L
 use lib.Signed.{leZ}
 use Rattle.registers.specs.Text.{Text, white, every, empty}
 use Rattle.registers.specs.Check.{passed}
-use Rattle.registers.specs.Settings.{count, voltage, twelveVolts, wideRange, kindOf, valueAt, within, answerOf, atReset}
+use Rattle.registers.specs.Settings.{count, voltage, range, voltage2, range2, twelveVolts, wideRange, kindOf, valueAt, displayed, within, answerOf, atReset}
+use Rattle.registers.specs.Label.{mostText, mayStand, quotedText}
+use Rattle.registers.specs.declared.settings.Settings.{Settings}
 use Rattle.registers.specs.Status.{allRead, locked}
+use Rattle.registers.specs.declared.settings.Settings.{Settings}
 use Rattle.interpreter.specs.Header.{Header, header, isCommon, fullNames}
-use Rattle.interpreter.specs.Rows.{rows, findRow}
+use Rattle.interpreter.specs.Rows.{findRole}
 use Rattle.interpreter.specs.Box.{Box, box, withSettings, withRegisters, withLine}
 use Rattle.interpreter.specs.Unit.{readUnit}
 use Rattle.interpreter.specs.Perform.{perform}
@@ -19,10 +22,12 @@ use Rattle.interpreter.specs.Line.{unitsOf, piece, newlines}
 use Rattle.interpreter.specs.Events.{Event, take, Result, happens, Own, after}
 use Rattle.interpreter.specs.Histories.{newline, Recut, replies, counted}
 use Rattle.interpreter.specs.Demand3.{inLine, lineRefusal}
-use Rattle.interpreter.specs.declared.deed.Deed.the-variants.{Change, Clear, Query}
+use Rattle.interpreter.specs.declared.deed.Deed.the-variants.{Change, Clear, Query as asked}
+use Rattle.interpreter.specs.declared.deed.Query.{Query}
 use Rattle.interpreter.specs.declared.deed.Change.the-variants.{Reset}
-use Rattle.interpreter.specs.declared.deed.Query.the-variants.{Value}
-use Rattle.interpreter.specs.declared.deed.Role.the-variants.{Setting}
+use Rattle.interpreter.specs.declared.deed.Query.the-variants.{Value, Label}
+use Rattle.interpreter.specs.declared.deed.Role.{Role}
+use Rattle.interpreter.specs.declared.deed.Role.the-variants.{Setting, Label as labelRole}
 
 -- ---- "Settings never leave their limits", in any history
 
@@ -30,19 +35,27 @@ abbrev pub WithinLimits : Type 0
 WithinLimits = (b : Box) → Own b → (es : List Event) (i : ℕ) → i < count →
     let s = after b es .core .settings in within s i (valueAt s i) ≡ true
 
--- "a voltage above its range" never comes
+-- the text's limits "are the length and the bytes that are accepted" (02, #109)
+abbrev pub TextWithinLimits : Type 0
+TextWithinLimits = (b : Box) → Own b → (es : List Event) →
+    let t = displayed (after b es .core .settings) in (every mayStand t ≡ true) × (L.length t ≤ mostText)
+
+-- "a voltage above its range" never comes, on either channel (02, #111)
+pub record InRange (s : Settings) : Type 0 where
+  pub first : wideRange s range ≡ false → leZ (valueAt s voltage) twelveVolts ≡ true
+  pub second : wideRange s range2 ≡ false → leZ (valueAt s voltage2) twelveVolts ≡ true
+
 abbrev pub WithinRange : Type 0
-WithinRange = (b : Box) → Own b → (es : List Event) →
-    let s = after b es .core .settings in wideRange s ≡ false → leZ (valueAt s voltage) twelveVolts ≡ true
+WithinRange = (b : Box) → Own b → (es : List Event) → InRange (after b es .core .settings)
 
 -- ---- "*RST the settings only"; "*CLS clears the event status register, the operation event register and the queue, nothing else", by 02 (#104)
 -- "all three event registers"
 
 abbrev pub ResetsOnly : Type 0
-ResetsOnly = (b : Box) → perform (Change Reset) b ≡ passed (box (withSettings atReset (b .core)) (b .trouble))
+ResetsOnly = (t : Text) (b : Box) → perform (Change Reset) t b ≡ passed (box (withSettings atReset (b .core)) (b .trouble))
 
 abbrev pub ClearsOnly : Type 0
-ClearsOnly = (b : Box) → perform Clear b ≡ passed (box (withRegisters (allRead (b .core .registers)) (b .core)) (record { events = 0; queue = [] }))
+ClearsOnly = (t : Text) (b : Box) → perform Clear t b ≡ passed (box (withRegisters (allRead (b .core .registers)) (b .core)) (record { events = 0; queue = [] }))
 
 -- ---- "A piece behaves as its bytes one at a time", and so as its parts; its count is the sum of theirs. In whatever pieces the
 -- bytes of a history come, the state, the results of all other events and the sum of the pieces' counts are the same
@@ -56,17 +69,36 @@ InAnyPieces = (b : Box) (h g : List Event) → Recut h g → (after b h ≡ afte
 
 -- ---- the round trip
 
+-- a setting: one of the table's, by its row, or the display's text (02, #109)
+pub data Which : Type 0 where
+  tabled : ℕ → Which
+  display : Which
+
+-- its query, what its header is for, and its answer
+abbrev pub queryOf : Which → Query
+queryOf (tabled i) = Value i
+queryOf display = Label
+
+abbrev pub roleOf : Which → Role
+roleOf (tabled i) = Setting i
+roleOf display = labelRole
+
+abbrev pub answerTo : Which → Settings → Text
+answerTo (tabled i) s = answerOf (kindOf i) (valueAt s i)
+answerTo display s = quotedText (displayed s)
+
 -- a box whose waiting line is a query of setting i without parameter, in any spelling, alone
-pub record Asks (i : ℕ) (b : Box) : Type 0 where
+pub record Asks (i : Which) (b : Box) : Type 0 where
   pub whole : b .core .overlong ≡ false
   pub alone : unitsOf (b .core .line) ≡ b .core .line ∷ []
   pub path : List Text
-  pub asks : readUnit (b .core .settings) [] (b .core .line) ≡ passed (record { deed = Query (Value i); path = path })
+  pub text : Text
+  pub asks : readUnit (b .core .settings) [] (b .core .line) ≡ passed (record { deed = asked (queryOf i); text = text; path = path })
 
 -- what then waits is the setting's value
 abbrev pub Answered : Type 0
-Answered = (b : Box) → Own b → (i : ℕ) (before : List Event) → Asks i (after b before) →
-    after b (before ++ newline ∷ []) .core .answer ≡ answerOf (kindOf i) (valueAt (after b before .core .settings) i) ++ 10 ∷ []
+Answered = (b : Box) → Own b → (i : Which) (before : List Event) → Asks i (after b before) →
+    after b (before ++ newline ∷ []) .core .answer ≡ answerTo i (after b before .core .settings) ++ 10 ∷ []
 
 -- an event took an answer: these bytes and a newline
 pub record Took (a : Text) (r : Result) : Type 0 where
@@ -74,14 +106,14 @@ pub record Took (a : Text) (r : Result) : Type 0 where
   pub bytes : L.take (r .value) (r .buffer) ≡ a ++ 10 ∷ []
 
 -- a header of setting i, not as a query, in any spelling
-pub record Spelling (i : ℕ) (h : Text) : Type 0 where
+pub record Spelling (i : Which) (h : Text) : Type 0 where
   pub read : Header
   pub reads : header h ≡ passed read
   pub sets : read .query ≡ false
-  pub row : findRow (isCommon (read .place)) (fullNames (read .place) [] (read .names)) false rows ≡ passed (Setting i)
+  pub row : findRole (isCommon (read .place)) (fullNames (read .place) [] (read .names)) false ≡ passed (roleOf i)
 
 -- a box whose waiting line is such a header with that parameter, alone, with any white space around them
-pub record Sends (i : ℕ) (a : Text) (b : Box) : Type 0 where
+pub record Sends (i : Which) (a : Text) (b : Box) : Type 0 where
   pub whole : b .core .overlong ≡ false
   pub left : Text
   pub header : Text
@@ -113,7 +145,7 @@ pub record Back (asking sending back : Box) : Type 0 where
   pub rest : back ≡ box (withLine [] false (sending .core)) (sending .trouble)
 
 -- a setting's answer is asked for, taken, and sent back, from a state that could be the box's
-pub record Trip (b : Box) (i : ℕ) (a buffer : Text) (r : Result) (before early late : List Event) : Type 0 where
+pub record Trip (b : Box) (i : Which) (a buffer : Text) (r : Result) (before early late : List Event) : Type 0 where
   pub own : Own b
   pub first : every inLine early ≡ true
   pub second : every inLine late ≡ true
@@ -121,20 +153,22 @@ pub record Trip (b : Box) (i : ℕ) (a buffer : Text) (r : Result) (before early
   pub took : Took a r
   pub sends : Sends i a (after b (sentBack before early buffer late))
 
--- the round trip's premises; "no lock bit is 1" (02, #105) as the line that sends the answer back ends
-pub record Premises (b : Box) (i : ℕ) (a buffer : Text) (r : Result) (before early late : List Event) : Type 0 where
+-- the round trip's premises; "no lock bit is 1" (02, #105) as the line that sends the answer back ends. 02 (#108) adds "that none of its events is
+-- refused with number 5": the two newlines and the take are not, since such an event is a `mislent`, and between them one changes nothing
+pub record Premises (b : Box) (i : Which) (a buffer : Text) (r : Result) (before early late : List Event) : Type 0 where
   pub trip : Trip b i a buffer r before early late
   pub free : locked (after b (sentBack before early buffer late) .core .registers) ≡ false
 
 abbrev pub RoundTrip : Type 0
 RoundTrip =
-    (b : Box) (i : ℕ) (a buffer : Text) (before early late h : List Event)
+    (b : Box) (i : Which) (a buffer : Text) (before early late h : List Event)
     → Premises b i a buffer (takenFrom b before early buffer) before early late
     → Recut h (sentBack before early buffer late ++ newline ∷ [])
     → Back (after b before) (after b (sentBack before early buffer late)) (after b h)
 
 pub record Demand2 : Type 0 where
   pub limits : WithinLimits
+  pub text : TextWithinLimits
   pub range : WithinRange
   pub resets : ResetsOnly
   pub clears : ClearsOnly

@@ -9,13 +9,13 @@ use lib.ListN as L
 use lib.ListN.{length, drop}
 use Rattle.registers.specs.Text.{Text, if_then_else_, every}
 use Rattle.registers.specs.Check.{Checked, refused, passed}
-use Rattle.interpreter.specs.Box.{Core, Box, powerUp}
+use Rattle.interpreter.specs.Box.{Memory, Core, Box, powerUp}
 use Rattle.interpreter.specs.Unit.{Read, readUnit}
 use Rattle.interpreter.specs.Line.{Obeyed, attempt, unitsOf, atNewline, byte}
-use Rattle.interpreter.specs.Events.{Event, started, received, take, condition, look, Result, happens, after}
+use Rattle.interpreter.specs.Events.{Event, started, received, take, condition, look, altered, mislent, Result, happens, after}
 use Rattle.interpreter.specs.Histories.{newline, Recut, isTake, isPiece, noPiece, howMany, resultsOf, summed}
 use Rattle.interpreter.specs.declared.deed.Deed.{Deed}
-use Rattle.interpreter.specs.declared.deed.Deed.the-variants.{Change, Complete, Clear, Query, Inquire}
+use Rattle.interpreter.specs.declared.deed.Deed.the-variants.{Change, Complete, Clear, Query, Inquire, Saving}
 
 -- ---- "refused at unit n+1": the first n units, those that are obeyed, and the number of the refusal, or 0
 
@@ -56,6 +56,8 @@ keep k (received xs ∷ es) = received (L.take k xs) ∷ keep (k - length xs) es
 keep k (take buffer ∷ es) = take buffer ∷ keep k es
 keep k (condition x n ∷ es) = condition x n ∷ keep k es
 keep k (look ∷ es) = look ∷ keep k es
+keep k (altered i x ∷ es) = altered i x ∷ keep k es
+keep k (mislent buffer ∷ es) = mislent buffer ∷ keep k es
 
 -- ---- a line in a history: `before` it, its bytes and what else happens `during` it, and its newline
 
@@ -66,16 +68,18 @@ inLine (received xs) = every (λ x. not (eqb x 10)) xs
 inLine (take buffer) = true
 inLine (condition x n) = true
 inLine look = true
+inLine (altered i x) = true
+inLine (mislent buffer) = true
 
--- the box as the newline comes
-abbrev pub atEnd : List Event → List Event → Box
-atEnd before during = after powerUp (before ++ during)
+-- the box as the newline comes; m is the memory that is there at power-up
+abbrev pub atEnd : Memory → List Event → List Event → Box
+atEnd m before during = after (powerUp m) (before ++ during)
 
 abbrev pub asSent : List Event → List Event → List Event
 asSent before during = before ++ during ++ newline ∷ []
 
-abbrev pub asCut : List Event → List Event → List Event
-asCut before during = before ++ keep (length (cutLine (atEnd before during))) during ++ newline ∷ []
+abbrev pub asCut : Memory → List Event → List Event → List Event
+asCut m before during = before ++ keep (length (cutLine (atEnd m before during))) during ++ newline ∷ []
 
 -- no byte of a line has come
 abbrev pub Fresh : Core → Type 0
@@ -83,13 +87,13 @@ Fresh c = (c .line ≡ []) × (c .overlong ≡ false)
 
 -- a line begins at power-up and after every newline
 abbrev pub LinesBegin : Type 0
-LinesBegin = Fresh (powerUp .core) × ((es : List Event) → Fresh (after powerUp (es ++ newline ∷ []) .core))
+LinesBegin = (m : Memory) → Fresh (powerUp m .core) × ((es : List Event) → Fresh (after (powerUp m) (es ++ newline ∷ []) .core))
 
 -- "any line in it that is refused .. by a number other than -430"; of one that is not refused nothing is cut but a blank line's white space
-pub record ALine (before during : List Event) : Type 0 where
-  pub begins : Fresh (after powerUp before .core)
+pub record ALine (m : Memory) (before during : List Event) : Type 0 where
+  pub begins : Fresh (after (powerUp m) before .core)
   pub underWay : every inLine during ≡ true
-  pub other : lineRefusal (atEnd before during) ≡ 430 → ⊥
+  pub other : lineRefusal (atEnd m before during) ≡ 430 → ⊥
 
 -- ---- what comes first afterwards: a unit that asks *ESR?, *STB? or SYST:ERR?, or an obeyed *CLS
 
@@ -110,6 +114,7 @@ watchDeed Complete = neither
 watchDeed Clear = cleared
 watchDeed (Query q) = neither
 watchDeed (Inquire q) = asked
+watchDeed (Saving x p) = neither
 
 -- a unit asks if checks 1 to 7 accept it as such a query, even if -430 then refuses it: the lock and check 8 refuse no query
 abbrev pub watchRead : Checked Read → Watch
@@ -142,6 +147,8 @@ watchEvent b (received xs) = watchPiece b xs
 watchEvent b (take buffer) = neither
 watchEvent b (condition x n) = neither
 watchEvent b look = neither
+watchEvent b (altered i x) = neither
+watchEvent b (mislent buffer) = neither
 
 unfoldable pub watch : Box → List Event → Watch
 watch b [] = neither
@@ -149,7 +156,7 @@ watch b (e ∷ es) = thenWatch (watchEvent b e) (watch (happens b e .box) es)
 
 -- ---- the demand
 
--- two boxes agree "in all but the error queue and the event status register", from an obeyed *CLS on wholly; nothing is said
+-- two boxes agree "in all but the error queue and the event status register", the lent memory too (02, #108), from an obeyed *CLS on wholly; nothing is said
 -- once a unit has asked
 abbrev pub Agree : Watch → Box → Box → Type 0
 Agree neither a b = a .core ≡ b .core
@@ -166,16 +173,16 @@ abbrev pub others : List Event → ℕ
 others = howMany noPiece
 
 -- the history with the line as it was sent left the box a and these results, the one with the line cut the box b and those
-pub record Demand3 (before during later : List Event) (a b : Box) (these those : (Event → Bool) → List Result) : Type 0 where
+pub record Demand3 (m : Memory) (before during later : List Event) (a b : Box) (these those : (Event → Bool) → List Result) : Type 0 where
   -- what comes first afterwards is the same in both
-  pub first : watch (after powerUp (asSent before during)) later ≡ watch (after powerUp (asCut before during)) later
+  pub first : watch (after (powerUp m) (asSent before during)) later ≡ watch (after (powerUp m) (asCut m before during)) later
   -- with nothing `later` it is the state at the line's newline
-  pub state : Agree (watch (after powerUp (asSent before during)) later) a b
+  pub state : Agree (watch (after (powerUp m) (asSent before during)) later) a b
   -- "every answer taken agrees meanwhile"
-  pub taken : AgreeAnswers (watch (after powerUp (asSent before during)) later) (these isTake) (those isTake)
+  pub taken : AgreeAnswers (watch (after (powerUp m) (asSent before during)) later) (these isTake) (those isTake)
   -- "from that *CLS on .. all results agree": those after the results of the events before it
   pub results : (meanwhile onward : List Event) → later ≡ meanwhile ++ onward
-      → watch (after powerUp (asSent before during)) meanwhile ≡ cleared
+      → watch (after (powerUp m) (asSent before during)) meanwhile ≡ cleared
       → drop (others (before ++ during ++ meanwhile)) (these noPiece) ≡ drop (others (before ++ during ++ meanwhile)) (those noPiece)
   -- the pieces' own counts go by the pieces, their sum by the bytes: the cut line has its newline too
   pub counts : summed (these isPiece) ≡ summed (those isPiece)
@@ -183,6 +190,6 @@ pub record Demand3 (before during later : List Event) (a b : Box) (these those :
 -- h is the history with the line as it was sent, h′ the same with the line cut, each in any pieces
 abbrev pub Statement : Type 0
 Statement =
-    (before during later h h′ : List Event) → ALine before during
-    → Recut h (asSent before during ++ later) → Recut h′ (asCut before during ++ later)
-    → Demand3 before during later (after powerUp h) (after powerUp h′) (λ p. resultsOf p powerUp h) (λ p. resultsOf p powerUp h′)
+    (m : Memory) (before during later h h′ : List Event) → ALine m before during
+    → Recut h (asSent before during ++ later) → Recut h′ (asCut m before during ++ later)
+    → Demand3 m before during later (after (powerUp m) h) (after (powerUp m) h′) (λ p. resultsOf p (powerUp m) h) (λ p. resultsOf p (powerUp m) h′)

@@ -7,11 +7,16 @@ use Prim.Native.Nat.{ℕ}
 use lib.Dec.{eqb}
 use lib.ListN as L
 use Rattle.registers.specs.Text.{Text, if_then_else_, empty}
-use Rattle.interpreter.specs.Box.{Box, box, raise, answerIs, powerUp}
+use Rattle.interpreter.specs.Box as lent
+use Rattle.interpreter.specs.Box.{Box, box, raise, answerIs, powerUp, blank}
 use Rattle.interpreter.specs.Line.{unitsOf, atNewline, held, byte, newlines}
-use Rattle.interpreter.specs.Events.{Event, started, received, take, condition, look, Result, result, happens, results}
+use Rattle.interpreter.specs.Events.{Event, started, received, take, condition, look, altered, mislent, Result, result, happens, results}
 use Rattle.interpreter.specs.State.{Happens, Started}
 use Rattle.interpreter.specs.declared.state.State.{State}
+
+-- the first state, with a store of zeros
+abbrev pub first : Box
+first = powerUp blank
 
 -- ---- a program: what it remembers at power-up, what it tells of an event, and what it remembers then
 
@@ -35,19 +40,29 @@ tellsNext p es e = p .tells (reached p (p .start) es) e
 
 -- in every history from power-up it tells what the definition says
 abbrev pub Meets : Program → Type 0
-Meets p = (es : List Event) → told p (p .start) es ≡ results powerUp es
+Meets p = (es : List Event) → told p (p .start) es ≡ results first es
 
 -- the definition itself
 abbrev pub theBox : Program
-theBox = record { Memory = Box; start = powerUp; tells = λ b e. happens b e .result; keeps = λ b e. happens b e .box }
+theBox = record { Memory = Box; start = first; tells = λ b e. happens b e .result; keeps = λ b e. happens b e .box }
 
 -- the public functions, known by their promises alone
-pub record Promised (first : State) (does : State → Event → Result × State) : Type 0 where
-  pub atStart : Started first
-  pub events : (s : State) (e : Event) → Happens s e (does s e .0) (does s e .1)
+abbrev pub Does : Type 0
+Does = State → lent.Memory → Event → Result × State × lent.Memory
 
-abbrev pub functions : State → (State → Event → Result × State) → Program
-functions first does = record { Memory = State; start = first; tells = λ s e. does s e .0; keeps = λ s e. does s e .1 }
+pub record Promised (begins : State) (does : Does) : Type 0 where
+  pub atStart : Started begins
+  pub events : (s : State) (m : lent.Memory) (e : Event) → let d = does s m e in Happens s m e (d .0) (d .1) (d .2)
+
+-- with the memory that they are lent
+abbrev pub functions : State → Does → Program
+functions begins does =
+    record {
+      Memory = State × lent.Memory;
+      start = (begins, blank);
+      tells = λ x e. does (x .0) (x .1) e .0;
+      keeps = λ x e. let d = does (x .0) (x .1) e in (d .1, d .2);
+    }
 
 -- ---- "one that refuses each unit": no query is obeyed, so that no take ever finds an answer
 
@@ -67,14 +82,16 @@ refusingPiece b [] = b
 refusingPiece b (x ∷ xs) = refusingPiece (refusingByte b x) xs
 
 abbrev pub refusing : Box → Event → Box
-refusing b started = powerUp
+refusing b started = powerUp (b .core .memory)
 refusing b (received xs) = refusingPiece b xs
 refusing b (take buffer) = happens b (take buffer) .box
 refusing b (condition x n) = happens b (condition x n) .box
 refusing b look = b
+refusing b (altered i x) = happens b (altered i x) .box
+refusing b (mislent buffer) = b
 
 abbrev pub refuser : Program
-refuser = record { Memory = Box; start = powerUp; tells = λ b e. happens b e .result; keeps = refusing }
+refuser = record { Memory = Box; start = first; tells = λ b e. happens b e .result; keeps = refusing }
 
 -- ---- "one that ignores all pieces": a piece leaves it as it was
 
@@ -82,14 +99,16 @@ abbrev pub IgnoresPieces : Program → Type 0
 IgnoresPieces p = (es : List Event) (xs : Text) → p .keeps (reached p (p .start) es) (received xs) ≡ reached p (p .start) es
 
 abbrev pub ignoring : Box → Event → Box
-ignoring b started = powerUp
+ignoring b started = powerUp (b .core .memory)
 ignoring b (received xs) = b
 ignoring b (take buffer) = happens b (take buffer) .box
 ignoring b (condition x n) = happens b (condition x n) .box
 ignoring b look = b
+ignoring b (altered i x) = happens b (altered i x) .box
+ignoring b (mislent buffer) = b
 
 abbrev pub ignorer : Program
-ignorer = record { Memory = Box; start = powerUp; tells = λ b e. happens b e .result; keeps = ignoring }
+ignorer = record { Memory = Box; start = first; tells = λ b e. happens b e .result; keeps = ignoring }
 
 -- ---- "one with a fixed answer": whatever was asked, all answers that are taken are the same bytes
 
@@ -103,7 +122,7 @@ answering a b = if empty (b .core .answer) then b else answerIs a b
 
 abbrev pub fixedAnswer : Text → Program
 fixedAnswer a =
-    record { Memory = Box; start = powerUp; tells = λ b e. happens b e .result; keeps = λ b e. answering a (happens b e .box) }
+    record { Memory = Box; start = first; tells = λ b e. happens b e .result; keeps = λ b e. answering a (happens b e .box) }
 
 -- ---- "one that obeys the first line and afterwards only reports success": after a first line, a piece leaves it as it was
 
@@ -120,15 +139,17 @@ firstPiece m [] = m
 firstPiece m (x ∷ xs) = firstPiece (firstByte m x) xs
 
 abbrev pub firstOnly : Box × Bool → Event → Box × Bool
-firstOnly m started = (powerUp, false)
+firstOnly m started = (happens (m .0) started .box, false)
 firstOnly m (received xs) = firstPiece m xs
 firstOnly m (take buffer) = (happens (m .0) (take buffer) .box, m .1)
 firstOnly m (condition x n) = (happens (m .0) (condition x n) .box, m .1)
 firstOnly m look = m
+firstOnly m (altered i x) = (happens (m .0) (altered i x) .box, m .1)
+firstOnly m (mislent buffer) = m
 
 abbrev pub firstLiner : Program
 firstLiner =
-    record { Memory = Box × Bool; start = (powerUp, false); tells = λ m e. happens (m .0) e .result; keeps = firstOnly }
+    record { Memory = Box × Bool; start = (first, false); tells = λ m e. happens (m .0) e .result; keeps = firstOnly }
 
 -- ---- "one that invents the newline count (it is the piece's own count)"
 
@@ -142,15 +163,17 @@ invented k b (received xs) = result 0 k []
 invented k b (take buffer) = happens b (take buffer) .result
 invented k b (condition x n) = happens b (condition x n) .result
 invented k b look = happens b look .result
+invented k b (altered i x) = happens b (altered i x) .result
+invented k b (mislent buffer) = happens b (mislent buffer) .result
 
 abbrev pub inventor : ℕ → Program
-inventor k = record { Memory = Box; start = powerUp; tells = invented k; keeps = λ b e. happens b e .box }
+inventor k = record { Memory = Box; start = first; tells = invented k; keeps = λ b e. happens b e .box }
 
 -- ---- all five are rejected, and each of the programs above is one of them
 
 pub record Rejected : Type 1 where
   -- the public functions are none of them
-  pub functionsMeet : (first : State) (does : State → Event → Result × State) → Promised first does → Meets (functions first does)
+  pub functionsMeet : (begins : State) (does : Does) → Promised begins does → Meets (functions begins does)
   pub refusers : (p : Program) → Meets p → RefusesUnits p → ⊥
   pub ignorers : (p : Program) → Meets p → IgnoresPieces p → ⊥
   pub answerers : (p : Program) (a : Text) → Meets p → AnswersAlike a p → ⊥
@@ -164,5 +187,5 @@ pub record AreSo : Type 0 where
   pub firstLiner : OnlyFirstLine firstLiner
   -- it does obey the first line, whatever that is
   pub firstObeyed : (l : Text) → newlines l ≡ 0
-      → firstPiece (powerUp, false) (l ++ 10 ∷ []) ≡ (happens powerUp (received (l ++ 10 ∷ [])) .box, true)
+      → firstPiece (first, false) (l ++ 10 ∷ []) ≡ (happens first (received (l ++ 10 ∷ [])) .box, true)
   pub inventor : (k : ℕ) → Invents (inventor k)

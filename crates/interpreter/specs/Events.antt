@@ -1,4 +1,5 @@
--- "What can happen to the box": the five events, the four refusals of its table, and histories.
+-- "What can happen to the box": the five events, the refusals of its table, and histories. By 02 (#108) the caller lends a memory to every
+-- event but power-up: it is part of the box here, and a history tells where the caller changes it or lends another.
 use mathlib.Core.Path.{_≡_}
 use mathlib.Core.Bool.{Bool, true, not, _&&_}
 use mathlib.Core.List.{List, [], _∷_, _++_}
@@ -7,10 +8,10 @@ use lib.Dec.{leb}
 use lib.ListN.{length, drop}
 use Rattle.registers.specs.Text.{Text, if_then_else_, empty}
 use Rattle.registers.specs.Group.{widestGroup}
-use Rattle.registers.specs.Settings.{count, possibleSettings}
+use Rattle.registers.specs.Settings.{possibleSettings, AsLong}
 use Rattle.registers.specs.Status.{setReported, statusByte, possibleRegisters, possibleTrouble}
 use Rattle.registers.specs.declared.status.RegisterSet.{RegisterSet}
-use Rattle.interpreter.specs.Box.{Core, Box, box, raise, withRegisters, answerIs, powerUp, mostLine, mostAnswer}
+use Rattle.interpreter.specs.Box.{Core, Box, box, raise, withRegisters, withMemory, alteredIn, answerIs, powerUp, mostLine, mostAnswer}
 use Rattle.interpreter.specs.Line.{piece, newlines}
 
 pub data Event : Type 0 where
@@ -19,6 +20,10 @@ pub data Event : Type 0 where
   take : Text → Event  -- with the lent buffer
   condition : RegisterSet → ℕ → Event  -- of a register set
   look : Event
+  -- what the caller does to the store between two of these: the byte at a place becomes another
+  altered : ℕ → ℕ → Event
+  -- a piece, take, condition or look that was lent a store of the wrong length, and the buffer that it was lent
+  mislent : Text → Event
 
 -- the refusal's number in 01's table, or 0; the count, length or status byte; the lent buffer afterwards
 pub record Result : Type 0 where
@@ -57,13 +62,16 @@ reported x n b =
 abbrev pub seen : Box → ℕ
 seen b = statusByte (b .core .registers) (b .trouble) (not (empty (b .core .answer)))
 
--- an event on a state that could be the box's: number 4, which is tested first, is in State.Happens
+-- an event on a state that could be the box's: number 4, which is tested before numbers 1 to 3, is in State.Happens. "A store of the wrong
+-- length makes every event but power-up refuse with a new number 5, as number 4"
 unfoldable pub happens : Box → Event → Happened
-happens b started = happened (result 0 0 []) powerUp
+happens b started = happened (result 0 0 []) (powerUp (b .core .memory))
 happens b (received xs) = happened (result 0 (newlines xs) []) (piece b xs)
 happens b (take buffer) = taken buffer b
 happens b (condition x n) = reported x n b
 happens b look = happened (result 0 (seen b) []) b
+happens b (altered i x) = happened (result 0 0 []) (box (withMemory (alteredIn i x (b .core .memory)) (b .core)) (b .trouble))
+happens b (mislent buffer) = happened (result 5 0 buffer) b
 
 -- the buffer that an event lends; no event but take has one
 abbrev pub lent : Event → Text
@@ -72,6 +80,8 @@ lent (received xs) = []
 lent (take buffer) = buffer
 lent (condition x n) = []
 lent look = []
+lent (altered i x) = []
+lent (mislent buffer) = buffer
 
 -- ---- number 4: the boxes that could be the box's own. State.possibleState says the same of a record
 
@@ -83,10 +93,10 @@ possibleCore c =
 unfoldable pub possible : Box → Bool
 possible b = possibleCore (b .core) && possibleTrouble (b .trouble)
 
--- a state that could be the box's, with as many values as its type says
+-- a state that could be the box's, with settings as long as their type says
 pub record Own (b : Box) : Type 0 where
   pub could : possible b ≡ true
-  pub values : length (b .core .settings .values) ≡ count
+  pub values : AsLong (b .core .settings)
 
 -- ---- histories: events one after the other, the box that they leave and their results
 

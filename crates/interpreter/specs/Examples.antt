@@ -1,17 +1,20 @@
--- 01's "Lines to try" that are marked P, and lines of 02: exam mode (#107), suffixes (#101), the lock and warning registers (#104) and
--- the lock (#105). One table: each line is run from power-up, after other events where its row says so, and compared with what it
+-- 01's "Lines to try" that are marked P, and lines of 02: exam mode (#107), suffixes (#101), the lock and warning registers (#104),
+-- the lock (#105), saved setups (#108), strings (#109) and two channels (#111). One table: each line is run from power-up, after other events where its row says so, and compared with what it
 -- must leave.
 use mathlib.Core.Path.{_≡_}
+use mathlib.Core.Bool.{Bool, true, false, _&&_}
 use mathlib.Core.List.{List, [], _∷_, _++_, map}
 use Prim.Native.Nat.{ℕ, _+_}
 use Prim.Native.String.{String}
 use lib.ListN.{set}
 use lib.IntN.{ℤ, pos}
+use lib.Signed.{leZ}
 use Rattle.registers.specs.Text.{Text, if_then_else_, bytes, empty}
-use Rattle.registers.specs.Settings.{output, voltage, range, exam, atReset, minus}
+use Rattle.registers.specs.Settings.{output, voltage, range, exam, output2, voltage2, range2, atReset, minus}
+use Rattle.interpreter.specs.Rows.{monitor}
 use Rattle.registers.specs.declared.status.RegisterSet.the-variants.{Operation, Lock, Warning}
-use Rattle.interpreter.specs.Box.{Box, powerUp}
-use Rattle.interpreter.specs.Events.{Event, received, condition, look, happens, after}
+use Rattle.interpreter.specs.Box.{Box, powerUp, blank}
+use Rattle.interpreter.specs.Events.{Event, started, received, condition, look, altered, mislent, happens, after}
 
 pub record Example : Type 0 where
   pub before : List Event
@@ -53,6 +56,15 @@ peakLow = 13
 
 abbrev keyLock : ℕ
 keyLock = 15
+
+abbrev powerOn2 : ℕ
+powerOn2 = 18
+
+abbrev rms2 : ℕ
+rms2 = 23
+
+abbrev peakLow2 : ℕ
+peakLow2 = 29
 
 unfoldable pub examples : List Example
 examples =
@@ -133,31 +145,128 @@ examples =
     ∷ following (keyTurned ∷ condition Lock 0 ∷ []) "VOLT 5;:STAT:LOCK?" "4\n" [] ((voltage, pos 50) ∷ []) 0
     ∷ following (sent "STAT:LOCK:PTR 0" ∷ condition Lock 16384 ∷ []) "STAT:LOCK?;:VOLT 5" "0\n" (221 ∷ []) [] 0
     ∷ following (condition Operation 4 ∷ condition Warning 4 ∷ []) "VOLT 5" "" [] ((voltage, pos 50) ∷ []) 0
+    -- saved setups (02, #108): all settings at once, without check 8; the store outlives a power-up
+    ∷ example "VOLT 5;*SAV 3;*RST;*RCL 3;:VOLT?" "5.0\n" [] ((voltage, pos 50) ∷ [])
+    ∷ example "*SAV 1;VOLT:RANG R24V;LEV 20;:CURR:LIM:PEAK:LOW -0.5;*SAV 0;*RCL 1;*RCL 0" "" [] ((voltage, pos 200) ∷ (range, pos 1) ∷ (peakLow, minus 5) ∷ [])
+    ∷ example "*SAV 1;VOLT:RANG R24V;LEV 20;*RCL 1" "" [] []
+    ∷ following (sent "OUTP 1;:SYST:EXAM 1;*SAV 9.4" ∷ started ∷ []) "*RCL 9" "" [] ((output, pos 1) ∷ (exam, pos 1) ∷ []) 0
+    -- its place rounds like a register, and its parameter is a number
+    ∷ example "*SAV 9.5" "" (222 ∷ []) []
+    ∷ example "*RCL -1" "" (222 ∷ []) []
+    ∷ example "*SAV MAX" "" (141 ∷ []) []
+    ∷ example "*SAV?" "" (113 ∷ []) []
+    ∷ example "*SAV" "" (109 ∷ []) []
+    ∷ example "*RCL 1,2" "" (108 ∷ []) []
+    -- -314 for a block that was never saved, and for one of whose bytes one is altered
+    ∷ example "VOLT 5;*RCL 0;:VOLT 6" "" (314 ∷ []) ((voltage, pos 50) ∷ [])
+    ∷ following (sent "*SAV 3" ∷ altered 1536 7 ∷ []) "*RCL 3" "" (314 ∷ []) [] 0
+    ∷ following (sent "*SAV 3" ∷ altered 2047 1 ∷ []) "*RCL 3" "" (314 ∷ []) [] 0
+    ∷ following (sent "*SAV 3" ∷ altered 1535 1 ∷ altered 2048 1 ∷ []) "*RCL 3" "" [] [] 0
+    -- the order: -222, then the lock's -221, then -314
+    ∷ following (keyTurned ∷ []) "*SAV 10" "" (222 ∷ []) [] 0
+    ∷ following (keyTurned ∷ []) "*SAV 1" "" (221 ∷ []) [] 0
+    ∷ following (keyTurned ∷ []) "*RCL 1" "" (221 ∷ []) [] 0
+    -- an event that is lent a store of the wrong length changes nothing, and raises nothing
+    ∷ following (sent "VOLT 5" ∷ mislent [] ∷ []) "VOLT?" "5.0\n" [] ((voltage, pos 50) ∷ []) 0
+    -- strings (02, #109): a `;` or `,` inside quotes separates nothing, on any row, and an unclosed quote takes the rest of the line
+    ∷ example "VOLT 5;FOO \"a;FREQ 60\";FREQ 70" "" (113 ∷ []) ((voltage, pos 50) ∷ [])
+    ∷ example "FOO 'a,,b'" "" (113 ∷ []) []
+    ∷ example "VOLT \"5;FREQ 60" "" (104 ∷ []) []
+    ∷ example "VOLT '5,6'" "" (104 ∷ []) []
+    ∷ example "VOLT 5;\"FREQ 60;FREQ 70\"" "" (102 ∷ []) ((voltage, pos 50) ∷ [])
+    ∷ example "VO\"LT 5;FREQ 60\"" "" (102 ∷ []) []
+    -- but a newline still ends the line
+    ∷ example "DISP:TEXT 'a\nVOLT 5" "" (151 ∷ []) ((voltage, pos 50) ∷ [])
+    -- DISPlay:TEXT: either quote, doubled inside to mean itself; its query always uses double quotes; empty at *RST
+    ∷ example "DISP:TEXT?" "\"\"\n" [] []
+    ∷ example "DISP:TEXT \"a;b, c\";TEXT?" "\"a;b, c\"\n" [] []
+    ∷ example "display:text 'it''s';TEXT?" "\"it's\"\n" [] []
+    ∷ example "DISP:TEXT 'a';TEXT '';TEXT?" "\"\"\n" [] []
+    ∷ example "DISP:TEXT 'a';*RST;TEXT?" "\"\"\n" [] []
+    ∷ example "DISP:TEXT 'a';TEXT 'b*';TEXT?" "" (150 ∷ []) []
+    ∷ example "DISP:TEXT ''''''''''''''''''''''''''''''''''''''''''''''''''''''''''''''''''" "" [] []
+    ∷ example "DISP:TEXT '12345678901234567890123456789012'" "" [] []
+    -- -151, -150 and -223 in that order, in place of check 5, after -108 and -109
+    ∷ example "DISP:TEXT 'a" "" (151 ∷ []) []
+    ∷ example "DISP:TEXT 'a' 'b'" "" (151 ∷ []) []
+    ∷ example "DISP:TEXT 'a'b" "" (151 ∷ []) []
+    ∷ example "DISP:TEXT '*" "" (151 ∷ []) []
+    ∷ example "DISP:TEXT \"\"\"\"" "" (150 ∷ []) []
+    ∷ example "DISP:TEXT '\"'" "" (150 ∷ []) []
+    ∷ example "DISP:TEXT '12345678901234567890123456789012*'" "" (150 ∷ []) []
+    ∷ example "DISP:TEXT '123456789012345678901234567890123'" "" (223 ∷ []) []
+    ∷ example "DISP:TEXT abc" "" (104 ∷ []) []
+    ∷ example "DISP:TEXT 5" "" (104 ∷ []) []
+    ∷ example "DISP:TEXT 'a','b'" "" (108 ∷ []) []
+    ∷ example "DISP:TEXT? 'a'" "" (108 ∷ []) []
+    ∷ example "DISP:TEXT" "" (109 ∷ []) []
+    -- *SAV stores the text and *RCL sets it; a block without one has an empty text, and one whose text is outside its limits is lost
+    ∷ example "DISP:TEXT 'a;b';*SAV 3;*RST;*RCL 3;:DISP:TEXT?" "\"a;b\"\n" [] []
+    ∷ example "*SAV 0;:DISP:TEXT 'a';*RCL 0;:DISP:TEXT?" "\"\"\n" [] []
+    ∷ following (sent "*SAV 0" ∷ altered 62 65 ∷ altered 508 74 ∷ altered 509 181 ∷ []) "*RCL 0;:DISP:TEXT?" "\"A\"\n" [] [] 0
+    ∷ following (sent "*SAV 0" ∷ altered 62 42 ∷ altered 508 161 ∷ altered 509 175 ∷ []) "*RCL 0" "" (314 ∷ []) [] 0
+    -- the lock comes after them
+    ∷ following (sent "DISP:TEXT 'a'" ∷ keyTurned ∷ []) "DISP:TEXT?;TEXT 'b'" "\"a\"\n" (221 ∷ []) [] 0
+    ∷ following (keyTurned ∷ []) "DISP:TEXT '123456789012345678901234567890123'" "" (223 ∷ []) [] 0
+    -- two channels (#111): a suffix 1 or 2, none meaning 1, on the node that takes one; the path keeps it
+    ∷ example "VOLT2 5;:VOLT1 6;:VOLT?;:VOLT2?" "6.0;5.0\n" [] ((voltage, pos 60) ∷ (voltage2, pos 50) ∷ [])
+    ∷ example "sour:voltage2:lev 7.25;imm 8" "" [] ((voltage2, pos 80) ∷ [])
+    ∷ example "CURR2:LIM:RMS 1.5;PEAK:LOW -3" "" [] ((rms2, pos 15) ∷ (peakLow2, minus 30) ∷ [])
+    ∷ example "OUTP2 1;:OUTP1:MON:MODE CURR;:OUTP2:PON 1" "" [] ((monitor, pos 0) ∷ (output2, pos 1) ∷ (powerOn2, pos 1) ∷ [])
+    -- other suffixes, where the header without them spells a row; otherwise -113
+    ∷ example "VOLT0 5" "" (114 ∷ []) []
+    ∷ example "VOLT3?" "" (114 ∷ []) []
+    ∷ example "VOLT01 5" "" (114 ∷ []) []
+    ∷ example "FREQ000000000000000000000001 60" "" (114 ∷ []) []
+    ∷ example "OUTP2:PON 1;MON:MODE CURR" "" (114 ∷ []) ((powerOn2, pos 1) ∷ [])
+    ∷ example "VOLT3:FOO 5" "" (113 ∷ []) []
+    ∷ example "SOUR2:VOLT 5" "" (113 ∷ []) []
+    ∷ example "VOLT_2 5" "" (113 ∷ []) []
+    ∷ example "VOLT2A 5" "" (113 ∷ []) []
+    ∷ example "VOLT3 5,,6" "" (102 ∷ []) []
+    -- range, MAX and check 8 go by channel
+    ∷ example "VOLT2:RANG R24V;LEV MAX;RANG R12V" "" (221 ∷ []) ((voltage2, pos 240) ∷ (range2, pos 1) ∷ [])
+    ∷ example "VOLT2:RANG R24V;:VOLT 13" "" (222 ∷ []) ((range2, pos 1) ∷ [])
+    ∷ example "VOLT2:RANG R24V;LEV 20;:VOLT:RANG R12V;:VOLT? MAX;:VOLT2? MAX" "12.0;24.0\n" [] ((voltage2, pos 200) ∷ (range2, pos 1) ∷ [])
+    -- lock, exam mode and *RST are for both
+    ∷ following (sent "OUTP2 1" ∷ keyTurned ∷ []) "OUTP2 0;:VOLT2 5" "" (221 ∷ []) [] 0
+    ∷ example "SYST:EXAM 1;:VOLT2 5.05" "" (222 ∷ []) ((exam, pos 1) ∷ [])
+    ∷ example "VOLT2 5;*RST;:VOLT2?" "0.0\n" [] []
+    -- and so are *SAV and *RCL; with the mark altered, and the sum, the block is no block of one channel either
+    ∷ example "VOLT2 5;:VOLT 6;*SAV 3;*RST;*RCL 3;:VOLT2?" "5.0\n" [] ((voltage, pos 60) ∷ (voltage2, pos 50) ∷ [])
+    ∷ following (sent "*SAV 0" ∷ altered 1 254 ∷ altered 508 73 ∷ []) "*RCL 0" "" (314 ∷ []) [] 0
     ∷ []
 
 -- what is compared: the answer, the queue, every setting, and the status byte that look then sees
 pub record Outcome : Type 0 where
   pub answer : Text
   pub queue : List ℕ
-  pub values : List ℤ
+  pub values : Bool  -- they are those that the row says
   pub byte : ℕ
 
-unfoldable pub outcome : Box → Outcome
-outcome b = record { answer = b .core .answer; queue = b .trouble .queue; values = b .core .settings .values; byte = happens b look .result .value }
+-- the values of settings, one by one
+unfoldable pub sameValues : List ℤ → List ℤ → Bool
+sameValues [] [] = true
+sameValues [] (w ∷ ws) = false
+sameValues (v ∷ vs) [] = false
+sameValues (v ∷ vs) (w ∷ ws) = leZ v w && (leZ w v && sameValues vs ws)
 
-unfoldable pub ran : Example → Outcome
-ran e = outcome (after powerUp (e .before ++ sent (e .line) ∷ []))
+unfoldable pub outcome : List ℤ → Box → Outcome
+outcome vs b = record { answer = b .core .answer; queue = b .trouble .queue; values = sameValues (b .core .settings .values) vs; byte = happens b look .result .value }
 
 unfoldable pub allSet : List (ℕ × ℤ) → List ℤ → List ℤ
 allSet [] vs = vs
 allSet (p ∷ ps) vs = allSet ps (set vs (p .0) (p .1))
+
+unfoldable pub ran : Example → Outcome
+ran e = outcome (allSet (e .sets) (atReset .values)) (after (powerUp blank) (e .before ++ sent (e .line) ∷ []))
 
 unfoldable pub expected : Example → Outcome
 expected e =
     record {
       answer = bytes (e .answer);
       queue = e .errors;
-      values = allSet (e .sets) (atReset .values);
+      values = true;
       byte = e .bits + (if empty (bytes (e .answer)) then 0 else 16) + (if empty (e .errors) then 0 else 4);
     }
 

@@ -1,10 +1,12 @@
 -- "Lines and units", its headers, and check 2 on a header: how one is written, the names that it stands for, the path that it
 -- leaves, and when a row spells it.
-use mathlib.Core.Bool.{Bool, true, false, _&&_, _||_}
+use mathlib.Core.Bool.{Bool, true, false, not, _&&_, _||_}
 use mathlib.Core.List.{List, [], _∷_, _++_}
+use Prim.Native.Nat.{ℕ}
 use Prim.Native.Char.{code}
+use Prim.Native.String.{String}
 use lib.Dec.{eqb}
-use Rattle.registers.specs.Text.{Text, if_then_else_, letter, wordByte, every, empty, first, rest}
+use Rattle.registers.specs.Text.{Text, if_then_else_, bytes, letter, digit, wordByte, every, empty, same, first, rest, start, after}
 use Rattle.registers.specs.Check.{Checked, passed, _>>_, check}
 use Rattle.registers.specs.Words.{Node, must, may, matches}
 use Rattle.interpreter.specs.Cuts.{last, front, cutAt}
@@ -62,11 +64,38 @@ isCommon common = true
 isCommon root = false
 isCommon here = false
 
+-- ---- 02, #111: "OUTPut, VOLTage, FREQuency and CURRent take a numeric suffix 1 or 2 on that node, none meaning 1"
+
+abbrev pub isWord : String → String → Bool
+isWord v w = same (bytes v) (bytes w)
+
+unfoldable pub numbered : String → Bool
+numbered w = isWord "OUTPut" w || (isWord "VOLTage" w || (isWord "FREQuency" w || isWord "CURRent" w))
+
+-- a name up to its first digit, and its suffix from there on
+abbrev pub notDigit : ℕ → Bool
+notDigit b = not (digit b)
+
+abbrev pub stem : Text → Text
+stem n = start notDigit n
+
+abbrev pub suffix : Text → Text
+suffix n = after notDigit n
+
+-- a node with a numeric suffix of any digits, or with none; which of them are good is asked once the row is found
+unfoldable pub nodeMatches : String → Text → Bool
+nodeMatches w n = if numbered w then matches w (stem n) && every digit (suffix n) else matches w n
+
+-- the suffix of a header: that of the first name that has one. In a row no more than one node takes one
+unfoldable pub suffixIn : List Text → Text
+suffixIn [] = []
+suffixIn (n ∷ names) = if empty (suffix n) then suffixIn names else suffix n
+
 -- ---- when a row spells names: "Nodes in brackets may be left out", "kept or left out in any way"
 
 unfoldable pub spells : List Node → List Text → Bool
 spells [] names = empty names
 spells (must w ∷ nodes) [] = false
-spells (must w ∷ nodes) (n ∷ names) = matches w n && spells nodes names
+spells (must w ∷ nodes) (n ∷ names) = nodeMatches w n && spells nodes names
 spells (may w ∷ nodes) [] = spells nodes []
-spells (may w ∷ nodes) (n ∷ names) = spells nodes (n ∷ names) || (matches w n && spells nodes names)
+spells (may w ∷ nodes) (n ∷ names) = spells nodes (n ∷ names) || (nodeMatches w n && spells nodes names)

@@ -10,9 +10,9 @@ use mir.Val.{boolByte}
 use Rattle.registers.specs.Text.{Text, if_then_else_, visible, every, empty, first, rest, start}
 use Rattle.registers.specs.Check.{refused, passed}
 use Rattle.interpreter.specs.Cuts.{cutAt}
-use Rattle.interpreter.specs.Header.{Header, header, name, asks, fullNames, pathAfter, isCommon, bodyOf}
-use Rattle.interpreter.specs.NameParts.{keyOf}
-use Rattle.interpreter.specs.DeedParts.{rowCount}
+use Rattle.interpreter.specs.Header.{Header, header, name, asks, fullNames, pathAfter, isCommon, bodyOf, suffixIn}
+use Rattle.interpreter.specs.NameParts.{classOf, keyOf}
+use Rattle.interpreter.specs.DeedParts.{placeCount, placeOf}
 use Rattle.interpreter.specs.TableParts.{orZero}
 use Rattle.interpreter.specs.RowsParts.{rowOf}
 use Rattle.interpreter.specs.declared.header.Names.{Names}
@@ -83,14 +83,14 @@ rooted t = eqb (first t) (code ":")
 abbrev pub HeaderRead : ℕ → Text → List ℕ → Names → List ℕ → Type 0
 HeaderRead used t keys r keys′ = NamesRead (not (starred t)) t (boolByte (starred t || rooted t)) (take (orZero (not (rooted t)) used) keys) r keys′
 
--- checks 2 and 3 on a header: the row of the names that it stands for, where it ends, and the path that it leaves where there is
--- such a row
+-- checks 2 and 3 on a header: the place of the names that it stands for, where it ends, and the path that it leaves where there is
+-- such a place
 pub record FoundRow (path : List Text) (t : Text) (h : Header) (row used : ℕ) (asked : Bool) (end : ℕ) (keys : List ℕ) : Type 0 where
   pub query : asked ≡ h .query
-  pub at : row ≡ rowOf (isCommon (h .place)) (fullNames (h .place) path (h .names)) (h .query)
+  pub at : row ≡ placeOf (rowOf (isCommon (h .place)) (fullNames (h .place) path (h .names)) (h .query)) (classOf (suffixIn (fullNames (h .place) path (h .names))))
   pub ends : end ≡ length (start visible t)
-  pub left : row < rowCount → Holds (pathAfter (h .place) path (h .names)) keys used
+  pub left : row < placeCount → Holds (pathAfter (h .place) path (h .names)) keys used
 
 abbrev pub LookedUp : List Text → Text → Looked → List ℕ → Type 0
 LookedUp path t Bad keys = header (start visible t) ≡ refused 102
-LookedUp path t (At x used end) keys = (h : Header) × (header (start visible t) ≡ passed h) × FoundRow path t h (x .row) used (x .asked) end keys
+LookedUp path t (At x used end) keys = (h : Header) × (header (start visible t) ≡ passed h) × FoundRow path t h (x .place) used (x .asked) end keys

@@ -7,7 +7,7 @@ use lib.Dec.{eqb}
 use lib.ListN as L
 use Rattle.registers.specs.Text.{Text, if_then_else_}
 use Rattle.interpreter.specs.Box.{Box}
-use Rattle.interpreter.specs.Events.{Event, started, received, take, condition, look, Result, happens}
+use Rattle.interpreter.specs.Events.{Event, started, received, take, condition, look, altered, mislent, Result, happens}
 
 -- one byte received, and the newline
 abbrev pub single : ℕ → Event
@@ -24,6 +24,8 @@ moments (received xs ∷ es) = map single xs ++ moments es
 moments (take buffer ∷ es) = take buffer ∷ moments es
 moments (condition x n ∷ es) = condition x n ∷ moments es
 moments (look ∷ es) = look ∷ moments es
+moments (altered i x ∷ es) = altered i x ∷ moments es
+moments (mislent buffer ∷ es) = mislent buffer ∷ moments es
 
 -- "however the bytes are cut": h is the history g, its bytes in any other pieces
 abbrev pub Recut : List Event → List Event → Type 0
@@ -35,6 +37,8 @@ isTake (received xs) = false
 isTake (take buffer) = true
 isTake (condition x n) = false
 isTake look = false
+isTake (altered i x) = false
+isTake (mislent buffer) = false
 
 abbrev pub isPiece : Event → Bool
 isPiece started = false
@@ -42,6 +46,8 @@ isPiece (received xs) = true
 isPiece (take buffer) = false
 isPiece (condition x n) = false
 isPiece look = false
+isPiece (altered i x) = false
+isPiece (mislent buffer) = false
 
 abbrev pub noPiece : Event → Bool
 noPiece e = not (isPiece e)
@@ -88,6 +94,8 @@ sent (received xs ∷ es) = xs ++ sent es
 sent (take buffer ∷ es) = sent es
 sent (condition x n ∷ es) = sent es
 sent (look ∷ es) = sent es
+sent (altered i x ∷ es) = sent es
+sent (mislent buffer ∷ es) = sent es
 
 -- all that its takes copied, one answer after the other; a refused take copies nothing
 unfoldable pub copied : List Result → Text

@@ -1,6 +1,7 @@
 -- The definitions that the contracts cite, in the words of document 01. A file whose name ends in `Parts` holds only what private
 -- functions say, and defines nothing of 01.
 pub mod Cuts
+pub mod CutsParts
 pub mod Header
 pub mod Rows
 pub mod NameParts
@@ -17,6 +18,7 @@ pub mod UnitParts
 pub mod Box
 pub mod Reply
 pub mod Perform
+pub mod Setups
 pub mod Line
 pub mod Events
 pub mod PresentParts
@@ -35,6 +37,9 @@ pub mod Demand3
 pub mod Server
 pub mod ServerParts
 pub mod Calls
+pub mod Steps
 pub mod Lock
 pub mod OfCalls
+pub mod Isolation
+pub mod Account
 pub mod Dummies

@@ -7,7 +7,7 @@ use lib.Dec.{ltb, eqb}
 use lib.ListN.{length}
 use Rattle.registers.specs.Text.{Text, if_then_else_, white, every, empty}
 use Rattle.registers.specs.Check.{Checked, refused, passed, _>>=_, _>>_}
-use Rattle.interpreter.specs.Cuts.{cutAt}
+use Rattle.interpreter.specs.Cuts.{cutOpen}
 use Rattle.interpreter.specs.Box.{Core, Box, box, raise, withLine, answerIs, mostLine}
 use Rattle.interpreter.specs.Unit.{readUnit}
 use Rattle.interpreter.specs.Perform.{permitted, perform}
@@ -23,7 +23,7 @@ unfoldable pub attempt : List Text → Box → Text → Checked Obeyed
 attempt path b u =
     readUnit (b .core .settings) path u >>= λ r.
     permitted (r .deed) (b .core) >>
-    perform (r .deed) b >>= λ c.
+    perform (r .deed) (r .text) b >>= λ c.
     passed (record { path = r .path; box = c })
 
 -- "raises one error and changes nothing else (but check 9 drops the answer)"
@@ -52,7 +52,7 @@ finished b = if empty (b .core .answer) then b else answerIs (b .core .answer ++
 
 -- "A blank line .. does nothing else. Otherwise the line is cut at every `;`"
 unfoldable pub unitsOf : Text → List Text
-unitsOf line = if every white line then [] else cutAt (code ";") line
+unitsOf line = if every white line then [] else cutOpen (code ";") 0 line
 
 -- "at the newline -363 is raised and no unit runs"; "Each line starts at the root"
 unfoldable pub runLine : Text → Bool → Box → Box

@@ -4,6 +4,8 @@ use mathlib.Core.List.{List, [], _∷_, map}
 use Prim.Native.Nat.{ℕ, zero, suc}
 use Prim.Native.Char.{code}
 use Prim.Native.String.{String}
+use lib.Dec.{leb}
+use lib.ListN.{length}
 use lib.IntN.{ℤ, pos, natAbs}
 use lib.Signed.{leZ}
 use Rattle.registers.specs.Text.{Text, if_then_else_, letter, digit, wordByte, every, empty, first}
@@ -12,6 +14,7 @@ use Rattle.registers.specs.Words.{matches}
 use Rattle.registers.specs.Number.{number as readNumber, sign, point}
 use Rattle.registers.specs.Rounding.{switchedOn, rounded, sideIn}
 use Rattle.registers.specs.Settings.{Kind, bool, words, number, kindOf, quantityOf, lowest, highest, within, accepted}
+use Rattle.registers.specs.Label.{mostText, mayStand, isString, textIn}
 use Rattle.registers.specs.Status.{widest}
 use Rattle.registers.specs.declared.number.Decimal.{Decimal}
 use Rattle.registers.specs.declared.rounding.Side.{Side}
@@ -20,17 +23,18 @@ use Rattle.registers.specs.declared.settings.Settings.{Settings}
 use Rattle.registers.specs.declared.status.Register.{Register}
 use Rattle.registers.specs.declared.suffix.Quantity.{Quantity}
 use Rattle.registers.specs.declared.suffix.Quantity.the-variants.{Nothing}
-use Rattle.interpreter.specs.Cuts.{cutAt, trim}
+use Rattle.interpreter.specs.Cuts.{isQuote, cutOpen, trim}
 use Rattle.interpreter.specs.declared.deed.Deed.{Deed}
-use Rattle.interpreter.specs.declared.deed.Deed.the-variants.{Change, Query}
-use Rattle.interpreter.specs.declared.deed.Change.the-variants.{Put, Store}
-use Rattle.interpreter.specs.declared.deed.Query.the-variants.{Limit, Value, Stored}
+use Rattle.interpreter.specs.declared.deed.Deed.the-variants.{Change, Query, Saving}
+use Rattle.interpreter.specs.declared.deed.Change.the-variants.{Put, Store, Label as labelled}
+use Rattle.interpreter.specs.declared.deed.Query.the-variants.{Limit, Value, Stored, Label as labelAsked}
 use Rattle.interpreter.specs.declared.deed.Role.{Role}
-use Rattle.interpreter.specs.declared.deed.Role.the-variants.{Setting as setting, Register as register, Only}
+use Rattle.interpreter.specs.declared.deed.Role.the-variants.{Setting as setting, Register as register, Only, Saving as saving, Label as label}
+use Rattle.interpreter.specs.declared.deed.Saving as savings
 
 -- check 2: "commas part the parameters"; none where nothing follows the header
 unfoldable pub parameters : Text → List Text
-parameters t = if empty t then [] else map trim (cutAt (code ",") t)
+parameters t = if empty t then [] else map trim (cutOpen (code ",") 0 t)
 
 -- no "empty parameter"
 abbrev pub noneEmpty : List Text → Bool
@@ -52,12 +56,16 @@ asksLimits (number k low high) = 1
 unfoldable pub least : Role → Bool → ℕ
 least (setting i) asked = if asked then 0 else 1
 least (register r) asked = if asked then 0 else 1
+least label asked = if asked then 0 else 1
 least (Only d) asked = 0
+least (saving x) asked = if asked then 0 else 1
 
 unfoldable pub greatest : Role → Bool → ℕ
 greatest (setting i) asked = if asked then asksLimits (kindOf i) else 1
 greatest (register r) asked = if asked then 0 else 1
+greatest label asked = if asked then 0 else 1
 greatest (Only d) asked = 0
+greatest (saving x) asked = if asked then 0 else 1
 
 -- ---- checks 5 and 6
 
@@ -160,6 +168,20 @@ storeGiven r v x = check 222 (leZ (pos 0) v && leZ v (pos (widest r))) >> passed
 unfoldable pub registerDeed : Register → Text → Checked Deed
 registerDeed r t = parameter [] true Nothing t >>= λ g. storeGiven r (registerGiven g) (registerSide g)
 
+-- a place of *SAV and *RCL (02, #108), rounded like a register: "a place outside 0 to 9 is -222"
+unfoldable pub placeGiven : savings.Saving → ℤ → Checked Deed
+placeGiven x v = check 222 (leZ (pos 0) v && leZ v (pos 9)) >> passed (Saving x (natAbs v))
+
+unfoldable pub savingDeed : savings.Saving → Text → Checked Deed
+savingDeed x t = parameter [] true Nothing t >>= λ g. placeGiven x (registerGiven g)
+
+-- DISPlay:TEXT (02, #109), in place of check 5: "a word or number on this row is -104"; -151, -150 and -223 "are tested in that order"
+unfoldable pub labelDeed : Text → Checked Deed
+labelDeed t =
+    if isQuote (first t)
+    then (check 151 (isString t) >> check 150 (every mayStand (textIn t)) >> check 223 (leb (length (textIn t)) mostText) >> passed (Change labelled))
+    else refused 104
+
 -- checks 5 to 7; a parameter is there where check 4 asked for one
 unfoldable pub deedOf : Settings → Role → Bool → List Text → Checked Deed
 deedOf s (setting i) true [] = passed (Query (Value i))
@@ -170,3 +192,8 @@ deedOf s (register r) true ts = passed (Query (Stored r))
 deedOf s (register r) false [] = refused 109
 deedOf s (register r) false (t ∷ ts) = registerDeed r t
 deedOf s (Only d) asked ts = passed d
+deedOf s (saving x) asked [] = refused 109
+deedOf s (saving x) asked (t ∷ ts) = savingDeed x t
+deedOf s label true ts = passed (Query labelAsked)
+deedOf s label false [] = refused 109
+deedOf s label false (t ∷ ts) = labelDeed t

@@ -18,11 +18,12 @@ use Rattle.registers.specs.declared.settings.Settings.{Settings}
 use Rattle.registers.specs.declared.status.Register.{Register}
 use Rattle.registers.specs.declared.suffix.Quantity.{Quantity}
 use Rattle.interpreter.specs.WordsParts.{wordCount, wordsIn}
-use Rattle.interpreter.specs.Parameter.{Given, Word, Figure, parameters, noneEmpty, registerDeed}
+use Rattle.interpreter.specs.Parameter.{Given, Word, Figure, parameters, noneEmpty, registerDeed, savingDeed, labelDeed}
 use Rattle.interpreter.specs.declared.deed.Deed.{Deed}
+use Rattle.interpreter.specs.declared.deed.Saving as savings
 use Rattle.interpreter.specs.declared.deed.Deed.the-variants.{Change, Query}
 use Rattle.interpreter.specs.declared.deed.Change.the-variants.{Put}
-use Rattle.interpreter.specs.declared.deed.Query.the-variants.{Limit, Stored}
+use Rattle.interpreter.specs.declared.deed.Query.the-variants.{Limit, Stored, Label}
 use Rattle.interpreter.specs.declared.parameter.Parameter.{Parameter}
 use Rattle.interpreter.specs.declared.parameter.Parameter.the-variants.{Refused as noParameter, Word as wordGiven, Figure as figureGiven}
 use Rattle.interpreter.specs.declared.parameter.Decision.{Decision}
@@ -71,3 +72,13 @@ partsOf t = if empty t then [] else t ∷ []
 unfoldable pub registerTo : Register → Bool → Text → Checked Deed
 registerTo x true t = passed (Query (Stored x))
 registerTo x false t = registerDeed x t
+
+-- checks 5 to 7 on *SAV and *RCL; neither has a query, so that none comes here
+unfoldable pub savingTo : savings.Saving → Bool → Text → Checked Deed
+savingTo x true t = refused 109
+savingTo x false t = savingDeed x t
+
+-- the checks on the display's text
+unfoldable pub labelTo : Bool → Text → Checked Deed
+labelTo true t = passed (Query Label)
+labelTo false t = labelDeed t

@@ -11,24 +11,25 @@ use Rattle.registers.specs.Queue.{most}
 use Rattle.registers.specs.declared.error.Error.{Error}
 use Rattle.registers.specs.declared.settings.Settings.{Settings}
 use Rattle.registers.specs.declared.status.Status.{Status}
-use Rattle.interpreter.specs.Box.{Core, Box, box}
+use Rattle.interpreter.specs.Box.{Memory, blank, Core, Box, box}
 use Rattle.interpreter.specs.Line.{refuse, interrupted}
 use Rattle.interpreter.specs.declared.present.Present.{Present}
 
--- ---- what settings and status mean while a line runs: its bytes are taken, and a is what its units answered so far
+-- ---- what settings and status mean while a line runs: its bytes are taken, a is what its units answered so far, and m the lent memory
 
-abbrev pub coreOf : Settings → Registers → Text → Core
-coreOf s r a = record { settings = s; registers = r; line = []; overlong = false; answer = a }
+abbrev pub coreOf : Settings → Registers → Text → Memory → Core
+coreOf s r a m = record { settings = s; registers = r; line = []; overlong = false; answer = a; memory = m }
 
+-- where neither the answers so far nor the memory are seen
 abbrev pub coreIn : Settings → Status → Core
-coreIn s t = coreOf s (registersOf t) []
+coreIn s t = coreOf s (registersOf t) [] blank
 
-abbrev pub boxIn : Present → Text → Box
-boxIn p a = box (coreOf (p .settings) (registersOf (p .status)) a) (troubleOf (p .status))
+abbrev pub boxIn : Present → Text → Memory → Box
+boxIn p a m = box (coreOf (p .settings) (registersOf (p .status)) a m) (troubleOf (p .status))
 
 -- with the answer's buffer
-abbrev pub boxAt : Present → Text → Box
-boxAt p out = boxIn p (take (p .answered) out)
+abbrev pub boxAt : Present → Text → Memory → Box
+boxAt p out m = boxIn p (take (p .answered) out) m
 
 -- ---- what each function leaves
 
@@ -36,7 +37,7 @@ unfoldable pub raisedWith : Error → Present → Present
 raisedWith e p = record { settings = p .settings; status = raisedIn (numberOf e) (p .status); answered = p .answered }
 
 pub record RefusedWith (e : Error) (p r : Present) : Type 0 where
-  pub box : (out : Text) → boxAt r out ≡ refuse (numberOf e) (boxAt p out)
+  pub box : (out : Text) (m : Memory) → boxAt r out m ≡ refuse (numberOf e) (boxAt p out m)
   pub queued : p .status .queued ≤ most → r .status .queued ≤ most
   pub room : r .answered ≤ p .answered
 
@@ -44,4 +45,4 @@ pub record RefusedWith (e : Error) (p r : Present) : Type 0 where
 pub record Discarded (p r : Present) : Type 0 where
   pub queued : p .status .queued ≤ most → r .status .queued ≤ most
   pub gone : r .answered ≡ 0
-  pub box : (out : Text) → 0 < length out → boxIn r [] ≡ interrupted (boxAt p out)
+  pub box : (out : Text) (m : Memory) → 0 < length out → boxIn r [] m ≡ interrupted (boxAt p out m)

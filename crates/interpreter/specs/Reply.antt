@@ -8,15 +8,17 @@ use Rattle.registers.specs.Text.{Text, if_then_else_, bytes, empty, first}
 use Rattle.registers.specs.Check.{Checked, passed, _>>_, check}
 use Rattle.registers.specs.Answer.{decimal}
 use Rattle.registers.specs.Error.{errorText}
-use Rattle.registers.specs.Settings.{kindOf, valueAt, answerOf}
+use Rattle.registers.specs.Settings.{kindOf, valueAt, displayed, answerOf}
+use Rattle.registers.specs.Label.{quotedText}
 use Rattle.registers.specs.Status.{Registers, Trouble, groupIn, registerIn, statusByte}
 use Rattle.interpreter.specs.Box.{Core, Box, withAnswer, mostAnswer}
 use Rattle.interpreter.specs.declared.deed.Query as queries
-use Rattle.interpreter.specs.declared.deed.Query.the-variants.{Identity, SelfTest, Completed, Limit, Value, Stored, Condition, SetEvents}
+use Rattle.interpreter.specs.declared.deed.Query.the-variants.{Identity, SelfTest, Completed, Limit, Value, Stored, Condition, SetEvents, Label}
 use Rattle.interpreter.specs.declared.deed.Inquiry as inquiries
 use Rattle.interpreter.specs.declared.deed.Inquiry.the-variants.{StandardEvents, StatusByte, NextError}
 
--- ---- queries that see the core alone: "*IDN? answers `COURSE,BENCH24,0,4.00`; *TST? `0`; *OPC? `1`", "Register answers are decimal"
+-- ---- queries that see the core alone: "*IDN? answers `COURSE,BENCH24,0,4.00`; *TST? `0`; *OPC? `1`", "Register answers are decimal"; the
+-- display's text (02, #109) "always uses double quotes"
 
 abbrev pub identity : Text
 identity = bytes "COURSE,BENCH24,0,4.00"
@@ -30,6 +32,7 @@ replyTo (Value i) c = answerOf (kindOf i) (valueAt (c .settings) i)
 replyTo (Stored r) c = decimal (registerIn r (c .registers))
 replyTo (Condition x) c = decimal (groupIn x (c .registers) .condition)
 replyTo (SetEvents x) c = decimal (groupIn x (c .registers) .event)
+replyTo Label c = quotedText (displayed (c .settings))
 
 -- ---- the three that see the trouble: *ESR?, *STB? and SYSTem:ERRor?, which answers the oldest error. Of the answer
 -- *STB? sees whether it "has bytes, earlier ones of this line counted"

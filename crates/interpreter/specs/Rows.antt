@@ -1,20 +1,22 @@
 -- The seventeen settings and "Registers and queue": every header that the box knows, with what it is for; and check 3.
-use mathlib.Core.Bool.{Bool, true, false, _&&_}
+use mathlib.Core.Bool.{Bool, true, false, _&&_, _||_}
 use mathlib.Core.List.{List, [], _∷_, _++_}
-use Prim.Native.Nat.{ℕ, suc}
+use Prim.Native.Nat.{ℕ, suc, _+_, _-_}
 use Prim.Native.String.{String}
-use Rattle.registers.specs.Text.{Text, if_then_else_, sameBool}
-use Rattle.registers.specs.Check.{Checked, refused, passed}
+use lib.Dec.{ltb}
+use Rattle.registers.specs.Text.{Text, if_then_else_, bytes, same, empty, sameBool}
+use Rattle.registers.specs.Check.{Checked, refused, passed, _>>=_}
 use Rattle.registers.specs.Words.{Node, must, may}
-use Rattle.registers.specs.Settings.{Setting, table}
+use Rattle.registers.specs.Settings.{Setting, table, tableCount}
 use Rattle.registers.specs.declared.status.Register.{Register}
 use Rattle.registers.specs.declared.status.RegisterSet.{RegisterSet}
 use Rattle.registers.specs.declared.status.RegisterSet.the-variants.{Operation, Lock, Warning}
-use Rattle.interpreter.specs.Header.{spells}
+use Rattle.interpreter.specs.Header.{spells, suffixIn}
 use Rattle.interpreter.specs.declared.deed.Role.{Role}
-use Rattle.interpreter.specs.declared.deed.Role.the-variants.{Setting as setting, Register as register, Only}
+use Rattle.interpreter.specs.declared.deed.Role.the-variants.{Setting as setting, Register as register, Only, Saving as saving, Label as label}
+use Rattle.interpreter.specs.declared.deed.Saving.the-variants.{Save, Recall}
 use Rattle.interpreter.specs.declared.deed.Deed.{Deed}
-use Rattle.interpreter.specs.declared.deed.Deed.the-variants.{Change, Complete, Clear, Query, Inquire}
+use Rattle.interpreter.specs.declared.deed.Deed.the-variants.{Change, Complete, Clear, Query, Inquire, Saving}
 use Rattle.interpreter.specs.declared.deed.Change.the-variants.{Nothing, Reset}
 use Rattle.interpreter.specs.declared.deed.Query.the-variants.{Identity, SelfTest, Completed, Condition, SetEvents}
 use Rattle.interpreter.specs.declared.deed.Inquiry.the-variants.{StandardEvents, StatusByte, NextError}
@@ -45,7 +47,7 @@ unfoldable pub settingRows : ℕ → List Setting → List Row
 settingRows i [] = []
 settingRows i (s ∷ ss) = plain (s .nodes) (setting i) ∷ settingRows (suc i) ss
 
--- "Registers and queue", and the sets that 02 adds (#104)
+-- "Registers and queue", and what 02 adds: *SAV and *RCL (#108), DISPlay:TEXT (#109), and two sets (#104)
 unfoldable pub otherRows : List Row
 otherRows =
     starred "IDN" (Only (Query Identity))
@@ -60,6 +62,9 @@ otherRows =
     ∷ starred "ESR" (Only (Inquire StandardEvents))
     ∷ starred "STB" (Only (Inquire StatusByte))
     ∷ plain (must "SYSTem" ∷ must "ERRor" ∷ []) (Only (Inquire NextError))
+    ∷ starred "SAV" (saving Save)
+    ∷ starred "RCL" (saving Recall)
+    ∷ plain (must "DISPlay" ∷ must "TEXT" ∷ []) label
     ∷ ofSet Operation "OPERation" ++ ofSet Lock "LOCK" ++ ofSet Warning "WARNing"
 
 unfoldable pub rows : List Row
@@ -72,12 +77,15 @@ isQuery Complete = false
 isQuery Clear = false
 isQuery (Query q) = true
 isQuery (Inquire q) = true
+isQuery (Saving x p) = false
 
 -- "a query or a setting form the row lacks"
 abbrev pub hasForm : Bool → Role → Bool
 hasForm asked (setting i) = true
 hasForm asked (register r) = true
+hasForm asked label = true
 hasForm asked (Only d) = sameBool asked (isQuery d)
+hasForm asked (saving x) = sameBool asked false
 
 unfoldable pub fitsRow : Bool → List Text → Bool → Row → Bool
 fitsRow star names asked r = sameBool star (r .star) && (hasForm asked (r .role) && spells (r .nodes) names)
@@ -86,3 +94,33 @@ fitsRow star names asked r = sameBool star (r .star) && (hasForm asked (r .role)
 unfoldable pub findRow : Bool → List Text → Bool → List Row → Checked Role
 findRow star names asked [] = refused 113
 findRow star names asked (r ∷ rs) = if fitsRow star names asked r then passed (r .role) else findRow star names asked rs
+
+-- ---- the channel (02, #111): "The thirteen rows of that kind exist per channel; monitor mode (a suffix 2 there is -114) .. stay single"
+
+-- the rows that part them: monitor mode, and the first after the channel's
+abbrev pub monitor : ℕ
+monitor = 3
+
+abbrev pub brightness : ℕ
+brightness = 14
+
+-- the slot of a row on channel 2, where it has one: they stand after the table in its order, without monitor mode
+unfoldable pub secondOf : ℕ → Checked ℕ
+secondOf i =
+    if ltb i monitor then passed (i + tableCount)
+    else (if ltb monitor i && ltb i brightness then passed (i + (tableCount - 1)) else refused 114)
+
+abbrev pub onSecond : Role → Checked Role
+onSecond (setting i) = secondOf i >>= λ j. passed (setting j)
+onSecond (register r) = refused 114
+onSecond (Only d) = refused 114
+onSecond (saving x) = refused 114
+onSecond label = refused 114
+
+-- "a numeric suffix 1 or 2 .., none meaning 1"; "other suffixes there give -114"
+unfoldable pub onChannel : Text → Role → Checked Role
+onChannel t r = if empty t || same t (bytes "1") then passed r else (if same t (bytes "2") then onSecond r else refused 114)
+
+-- check 3: the row, "-113", and then the channel, "-114 in check 3, if the header without them spells a row"
+unfoldable pub findRole : Bool → List Text → Bool → Checked Role
+findRole star names asked = findRow star names asked rows >>= onChannel (suffixIn names)

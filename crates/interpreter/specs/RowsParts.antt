@@ -2,14 +2,15 @@
 use mathlib.Core.Path.{_≡_}
 use mathlib.Core.Bool.{Bool, true, false, not, _&&_, _||_}
 use mathlib.Core.List.{List, [], _∷_}
-use Prim.Native.Nat.{ℕ, _+_, _*_, _%_, _≤_, _<_}
+use Prim.Native.Nat.{ℕ, _+_, _*_, _/_, _%_, _≤_, _<_}
 use Prim.Native.String.{String}
 use lib.Dec.{ltb, eqb}
 use lib.Bits.{bitAnd}
 use lib.ListN.{length, getD, drop}
 use Rattle.registers.specs.Text.{Text, if_then_else_, empty, sameBool}
 use Rattle.registers.specs.Words.{Node, must, may, shortForm, longForm}
-use Rattle.interpreter.specs.NameParts.{keyOf}
+use Rattle.interpreter.specs.Header.{numbered}
+use Rattle.interpreter.specs.NameParts.{wordKey, suffixPlace, noNumber}
 use Rattle.interpreter.specs.TableParts.{rowSize, optional, markCount, nodeAt, rowTable, firstFit, markOf}
 use Rattle.interpreter.specs.Rows.{Row, rows, hasForm, fitsRow}
 use Rattle.interpreter.specs.declared.rows.Walk.{Walk}
@@ -23,8 +24,17 @@ rowOf star names asked = firstFit (fitsRow star names asked) rows
 
 -- ---- names as numbers: whether one is that of a word's short or long form
 
+-- what is compared of a name's number: all of it, or without a numeric suffix where the word takes one
+unfoldable pub shownKey : Bool → ℕ → ℕ
+shownKey takes k = if takes && ltb k noNumber then k % suffixPlace else k
+
 unfoldable pub keyMatches : String → ℕ → Bool
-keyMatches w k = eqb k (keyOf (shortForm w)) || eqb k (keyOf (longForm w))
+keyMatches w k = eqb (shownKey (numbered w) k) (wordKey (shortForm w)) || eqb (shownKey (numbered w) k) (wordKey (longForm w))
+
+-- the suffix of the first name that has one
+unfoldable pub classIn : List ℕ → ℕ
+classIn [] = 0
+classIn (k ∷ keys) = if eqb (k / suffixPlace) 0 then classIn keys else k / suffixPlace
 
 -- ---- the greedy walk over a row's nodes: a node that matches is taken, an optional one that doesn't is left out
 
@@ -64,7 +74,7 @@ pub record QuadRead (t : Text) (at r : ℕ) : Type 0 where
 
 -- the number of a word's short form, or its long one
 unfoldable pub keyCell : ℕ → ℕ → ℕ
-keyCell w i = keyOf (if eqb i 0 then shortForm (nodeAt w) else longForm (nodeAt w))
+keyCell w i = wordKey (if eqb i 0 then shortForm (nodeAt w) else longForm (nodeAt w))
 
 -- a node's byte: its word, and whether the node may be left out
 unfoldable pub wordIn : ℕ → ℕ

@@ -7,7 +7,7 @@ use lib.Dec.{eqb, leb}
 use lib.ListN.{length, take, drop}
 use Rattle.registers.specs.Text.{Text, if_then_else_, empty}
 use Rattle.interpreter.specs.Cuts.{joinFirst}
-use Rattle.interpreter.specs.Box.{Box, answerIs, mostAnswer}
+use Rattle.interpreter.specs.Box.{Memory, rightSize, Box, answerIs, mostAnswer}
 use Rattle.interpreter.specs.Events.{Event, Happened, happens, received, take as takes}
 use Rattle.interpreter.specs.State.{boxOf, possibleState}
 use Rattle.interpreter.specs.declared.state.State.{State}
@@ -79,14 +79,16 @@ hearing room b (line ∷ more) = received line ∷ takingFirst (happens b (recei
 -- ---- what the function says
 
 -- how a chunk begins
-abbrev pub begun : State → Text → Service
-begun s output = service (boxOf s) 0 [] output
+abbrev pub begun : State → Memory → Text → Service
+begun s m output = service (boxOf s m) 0 [] output
 
--- a chunk on a state s: the refusal's number, the bytes read and written, the state t, and the output left
-pub record Serves (s : State) (input output : Text) (number read written : ℕ) (t : State) (left : Text) : Type 0 where
-  pub possible : possibleState s ≡ true
+-- a chunk on a state s with a memory m lent: the refusal's number, the bytes read and written, the state t, the memory n, and the output left
+pub record Serves (s : State) (m : Memory) (input output : Text) (number read written : ℕ) (t : State) (n : Memory) (left : Text) : Type 0 where
+  pub possible : rightSize m ≡ true → possibleState s ≡ true
       → (possibleState t ≡ true)
       × (number ≡ 0)
       × (written ≤ length left)
-      × (service (boxOf t) read (take written left) (drop written left) ≡ serves (begun s output) (linesOf input))
-  pub impossible : possibleState s ≡ false → (t ≡ s) × (number ≡ 4) × (read ≡ 0) × (written ≡ 0) × (left ≡ output)
+      × (service (boxOf t n) read (take written left) (drop written left) ≡ serves (begun s m output) (linesOf input))
+      × (rightSize n ≡ true)
+  pub impossible : rightSize m ≡ true → possibleState s ≡ false → (t ≡ s) × (number ≡ 4) × (read ≡ 0) × (written ≡ 0) × (left ≡ output) × (n ≡ m)
+  pub wrong : rightSize m ≡ false → (t ≡ s) × (number ≡ 5) × (read ≡ 0) × (written ≡ 0) × (left ≡ output) × (n ≡ m)

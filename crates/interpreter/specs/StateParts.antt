@@ -3,7 +3,7 @@ use mathlib.Core.Path.{_≡_}
 use mathlib.Core.Bool.{Bool}
 use lib.ListN.{length}
 use Rattle.registers.specs.Text.{Text}
-use Rattle.registers.specs.Settings.{count}
+use Rattle.registers.specs.Settings.{AsLong}
 use Rattle.registers.specs.Queue.{most}
 use Rattle.interpreter.specs.Box.{mostAnswer}
 use Rattle.interpreter.specs.State.{possibleState}
@@ -13,7 +13,7 @@ use Rattle.interpreter.specs.declared.flow.Flow.{Flow}
 -- refusal 4 on a state, whose arrays are as long as the code makes them
 pub record Tested (s : State) (r : Bool) : Type 0 where
   pub is : r ≡ possibleState s
-  pub values : length (s .settings .values) ≡ count
+  pub values : AsLong (s .settings)
   pub errors : length (s .status .errors) ≡ most
   pub answer : length (s .answer) ≡ mostAnswer
 

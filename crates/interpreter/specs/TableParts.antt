@@ -8,7 +8,7 @@ use lib.ListN.{length, getD, replicate}
 use mir.Val.{boolByte}
 use Rattle.registers.specs.Text.{Text, if_then_else_, bytes, first}
 use Rattle.registers.specs.Words.{Node, must, may, shortForm, longForm}
-use Rattle.interpreter.specs.NameParts.{codeCount, codeOf, keyOf}
+use Rattle.interpreter.specs.NameParts.{codeCount, codeOf, wordKey}
 use Rattle.interpreter.specs.WordsParts.{wordBytes, wordTable, placeIn}
 use Rattle.interpreter.specs.DeedParts.{rowCount}
 use Rattle.interpreter.specs.Rows.{Row, rows, hasForm}
@@ -17,14 +17,17 @@ use Rattle.interpreter.specs.Rows.{Row, rows, hasForm}
 
 unfoldable pub nodeList : List String
 nodeList =
-    "OUTPut" ∷ "STATe" ∷ "PON" ∷ "RELay" ∷ "MONitor" ∷ "MODE" ∷ "SOURce" ∷ "VOLTage" ∷ "LEVel" ∷ "IMMediate" ∷ "AMPLitude" ∷ "RANGe"
-    ∷ "FREQuency" ∷ "CURRent" ∷ "LIMit" ∷ "RMS" ∷ "PEAK" ∷ "TIME" ∷ "HIGH" ∷ "LOW" ∷ "DISPlay" ∷ "BRIGhtness" ∷ "SYSTem" ∷ "KLOCk"
+    "OUTPut" ∷ "VOLTage" ∷ "FREQuency" ∷ "CURRent" ∷ "STATe" ∷ "PON" ∷ "RELay" ∷ "MONitor" ∷ "MODE" ∷ "SOURce" ∷ "LEVel" ∷ "IMMediate"
+    ∷ "AMPLitude" ∷ "RANGe" ∷ "LIMit" ∷ "RMS" ∷ "PEAK" ∷ "TIME" ∷ "HIGH" ∷ "LOW" ∷ "DISPlay" ∷ "BRIGhtness" ∷ "SYSTem" ∷ "KLOCk"
     ∷ "IDN" ∷ "TST" ∷ "OPC" ∷ "WAI" ∷ "RST" ∷ "CLS" ∷ "ESE" ∷ "SRE" ∷ "ESR" ∷ "STB" ∷ "STATus" ∷ "OPERation" ∷ "CONDition" ∷ "EVENt"
-    ∷ "ENABle" ∷ "NTRansition" ∷ "PTRansition" ∷ "ERRor" ∷ "EXAM" ∷ "LOCK" ∷ "WARNing" ∷ []
+    ∷ "ENABle" ∷ "NTRansition" ∷ "PTRansition" ∷ "ERRor" ∷ "EXAM" ∷ "LOCK" ∷ "WARNing" ∷ "SAV" ∷ "RCL" ∷ "TEXT" ∷ []
 
--- how many there are
+-- how many there are, and how many of them, the first, take a suffix
 abbrev pub nodeCount : ℕ
-nodeCount = 45
+nodeCount = 48
+
+abbrev pub numberedCount : ℕ
+numberedCount = 4
 
 -- how many bytes a row takes in the table, and the two numbers of a node's word
 abbrev pub rowSize : ℕ
@@ -112,7 +115,7 @@ eight n = four (n % 4294967296) ++ four (n / 4294967296)
 
 -- the numbers of a word's short and its long form
 unfoldable pub keyRow : String → Text
-keyRow w = eight (keyOf (shortForm w)) ++ eight (keyOf (longForm w))
+keyRow w = eight (wordKey (shortForm w)) ++ eight (wordKey (longForm w))
 
 unfoldable pub keyTableOf : List String → Text
 keyTableOf [] = []

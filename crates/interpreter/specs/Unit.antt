@@ -8,10 +8,11 @@ use lib.ListN.{length}
 use Rattle.registers.specs.Text.{Text, white, visible, printable, every, start, after}
 use Rattle.registers.specs.Check.{Checked, passed, _>>=_, _>>_, check}
 use Rattle.registers.specs.Queue.{among, mayBeQueued}
+use Rattle.registers.specs.Label.{textIn}
 use Rattle.registers.specs.declared.settings.Settings.{Settings}
 use Rattle.interpreter.specs.Cuts.{trim}
 use Rattle.interpreter.specs.Header.{header, fullNames, pathAfter, isCommon}
-use Rattle.interpreter.specs.Rows.{rows, findRow}
+use Rattle.interpreter.specs.Rows.{findRole}
 use Rattle.interpreter.specs.Parameter.{parameters, noneEmpty, least, greatest, deedOf}
 use Rattle.interpreter.specs.declared.deed.Deed.{Deed}
 
@@ -20,9 +21,10 @@ use Rattle.interpreter.specs.declared.deed.Deed.{Deed}
 abbrev pub raisable : ℕ → Bool
 raisable n = mayBeQueued n && not (among n (350 ∷ 363 ∷ 410 ∷ 420 ∷ []))
 
--- what a unit asks for, and the path that it leaves
+-- what a unit asks for, the text that it gives where its row takes one (02, #109), and the path that it leaves
 pub record Read : Type 0 where
   pub deed : Deed
+  pub text : Text
   pub path : List Text
 
 -- check 2: "White space around a unit .. is skipped; the header runs to the first white space"
@@ -43,8 +45,8 @@ readUnit s path u =
     header (headerText u) >>= λ h.
     let ps = parameters (parameterText u) in
     check 102 (noneEmpty ps) >>
-    findRow (isCommon (h .place)) (fullNames (h .place) path (h .names)) (h .query) rows >>= λ r.
+    findRole (isCommon (h .place)) (fullNames (h .place) path (h .names)) (h .query) >>= λ r.
     check 108 (leb (length ps) (greatest r (h .query))) >>
     check 109 (leb (least r (h .query)) (length ps)) >>
     deedOf s r (h .query) ps >>= λ d.
-    passed (record { deed = d; path = pathAfter (h .place) path (h .names) })
+    passed (record { deed = d; text = textIn (parameterText u); path = pathAfter (h .place) path (h .names) })

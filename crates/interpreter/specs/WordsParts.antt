@@ -9,7 +9,7 @@ use lib.Dec.{leb, eqb}
 use lib.ListN.{length, getD, take, drop, replicate}
 use Rattle.registers.specs.Text.{Text, if_then_else_, bytes, same, capital}
 use Rattle.registers.specs.Words.{shortForm, longForm}
-use Rattle.registers.specs.Settings.{Setting, table}
+use Rattle.registers.specs.Settings.{Setting, slots}
 use Rattle.interpreter.specs.Parameter.{wordsOf}
 use Rattle.interpreter.specs.declared.words.Words.{Words}
 
@@ -79,10 +79,10 @@ formLength w n = eqb n (wordCell w 0) || eqb n (wordCell w 1)
 
 -- where each setting's words begin, and how many there are
 unfoldable pub firstWords : List ℕ
-firstWords = map (λ (s : Setting). placeIn wordList (getD (wordsOf (s .kind)) 0 "")) table
+firstWords = map (λ (s : Setting). placeIn wordList (getD (wordsOf (s .kind)) 0 "")) slots
 
 unfoldable pub wordCounts : List ℕ
-wordCounts = map (λ (s : Setting). length (wordsOf (s .kind))) table
+wordCounts = map (λ (s : Setting). length (wordsOf (s .kind))) slots
 
 abbrev pub wordsIn : Words → List String
 wordsIn w = take (w .count) (drop (w .first) wordList)

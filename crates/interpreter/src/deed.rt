@@ -1,13 +1,15 @@
 // What an accepted unit does, and what its header is for.
+use crate::table::ROWS;
 use registers::rounding::Side;
 use registers::settings::Settings;
 use registers::status::Register;
 use registers::status::RegisterSet;
 ghost use mathlib.Core.Path.{_≡_};
-ghost use Prim.Native.Nat.{_<_};
-ghost use Rattle.interpreter.specs.DeedParts.{rowCount, roleAt, setAt, roleOfSet};
+ghost use Prim.Native.Nat.{_≤_, _<_};
+ghost use Rattle.interpreter.specs.DeedParts.{rowCount, placeCount, placeOf, roleAt, setAt, roleOfSet};
 
-// A change of settings or registers, and what was rounded off the number that it was given.
+// A change of settings or registers, and what was rounded off the number that it was given. An enum holds no array: the text of a
+// label goes beside it.
 pub enum Change {
     Nothing,
     Put {
@@ -21,6 +23,7 @@ pub enum Change {
         value: u16,
         side: Side,
     },
+    Label,
 }
 
 // A query that sees settings and registers alone.
@@ -33,6 +36,7 @@ pub enum Query {
     Stored(Register),
     Condition(RegisterSet),
     SetEvents(RegisterSet),
+    Label,
 }
 
 // The three queries that see the event status register or the error queue.
@@ -42,6 +46,12 @@ pub enum Inquiry {
     NextError,
 }
 
+// What *SAV and *RCL do with the lent store (02, #108).
+pub enum Saving {
+    Save,
+    Recall,
+}
+
 // What an accepted unit does.
 pub enum Deed {
     Change(Change),
@@ -49,19 +59,23 @@ pub enum Deed {
     Clear,
     Query(Query),
     Inquire(Inquiry),
+    Saving { saving: Saving, place: usize },
 }
 
-// What a header comes to: its row, or ROWS where it has none, and whether it asks.
+// What a header comes to: its place, and whether it asks. The place is its setting's slot, or after the slots its row among the
+// others; NOWHERE where it has no row, and NO_CHANNEL where its row doesn't take its suffix.
 pub(crate) struct Heading {
-    pub(crate) row: usize,
+    pub(crate) place: usize,
     pub(crate) asked: bool,
 }
 
-// A setting or a register is set and asked; every other header has only one form, and one deed.
+// A setting, a register or the display's text is set and asked; every other header has only one form, and one deed, or is given a place.
 pub enum Role {
     Setting(usize),
     Register(Register),
     Only(Deed),
+    Saving(Saving),
+    Label,
 }
 
 // Names a register set by its place; past the last place it is the last set.
@@ -89,24 +103,56 @@ fn of_set(set: RegisterSet, place: usize) -> Role
 }
 
 // How many rows of 'Registers and queue' stand before those of the register sets, and how many a set has.
-const COMMON_ROWS: usize = 12;
+const COMMON_ROWS: usize = 15;
 
 const SET_ROWS: usize = 5;
 
-// Tells what a row is for: the settings stand first, then 'Registers and queue', and the register sets last.
-pub(crate) fn role_of(row: usize) -> Role
-    requires { ⌜ row < rowCount ⌝ }
-    ensures { λ r. ⌜ r ≡ roleAt row ⌝ }
+// The rows that part the settings: those of a channel are the ones before monitor mode, and those between it and brightness.
+const MONITOR: usize = 3;
+
+const BRIGHTNESS: usize = 14;
+
+pub(crate) const NOWHERE: usize = 60;
+
+pub(crate) const NO_CHANNEL: usize = 61;
+
+// Finds the place of a row on the channel that a suffix names.
+pub(crate) fn place_of(row: usize, suffix: u64) -> usize
+    requires { ⌜ row ≤ rowCount ⌝ }
+    ensures { λ r. ⌜ r ≡ placeOf row suffix ⌝ }
 {
-    if row < Settings::COUNT {
-        return Role::Setting(row);
+    if ROWS <= row {
+        return NOWHERE;
     }
-    let place = row - Settings::COUNT;
-    if COMMON_ROWS <= place {
-        let within = place - COMMON_ROWS;
+    if suffix < 2 {
+        if row < Settings::ROWS {
+            return row;
+        }
+        return row + (Settings::COUNT - Settings::ROWS);
+    }
+    if (suffix == 2) & (row < MONITOR) {
+        return row + Settings::ROWS;
+    }
+    if (suffix == 2) & ((MONITOR < row) & (row < BRIGHTNESS)) {
+        return row + (Settings::ROWS - 1);
+    }
+    NO_CHANNEL
+}
+
+// Tells what a place is for: the settings stand first, then 'Registers and queue', and the register sets last.
+pub(crate) fn role_of(place: usize) -> Role
+    requires { ⌜ place < placeCount ⌝ }
+    ensures { λ r. ⌜ r ≡ roleAt place ⌝ }
+{
+    if place < Settings::COUNT {
+        return Role::Setting(place);
+    }
+    let other = place - Settings::COUNT;
+    if COMMON_ROWS <= other {
+        let within = other - COMMON_ROWS;
         return of_set(set_at(within / SET_ROWS), within % SET_ROWS);
     }
-    match place {
+    match other {
         0 => return Role::Only(Deed::Query(Query::Identity)),
         1 => return Role::Only(Deed::Query(Query::SelfTest)),
         2 => return Role::Only(Deed::Query(Query::Completed)),
@@ -118,6 +164,9 @@ pub(crate) fn role_of(row: usize) -> Role
         8 => return Role::Register(Register::Sre),
         9 => return Role::Only(Deed::Inquire(Inquiry::StandardEvents)),
         10 => return Role::Only(Deed::Inquire(Inquiry::StatusByte)),
-        _ => return Role::Only(Deed::Inquire(Inquiry::NextError)),
+        11 => return Role::Only(Deed::Inquire(Inquiry::NextError)),
+        12 => return Role::Saving(Saving::Save),
+        13 => return Role::Saving(Saving::Recall),
+        _ => return Role::Label,
     }
 }

@@ -11,6 +11,7 @@ ghost use lib.ListN.{length, drop};
 ghost use lib.Seq as seq;
 ghost use Rattle.registers.specs.Text.{Text};
 ghost use Rattle.interpreter.specs.TableParts.{commandTable};
+ghost use Rattle.interpreter.specs.Box.{storeSize, Memory, memory};
 ghost use Rattle.interpreter.specs.Line.{newlines};
 ghost use Rattle.interpreter.specs.FlowParts.{FlowFits, firstLine, FlowFed};
 
@@ -44,7 +45,7 @@ pub(crate) fn paste(text: &[u8], n: usize, into: &mut [u8], at: usize) -> usize
 // Adds bytes without a newline to the line, as many as it has room for; "further bytes are dropped".
 fn hold(mut flow: Flow, line: &mut [u8; LINE], part: &[u8]) -> Flow
     requires { ⌜ FlowFits flow × (flow .read + length (now part) < 2 ^ 63) × (newlines (now part) ≡ 0) ⌝ }
-    ensures { λ r. ⌜ ((out : Text) → FlowFed flow (now (line .entry)) out (now (part .entry)) r (now (line .exit)) out) ⌝ }
+    ensures { λ r. ⌜ ((out : Text) (m : Memory) → FlowFed flow (now (line .entry)) out m (now (part .entry)) r (now (line .exit)) out m) ⌝ }
 {
     let at = flow.filled;
     let n = smaller(part.len(), LINE - at);
@@ -55,14 +56,20 @@ fn hold(mut flow: Flow, line: &mut [u8; LINE], part: &[u8]) -> Flow
 }
 
 // Ends a line: a waiting answer is first discarded, then the line that was held is run.
-fn newline(table: &[u8], flow: Flow, line: &[u8; LINE], out: &mut [u8; ANSWER]) -> Flow
-    requires { ⌜ (now table ≡ commandTable) × FlowFits flow × (flow .read < 2 ^ 63) ⌝ }
-    ensures { λ r. ⌜ FlowFed flow (now (line .entry)) (now (out .entry)) (10 ∷ []) r (now (line .entry)) (now (out .exit)) ⌝ }
+fn newline(
+    table: &[u8],
+    flow: Flow,
+    line: &[u8; LINE],
+    out: &mut [u8; ANSWER],
+    store: &mut [u8],
+) -> Flow
+    requires { ⌜ (now table ≡ commandTable) × FlowFits flow × (flow .read < 2 ^ 63) × (length (now store) ≡ storeSize) ⌝ }
+    ensures { λ r. ⌜ FlowFed flow (now (line .entry)) (now (out .entry)) (memory (now (store .entry))) (10 ∷ []) r (now (line .entry)) (now (out .exit)) (memory (now (store .exit))) ⌝ }
 {
     let filled = flow.filled;
     let bytes: &[u8] = line;
     let present = flow.present.discard();
-    let next = line::run_line(table, present, &bytes[0..filled], flow.overlong, out);
+    let next = line::run_line(table, present, &bytes[0..filled], flow.overlong, out, store);
     Flow {
         present: next,
         filled: 0,
@@ -78,16 +85,17 @@ pub(crate) fn feed_line(
     flow: Flow,
     line: &mut [u8; LINE],
     out: &mut [u8; ANSWER],
+    store: &mut [u8],
     bytes: &[u8],
 ) -> Flow
-    requires { ⌜ (now table ≡ commandTable) × FlowFits flow × (flow .read ≤ length (now bytes)) ⌝ }
-    ensures { λ r. ⌜ FlowFed flow (now (line .entry)) (now (out .entry)) (firstLine (drop (flow .read) (now (bytes .entry)))) r (now (line .exit)) (now (out .exit)) ⌝ }
+    requires { ⌜ (now table ≡ commandTable) × FlowFits flow × (flow .read ≤ length (now bytes)) × (length (now store) ≡ storeSize) ⌝ }
+    ensures { λ r. ⌜ FlowFed flow (now (line .entry)) (now (out .entry)) (memory (now (store .entry))) (firstLine (drop (flow .read) (now (bytes .entry)))) r (now (line .exit)) (now (out .exit)) (memory (now (store .exit))) ⌝ }
 {
     let at = flow.read;
     let end = bytes::scan::find(bytes, at, bytes.len(), b'\n');
     let held = hold(flow, line, &bytes[at..end]);
     if end < bytes.len() {
-        return newline(table, held, line, out);
+        return newline(table, held, line, out, store);
     }
     held
 }
@@ -97,14 +105,15 @@ pub(crate) fn feed(
     mut flow: Flow,
     line: &mut [u8; LINE],
     out: &mut [u8; ANSWER],
+    store: &mut [u8],
     bytes: &[u8],
 ) -> Flow
-    requires { ⌜ FlowFits flow × (flow .read ≡ 0) ⌝ }
-    ensures { λ r. ⌜ FlowFed flow (now (line .entry)) (now (out .entry)) (now (bytes .entry)) r (now (line .exit)) (now (out .exit)) ⌝ }
+    requires { ⌜ FlowFits flow × (flow .read ≡ 0) × (length (now store) ≡ storeSize) ⌝ }
+    ensures { λ r. ⌜ FlowFed flow (now (line .entry)) (now (out .entry)) (memory (now (store .entry))) (now (bytes .entry)) r (now (line .exit)) (now (out .exit)) (memory (now (store .exit))) ⌝ }
 {
     let table = table::commands();
     while flow.read < bytes.len() {
-        flow = feed_line(&table, flow, line, out, bytes);
+        flow = feed_line(&table, flow, line, out, store, bytes);
     }
     flow
 }

@@ -2,6 +2,7 @@
 //
 // The path is the numbers of its names. One scan finds a header's end, its grammar and its names, which are added to the path;
 // the path that is left is all of them but the last.
+use crate::deed;
 use crate::deed::Heading;
 use crate::name;
 use crate::rows;
@@ -13,6 +14,8 @@ ghost use lib.ListN.{length};
 ghost use Rattle.registers.specs.Text.{Text};
 ghost use Rattle.interpreter.specs.TableParts.{commandTable};
 ghost use Rattle.interpreter.specs.TableParts.{orZero};
+ghost use Rattle.interpreter.specs.DeedParts.{placeOf};
+ghost use Rattle.interpreter.specs.RowsParts.{rowOfKeys, classIn};
 ghost use Rattle.interpreter.specs.HeaderParts.{mostNames, Entered, TailRead, HeaderRead, Holds, LookedUp};
 
 // How many names are held: no row has more than five nodes, so a header with more names has no row, and nothing is lost.
@@ -107,7 +110,16 @@ fn read_names(table: &[u8], path: &mut [u64], used: usize, text: &[u8]) -> Names
     }
 }
 
-// Finds the row of the header that a text starts with, and the path that it leaves. A common command is added to the path too,
+// Finds the place of a header's names: their row, on the channel that their suffix names.
+fn place_of(table: &[u8], names: &[u64], star: bool, asked: bool) -> usize
+    requires { ⌜ now table ≡ commandTable ⌝ }
+    ensures { λ r. ⌜ r ≡ placeOf (rowOfKeys star (now (names .entry)) asked) (classIn (now (names .entry))) ⌝ }
+{
+    let row = rows::find(table, names, star, asked);
+    deed::place_of(row, rows::suffix(names))
+}
+
+// Finds the place of the header that a text starts with, and the path that it leaves. A common command is added to the path too,
 // and the search begins with it.
 pub(crate) fn look_up(table: &[u8], path: &mut [u64], used: usize, text: &[u8]) -> Looked
     requires { ⌜ (now table ≡ commandTable) × (used < mostNames) × (length (now path) ≡ mostNames) ⌝ }
@@ -121,7 +133,7 @@ pub(crate) fn look_up(table: &[u8], path: &mut [u64], used: usize, text: &[u8]) 
     let first = or_zero(star, used);
     let count = names.count;
     let heading = Heading {
-        row: rows::find(table, &path[first..count], star, names.asked),
+        place: place_of(table, &path[first..count], star, names.asked),
         asked: names.asked,
     };
     Looked::At {

@@ -1,5 +1,8 @@
 // A line: its units left to right, and its end.
+use crate::cuts;
 use crate::deed::Deed;
+use crate::deed::Saving;
+use crate::flow;
 use crate::header::MOST_NAMES;
 use crate::parameter::Decision;
 use crate::perform;
@@ -8,17 +11,25 @@ use crate::reply;
 use crate::reply::Told;
 use crate::unit;
 use registers::error::Error;
+use registers::setup;
 use registers::text;
 ghost use mathlib.Core.Path.{_≡_};
+ghost use mathlib.Core.Bool.{true};
 ghost use mathlib.Core.List.{List};
 ghost use Prim.Native.Nat.{_≤_, _<_};
 ghost use lib.ListN.{length};
 ghost use Rattle.registers.specs.Text.{Text};
+ghost use Rattle.registers.specs.Check.{passed};
 ghost use Rattle.registers.specs.Queue.{most};
-ghost use Rattle.interpreter.specs.Box.{mostAnswer};
+ghost use Rattle.registers.specs.Setup.{places};
+ghost use Rattle.registers.specs.Label.{textIn};
+ghost use Rattle.interpreter.specs.Box.{mostAnswer, storeSize, Memory, memory};
+ghost use Rattle.interpreter.specs.Perform.{permitted};
+ghost use Rattle.interpreter.specs.PresentParts.{coreIn};
+ghost use Rattle.interpreter.specs.ReplyParts.{ordinary};
 ghost use Rattle.interpreter.specs.TableParts.{commandTable};
 ghost use Rattle.interpreter.specs.HeaderParts.{Holds, Held};
-ghost use Rattle.interpreter.specs.UnitParts.{Allowed};
+ghost use Rattle.interpreter.specs.UnitParts.{Allowed, AllowedText};
 ghost use Rattle.interpreter.specs.LineParts.{StoppedWith, CarriedOut, UnitRan, UnitsRan, LineRan};
 
 // What the units so far leave: how many names the path has, and whether the last one was obeyed.
@@ -39,17 +50,53 @@ fn stop(present: Present, error: Error) -> Done
     }
 }
 
-// Carries out a unit that was read, after those before it: the lock and check 8, what it does, and check 9. Where check 9 refuses,
-// "the query isn't performed", and what it would have left is forgotten.
-fn carry_out(present: Present, deed: Deed, used: usize, out: &mut [u8]) -> Done
-    requires { ⌜ Allowed (present .settings) deed × (present .answered < mostAnswer) ⌝ }
-    requires { ⌜ (length (now out) ≡ mostAnswer) × (present .status .queued ≤ most) ⌝ }
-    ensures { λ r. ⌜ CarriedOut deed used present (now (out .entry)) r (now (out .exit)) ⌝ }
+// Carries out *SAV or *RCL, which the lock let pass: the settings go to their block of the store, or come from it.
+fn set_up(present: Present, saving: Saving, place: usize, used: usize, store: &mut [u8]) -> Done
+    requires { ⌜ (permitted (Deed.Saving saving place) (coreIn (present .settings) (present .status)) ≡ passed tt) × (place < places) × (length (now store) ≡ storeSize) ⌝ }
+    requires { ⌜ (present .answered < mostAnswer) × (present .status .queued ≤ most) ⌝ }
+    ensures { λ r. ⌜ ((t out : Text) → CarriedOut (Deed.Saving saving place) t used present out (memory (now (store .entry))) r out (memory (now (store .exit)))) ⌝ }
 {
-    if !perform::is_permitted(present, deed) {
-        return stop(present, Error::SettingsConflict);
+    let at = place * setup::BLOCK;
+    match saving {
+        Saving::Save => {
+            let block = setup::block_of(present.settings);
+            flow::paste(&block, setup::BLOCK, store, at);
+            return Done {
+                present,
+                used,
+                obeyed: true,
+            };
+        }
+        Saving::Recall => {
+            let end = at + setup::BLOCK;
+            let recalled = setup::recall(&store[at..end]);
+            let good = recalled.good;
+            if !good {
+                return stop(present, Error::SaveRecallMemoryLost);
+            }
+            let settings = recalled.settings;
+            let status = present.status;
+            return Done {
+                present: Present {
+                    settings,
+                    status,
+                    answered: present.answered,
+                },
+                used,
+                obeyed: true,
+            };
+        }
     }
-    let mut next = perform::after(present, deed);
+}
+
+// Carries out any other unit that the lock and check 8 let pass: what it does, and check 9. Where check 9 refuses, "the query isn't
+// performed", and what it would have left is forgotten. The string is the unit's parameter, if it has one.
+fn do_deed(present: Present, deed: Deed, string: &[u8], used: usize, out: &mut [u8]) -> Done
+    requires { ⌜ (permitted deed (coreIn (present .settings) (present .status)) ≡ passed tt) × Allowed (present .settings) deed × (ordinary deed ≡ true) ⌝ }
+    requires { ⌜ (present .answered < mostAnswer) × (length (now out) ≡ mostAnswer) × (present .status .queued ≤ most) × AllowedText deed (textIn (now string)) ⌝ }
+    ensures { λ r. ⌜ ((m : Memory) → CarriedOut deed (textIn (now (string .entry))) used present (now (out .entry)) m r (now (out .exit)) m) ⌝ }
+{
+    let mut next = perform::after(present, deed, string);
     let told = reply::answer(present, deed, out);
     match told {
         Told::Refused(error) => return stop(present, error),
@@ -64,6 +111,28 @@ fn carry_out(present: Present, deed: Deed, used: usize, out: &mut [u8]) -> Done
     }
 }
 
+// Carries out a unit that was read, after those before it: the lock and check 8, and what it does.
+fn carry_out(
+    present: Present,
+    deed: Deed,
+    string: &[u8],
+    used: usize,
+    out: &mut [u8],
+    store: &mut [u8],
+) -> Done
+    requires { ⌜ Allowed (present .settings) deed × (present .answered < mostAnswer) × AllowedText deed (textIn (now string)) ⌝ }
+    requires { ⌜ (length (now out) ≡ mostAnswer) × (present .status .queued ≤ most) × (length (now store) ≡ storeSize) ⌝ }
+    ensures { λ r. ⌜ CarriedOut deed (textIn (now (string .entry))) used present (now (out .entry)) (memory (now (store .entry))) r (now (out .exit)) (memory (now (store .exit))) ⌝ }
+{
+    if !perform::is_permitted(present, deed) {
+        return stop(present, Error::SettingsConflict);
+    }
+    match deed {
+        Deed::Saving { saving, place } => return set_up(present, saving, place, used, store),
+        _ => return do_deed(present, deed, string, used, out),
+    }
+}
+
 // Runs one unit after those before it: checks 1 to 7, and what it then does.
 fn run_unit(
     table: &[u8],
@@ -71,26 +140,38 @@ fn run_unit(
     path: &mut [u64; MOST_NAMES],
     unit: &[u8],
     out: &mut [u8],
+    store: &mut [u8],
 ) -> Done
     requires { ⌜ (now table ≡ commandTable) × Held (now path) (done .used) ⌝ }
-    requires { ⌜ (done .present .answered < mostAnswer) × (length (now out) ≡ mostAnswer) × (done .present .status .queued ≤ most) ⌝ }
-    ensures { λ r. ⌜ ((names : List Text) → Holds names (now (path .entry)) (done .used) → UnitRan done names (now (unit .entry)) (now (out .entry)) r (now (path .exit)) (now (out .exit))) ⌝ }
+    requires { ⌜ (done .present .answered < mostAnswer) × (length (now out) ≡ mostAnswer) × (done .present .status .queued ≤ most) × (length (now store) ≡ storeSize) ⌝ }
+    ensures { λ r. ⌜ ((names : List Text) → Holds names (now (path .entry)) (done .used) → UnitRan done names (now (unit .entry)) (now (out .entry)) (memory (now (store .entry))) r (now (path .exit)) (now (out .exit)) (memory (now (store .exit)))) ⌝ }
 {
     let present = done.present;
     let reading = unit::read(table, present.settings, path, done.used, unit);
     let decision = reading.decision;
     match decision {
         Decision::Refused(error) => return stop(present, error),
-        Decision::Obey(deed) => return carry_out(present, deed, reading.used, out),
+        Decision::Obey(deed) => {
+            let given = reading.given;
+            let from = given.from;
+            let to = given.to;
+            return carry_out(present, deed, &unit[from..to], reading.used, out, store);
+        }
     }
 }
 
-// Runs the units of a line, which is cut at every `;`, up to the first that is refused. The path lives as long as
+// Runs the units of a line, which is cut at every `;` outside quotes, up to the first that is refused. The path lives as long as
 // its line: it starts at the root, and is gone at the newline.
-fn run_units(table: &[u8], present: Present, line: &[u8], out: &mut [u8]) -> Present
+fn run_units(
+    table: &[u8],
+    present: Present,
+    line: &[u8],
+    out: &mut [u8],
+    store: &mut [u8],
+) -> Present
     requires { ⌜ (now table ≡ commandTable) × (present .answered ≡ 0) ⌝ }
-    requires { ⌜ (length (now out) ≡ mostAnswer) × (present .status .queued ≤ most) ⌝ }
-    ensures { λ r. ⌜ UnitsRan present (now (line .entry)) r (now (out .exit)) ⌝ }
+    requires { ⌜ (length (now out) ≡ mostAnswer) × (present .status .queued ≤ most) × (length (now store) ≡ storeSize) ⌝ }
+    ensures { λ r. ⌜ UnitsRan present (now (line .entry)) (memory (now (store .entry))) r (now (out .exit)) (memory (now (store .exit))) ⌝ }
 {
     let mut done = Done {
         present,
@@ -100,8 +181,8 @@ fn run_units(table: &[u8], present: Present, line: &[u8], out: &mut [u8]) -> Pre
     let mut path = [0u64; MOST_NAMES];
     let mut at: usize = 0;
     loop {
-        let end = bytes::scan::find(line, at, line.len(), b';');
-        done = run_unit(table, done, &mut path, &line[at..end], out);
+        let end = cuts::part_end(line, at, b';');
+        done = run_unit(table, done, &mut path, &line[at..end], out, store);
         let more = done.obeyed & (end < line.len());
         if !more {
             return done.present;
@@ -118,10 +199,11 @@ pub(crate) fn run_line(
     line: &[u8],
     overlong: bool,
     out: &mut [u8],
+    store: &mut [u8],
 ) -> Present
     requires { ⌜ (now table ≡ commandTable) × (present .answered ≡ 0) ⌝ }
-    requires { ⌜ (length (now out) ≡ mostAnswer) × (present .status .queued ≤ most) ⌝ }
-    ensures { λ r. ⌜ LineRan present (now (line .entry)) overlong r (now (out .exit)) ⌝ }
+    requires { ⌜ (length (now out) ≡ mostAnswer) × (present .status .queued ≤ most) × (length (now store) ≡ storeSize) ⌝ }
+    ensures { λ r. ⌜ LineRan present (now (line .entry)) overlong (memory (now (store .entry))) r (now (out .exit)) (memory (now (store .exit))) ⌝ }
 {
     if overlong {
         return present.raise(Error::InputBufferOverrun);
@@ -129,7 +211,7 @@ pub(crate) fn run_line(
     if text::white_end(line, 0) == line.len() {
         return present;
     }
-    let mut ran = run_units(table, present, line, out);
+    let mut ran = run_units(table, present, line, out, store);
     let answered = ran.answered;
     if answered == 0 {
         return ran;

@@ -1,9 +1,11 @@
 // Checks 4 to 7: how many parameters a unit has, what each is, and the value that it gives.
+use crate::cuts;
 use crate::deed::Change;
 use crate::deed::Deed;
 use crate::deed::Heading;
 use crate::deed::Query;
 use crate::deed::Role;
+use crate::deed::Saving;
 use crate::words;
 use crate::words::FIRST_WITH_NUMBERS;
 use crate::words::Words;
@@ -27,9 +29,9 @@ ghost use lib.ListN.{length};
 ghost use Rattle.registers.specs.Rounding.{rounded, sideIn};
 ghost use Rattle.registers.specs.Settings.{count, kindOf, quantityOf};
 ghost use Rattle.interpreter.specs.TableParts.{commandTable};
-ghost use Rattle.interpreter.specs.Parameter.{Word, Figure, parameter, wordsOf, takesNumbers, least, greatest, valueGiven, sideGiven, deedOf, isNumber, readWord, storeGiven};
+ghost use Rattle.interpreter.specs.Parameter.{Word, Figure, parameter, wordsOf, takesNumbers, least, greatest, valueGiven, sideGiven, deedOf, isNumber, readWord, storeGiven, placeGiven};
 ghost use Rattle.interpreter.specs.WordsParts.{wordCount, wordsIn};
-ghost use Rattle.interpreter.specs.ParameterParts.{meantGiven, meantDeed, CountedIn, TakesOf, roundedTo, putFit, registerTo, partsOf};
+ghost use Rattle.interpreter.specs.ParameterParts.{meantGiven, meantDeed, CountedIn, TakesOf, roundedTo, putFit, registerTo, savingTo, partsOf};
 
 // Checks 5 and 6 on a parameter: a word of the row by its place in the row's list, or a number.
 pub(crate) enum Parameter {
@@ -57,7 +59,7 @@ struct Takes {
     quantity: Quantity,
 }
 
-// Counts the parameters of a text without white space around it.
+// Counts the parameters of a text without white space around it; a comma inside quotes separates nothing.
 pub(crate) fn count(text: &[u8]) -> Counted
     ensures { λ r. ⌜ CountedIn (now (text .entry)) r ⌝ }
 {
@@ -70,17 +72,19 @@ pub(crate) fn count(text: &[u8]) -> Counted
     let mut parts: usize = 1;
     let mut full = true;
     let mut visible = false;
+    let mut mark: u8 = 0;
     let mut i: usize = 0;
     while i < text.len() {
         let b = text[i];
         i += 1;
-        if b == b',' {
+        if (mark == 0) & (b == b',') {
             full = full & visible;
             visible = false;
             parts += 1;
             continue;
         }
         visible = visible | !text::is_white(b);
+        mark = cuts::quote_next(mark, b);
     }
     Counted {
         parts,
@@ -195,6 +199,8 @@ pub(crate) fn most(role: Role, asked: bool) -> usize
         Role::Setting(row) => (!asked | is_number(row)) as usize,
         Role::Register(_) => !asked as usize,
         Role::Only(_) => 0,
+        Role::Saving(_) => !asked as usize,
+        Role::Label => !asked as usize,
     }
 }
 
@@ -206,9 +212,9 @@ fn obey_query(query: Query) -> Decision
 
 // Decides on a value of a setting: the limits let it pass or not, and so does exam mode. A query asks for it.
 fn decide_value(settings: Settings, heading: Heading, rounded: Rounded) -> Decision
-    ensures { λ r. ⌜ meantDeed r ≡ putFit settings (heading .row) (heading .asked) (rounded .fit) (rounded .side) ⌝ }
+    ensures { λ r. ⌜ meantDeed r ≡ putFit settings (heading .place) (heading .asked) (rounded .fit) (rounded .side) ⌝ }
 {
-    let row = heading.row;
+    let row = heading.place;
     let fit = rounded.fit;
     let side = rounded.side;
     match fit {
@@ -249,11 +255,11 @@ pub(crate) fn decide_setting(
     heading: Heading,
     text: &[u8],
 ) -> Decision
-    requires { ⌜ (now table ≡ commandTable) × (heading .row < count) ⌝ }
-    requires { ⌜ (least (Role.Setting (heading .row)) (heading .asked) ≤ length (partsOf (now text))) × (length (partsOf (now text)) ≤ greatest (Role.Setting (heading .row)) (heading .asked)) ⌝ }
-    ensures { λ r. ⌜ meantDeed r ≡ deedOf settings (Role.Setting (heading .row)) (heading .asked) (partsOf (now (text .entry))) ⌝ }
+    requires { ⌜ (now table ≡ commandTable) × (heading .place < count) ⌝ }
+    requires { ⌜ (least (Role.Setting (heading .place)) (heading .asked) ≤ length (partsOf (now text))) × (length (partsOf (now text)) ≤ greatest (Role.Setting (heading .place)) (heading .asked)) ⌝ }
+    ensures { λ r. ⌜ meantDeed r ≡ deedOf settings (Role.Setting (heading .place)) (heading .asked) (partsOf (now (text .entry))) ⌝ }
 {
-    let row = heading.row;
+    let row = heading.place;
     if text.len() == 0 {
         return obey_query(Query::Value(row));
     }
@@ -296,5 +302,41 @@ pub(crate) fn decide_register(
         Parameter::Refused(e) => return Decision::Refused(e),
         Parameter::Word(_) => return Decision::Refused(Error::InvalidCharacterData),
         Parameter::Figure(d) => return decide_figure(register, d),
+    }
+}
+
+// Decides on a number for a place of the store, by check 7.
+fn decide_number(saving: Saving, d: Decimal) -> Decision
+    ensures { λ r. ⌜ meantDeed r ≡ placeGiven saving (rounded 1 d) ⌝ }
+{
+    let rounded = rounding::round_in(d, 0, 0, 9);
+    let fit = rounded.fit;
+    match fit {
+        Fit::Outside => return Decision::Refused(Error::DataOutOfRange),
+        Fit::Within(value) => return Decision::Obey(Deed::Saving {
+            saving,
+            place: value as usize,
+        }),
+    }
+}
+
+// Makes checks 5 to 7 on *SAV and *RCL, which take a number and no words.
+pub(crate) fn decide_place(table: &[u8], saving: Saving, asked: bool, text: &[u8]) -> Decision
+    requires { ⌜ now table ≡ commandTable ⌝ }
+    ensures { λ r. ⌜ meantDeed r ≡ savingTo saving asked (now (text .entry)) ⌝ }
+{
+    if asked {
+        return Decision::Refused(Error::MissingParameter);
+    }
+    let takes = Takes {
+        words: Words { first: 0, count: 0 },
+        numbers: true,
+        quantity: Quantity::Nothing,
+    };
+    let parameter = read_parameter(table, takes, false, text);
+    match parameter {
+        Parameter::Refused(e) => return Decision::Refused(e),
+        Parameter::Word(_) => return Decision::Refused(Error::InvalidCharacterData),
+        Parameter::Figure(d) => return decide_number(saving, d),
     }
 }

@@ -1,19 +1,22 @@
 // Check 3: the row that spells the names of a header.
 use crate::name::CODES;
+use crate::name::SUFFIX_PLACE;
 use crate::table::FIRST_KEY;
 use crate::table::FIRST_ROW;
 use crate::table::FIRST_START;
 use crate::table::KEYS_SIZE;
 use crate::table::MARKS;
+use crate::table::NUMBERED;
 use crate::table::OPTIONAL;
 use crate::table::ROW_SIZE;
 use crate::table::ROWS;
 ghost use mathlib.Core.Path.{_≡_};
 ghost use Prim.Native.Nat.{_+_, _≤_, _<_};
 ghost use lib.ListN.{length};
+ghost use Rattle.interpreter.specs.Header.{numbered};
 ghost use Rattle.interpreter.specs.DeedParts.{rowCount};
 ghost use Rattle.interpreter.specs.TableParts.{rowSize, nodeCount, commandTable, nodeAt, markOf, startOf};
-ghost use Rattle.interpreter.specs.RowsParts.{rowCell, PairRead, QuadRead, keyCell, keyMatches, wordIn, nodeOf, leftOut, Walked, formBit, rowOfKeys, Marked};
+ghost use Rattle.interpreter.specs.RowsParts.{rowCell, PairRead, QuadRead, keyCell, shownKey, keyMatches, classIn, wordIn, nodeOf, leftOut, Walked, formBit, rowOfKeys, Marked};
 
 // Where a walk over a row's nodes goes on.
 enum Walk {
@@ -54,12 +57,27 @@ fn key_cell(table: &[u8], word: usize, i: usize) -> u64
     quad(table, at) + quad(table, at + 4) * 4294967296
 }
 
+// What a name's number has at least where its suffix is no number.
+const NO_NUMBER: u64 = 4 * SUFFIX_PLACE;
+
+// Leaves a numeric suffix out of a name's number, where the word takes one.
+fn shown(key: u64, word: usize) -> u64
+    requires { ⌜ word < nodeCount ⌝ }
+    ensures { λ r. ⌜ r ≡ shownKey (numbered (nodeAt word)) key ⌝ }
+{
+    if (word < NUMBERED) & (key < NO_NUMBER) {
+        return key % SUFFIX_PLACE;
+    }
+    key
+}
+
 // Tells whether a name's number is that of a word's short or long form.
 fn spells(table: &[u8], key: u64, word: usize) -> bool
     requires { ⌜ (now table ≡ commandTable) × (word < nodeCount) ⌝ }
     ensures { λ r. ⌜ r ≡ keyMatches (nodeAt word) key ⌝ }
 {
-    (key == key_cell(table, word, 0)) | (key == key_cell(table, word, 1))
+    let compared = shown(key, word);
+    (compared == key_cell(table, word, 0)) | (compared == key_cell(table, word, 1))
 }
 
 // Goes past a node that no name spells, if it is optional; otherwise the row is missed.
@@ -149,4 +167,19 @@ pub(crate) fn find(table: &[u8], names: &[u64], star: bool, asked: bool) -> usiz
         return row;
     }
     ROWS
+}
+
+// Tells which suffix a header has, the first of its names' that is one: 0 for none, 1, 2, 3 for other digits.
+pub(crate) fn suffix(names: &[u64]) -> u64
+    ensures { λ r. ⌜ r ≡ classIn (now (names .entry)) ⌝ }
+{
+    let mut i: usize = 0;
+    while i < names.len() {
+        let class = names[i] / SUFFIX_PLACE;
+        if class != 0 {
+            return class;
+        }
+        i += 1;
+    }
+    0
 }

@@ -3,11 +3,14 @@ use crate::flow;
 use crate::flow::Flow;
 use crate::sizes::ANSWER;
 use crate::sizes::LINE;
+use crate::sizes::STORE;
 use crate::state;
 use crate::state::Outcome;
 use crate::state::State;
 use crate::table;
 ghost use mathlib.Core.Path.{_≡_};
+ghost use lib.ListN.{length};
+ghost use Rattle.interpreter.specs.Box.{storeSize, memory};
 ghost use Rattle.interpreter.specs.State.{numberOf};
 ghost use Rattle.interpreter.specs.FlowParts.{FlowFits};
 ghost use Rattle.interpreter.specs.Server.{Serves};
@@ -33,16 +36,17 @@ fn lines(
     mut flow: Flow,
     line: &mut [u8; LINE],
     out: &mut [u8; ANSWER],
+    store: &mut [u8],
     input: &[u8],
     output: &mut [u8],
 ) -> Progress
-    requires { ⌜ FlowFits flow × (flow .read ≡ 0) ⌝ }
-    ensures { λ r. ⌜ FlowServed flow (now (line .entry)) (now (out .entry)) (now (input .entry)) (now (output .entry)) r (now (line .exit)) (now (out .exit)) (now (output .exit)) ⌝ }
+    requires { ⌜ FlowFits flow × (flow .read ≡ 0) × (length (now store) ≡ storeSize) ⌝ }
+    ensures { λ r. ⌜ FlowServed flow (now (line .entry)) (now (out .entry)) (memory (now (store .entry))) (now (input .entry)) (now (output .entry)) r (now (line .exit)) (now (out .exit)) (memory (now (store .exit))) (now (output .exit)) ⌝ }
 {
     let table = table::commands();
     let mut written: usize = 0;
     while (flow.read < input.len()) & (ANSWER <= output.len() - written) {
-        flow = flow::feed_line(&table, flow, line, out, input);
+        flow = flow::feed_line(&table, flow, line, out, store, input);
         let waiting = flow.present.answered;
         written = flow::paste(out, waiting, output, written);
         flow.present.answered = 0;
@@ -52,9 +56,17 @@ fn lines(
 
 // Feeds the input's lines and takes each answer into the output. It stops before a line whose answer might find no room there;
 // a caller writes the output away and calls again with the rest.
-pub fn serve(state: State, input: &[u8], output: &mut [u8]) -> Served
-    ensures { λ r. ⌜ Serves state (now (input .entry)) (now (output .entry)) (numberOf (r .outcome)) (r .read) (r .written) (r .state) (now (output .exit)) ⌝ }
+pub fn serve(state: State, store: &mut [u8], input: &[u8], output: &mut [u8]) -> Served
+    ensures { λ r. ⌜ Serves state (memory (now (store .entry))) (now (input .entry)) (now (output .entry)) (numberOf (r .outcome)) (r .read) (r .written) (r .state) (memory (now (store .exit))) (now (output .exit)) ⌝ }
 {
+    if store.len() != STORE {
+        return Served {
+            outcome: Outcome::WrongStore,
+            read: 0,
+            written: 0,
+            state,
+        };
+    }
     if !state.possible() {
         return Served {
             outcome: Outcome::ImpossibleState,
@@ -66,7 +78,7 @@ pub fn serve(state: State, input: &[u8], output: &mut [u8]) -> Served
     let mut line = state.line;
     let mut answer = state.answer;
     let flow = state::flow_of(state);
-    let done = lines(flow, &mut line, &mut answer, input, output);
+    let done = lines(flow, &mut line, &mut answer, store, input, output);
     Served {
         outcome: Outcome::Done,
         read: done.flow.read,

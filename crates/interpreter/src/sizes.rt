@@ -2,3 +2,6 @@
 pub(crate) const LINE: usize = 4096;
 
 pub(crate) const ANSWER: usize = 4096;
+
+// The lent store (02, #108): ten blocks of 512 bytes.
+pub(crate) const STORE: usize = 5120;

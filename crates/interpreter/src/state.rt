@@ -10,6 +10,7 @@ use registers::status::RegisterSet;
 use registers::status::Status;
 ghost use mathlib.Core.Path.{_≡_};
 ghost use mathlib.Core.List.{[]};
+ghost use Rattle.interpreter.specs.Box.{memory};
 ghost use Rattle.interpreter.specs.Events.{received, take, condition, look, result};
 ghost use Rattle.interpreter.specs.State.{numberOf, Happens, Started};
 ghost use Rattle.interpreter.specs.StateParts.{Tested, flowOf, stateOf};
@@ -18,6 +19,9 @@ ghost use Rattle.interpreter.specs.StateParts.{Tested, flowOf, stateOf};
 pub const LINE: usize = sizes::LINE;
 
 pub const ANSWER: usize = sizes::ANSWER;
+
+// The store that every event but power-up is lent (02, #108): ten blocks of 512 bytes. Of another length it is refusal 5.
+pub const STORE: usize = sizes::STORE;
 
 // Everything that the box keeps from one event to the next.
 pub struct State {
@@ -30,13 +34,14 @@ pub struct State {
     pub waiting: usize,
 }
 
-// Why an event was refused, by 01's table, or that it was not.
+// Why an event was refused, by 01's table and 02 (#108), or that it was not.
 pub enum Outcome {
     Done,
     BufferTooShort,
     NoAnswer,
     ConditionTooWide,
     ImpossibleState,
+    WrongStore,
 }
 
 // What a piece leaves: the number of newlines in it.
@@ -76,6 +81,7 @@ impl Outcome {
             Outcome::NoAnswer => 2,
             Outcome::ConditionTooWide => 3,
             Outcome::ImpossibleState => 4,
+            Outcome::WrongStore => 5,
         }
     }
 }
@@ -141,9 +147,16 @@ impl State {
     }
 
     // Takes in bytes of any number, also none; the count is that of their newlines.
-    pub fn piece(self, bytes: &[u8]) -> Fed
-        ensures { λ r. ⌜ Happens self (received (now (bytes .entry))) (result (numberOf (r .outcome)) (r .count) []) (r .state) ⌝ }
+    pub fn piece(self, store: &mut [u8], bytes: &[u8]) -> Fed
+        ensures { λ r. ⌜ Happens self (memory (now (store .entry))) (received (now (bytes .entry))) (result (numberOf (r .outcome)) (r .count) []) (r .state) (memory (now (store .exit))) ⌝ }
     {
+        if store.len() != STORE {
+            return Fed {
+                outcome: Outcome::WrongStore,
+                count: 0,
+                state: self,
+            };
+        }
         if !self.possible() {
             return Fed {
                 outcome: Outcome::ImpossibleState,
@@ -153,7 +166,7 @@ impl State {
         }
         let mut line = self.line;
         let mut answer = self.answer;
-        let flow = flow::feed(flow_of(self), &mut line, &mut answer, bytes);
+        let flow = flow::feed(flow_of(self), &mut line, &mut answer, store, bytes);
         Fed {
             outcome: Outcome::Done,
             count: flow.count,
@@ -162,9 +175,16 @@ impl State {
     }
 
     // Copies the waiting answer to the start of the buffer; it is then gone.
-    pub fn take(mut self, buffer: &mut [u8]) -> Taken
-        ensures { λ r. ⌜ Happens self (take (now (buffer .entry))) (result (numberOf (r .outcome)) (r .length) (now (buffer .exit))) (r .state) ⌝ }
+    pub fn take(mut self, store: &[u8], buffer: &mut [u8]) -> Taken
+        ensures { λ r. ⌜ Happens self (memory (now (store .entry))) (take (now (buffer .entry))) (result (numberOf (r .outcome)) (r .length) (now (buffer .exit))) (r .state) (memory (now (store .entry))) ⌝ }
     {
+        if store.len() != STORE {
+            return Taken {
+                outcome: Outcome::WrongStore,
+                length: 0,
+                state: self,
+            };
+        }
         if !self.possible() {
             return Taken {
                 outcome: Outcome::ImpossibleState,
@@ -199,9 +219,15 @@ impl State {
     }
 
     // Takes in the condition that the box reports for a register set.
-    pub fn condition(mut self, set: RegisterSet, value: u16) -> Reported
-        ensures { λ r. ⌜ Happens self (condition set value) (result (numberOf (r .outcome)) 0 []) (r .state) ⌝ }
+    pub fn condition(mut self, store: &[u8], set: RegisterSet, value: u16) -> Reported
+        ensures { λ r. ⌜ Happens self (memory (now (store .entry))) (condition set value) (result (numberOf (r .outcome)) 0 []) (r .state) (memory (now (store .entry))) ⌝ }
     {
+        if store.len() != STORE {
+            return Reported {
+                outcome: Outcome::WrongStore,
+                state: self,
+            };
+        }
         if !self.possible() {
             return Reported {
                 outcome: Outcome::ImpossibleState,
@@ -222,9 +248,15 @@ impl State {
     }
 
     // Gives the status byte. It changes nothing, so the state is not handed back.
-    pub fn look(self) -> Seen
-        ensures { λ r. ⌜ Happens self look (result (numberOf (r .outcome)) (r .byte) []) self ⌝ }
+    pub fn look(self, store: &[u8]) -> Seen
+        ensures { λ r. ⌜ Happens self (memory (now (store .entry))) look (result (numberOf (r .outcome)) (r .byte) []) self (memory (now (store .entry))) ⌝ }
     {
+        if store.len() != STORE {
+            return Seen {
+                outcome: Outcome::WrongStore,
+                byte: 0,
+            };
+        }
         if !self.possible() {
             return Seen {
                 outcome: Outcome::ImpossibleState,

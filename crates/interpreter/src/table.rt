@@ -6,9 +6,12 @@ ghost use Rattle.interpreter.specs.TableParts.{commandTable};
 // How many words the parameters have, how many rows there are, and how many words the rows' nodes have.
 pub(crate) const WORDS: usize = 10;
 
-pub(crate) const ROWS: usize = 44;
+pub(crate) const ROWS: usize = 47;
 
-const NODES: usize = 45;
+const NODES: usize = 48;
+
+// How many of the nodes' words, the first, take a channel's number.
+pub(crate) const NUMBERED: usize = 4;
 
 // How many bytes a word of a parameter has in the table, a row, and the two numbers of a node's word.
 pub(crate) const WORD_SIZE: usize = 16;
@@ -73,34 +76,37 @@ const SIZE: usize = FIRST_START + MARKS;
 // 26  *ESR?
 // 27  *STB?
 // 28  SYSTem:ERRor?
-// 29  STATus:OPERation:CONDition?
-// 30  STATus:OPERation[:EVENt]?
-// 31  STATus:OPERation:ENABle
-// 32  STATus:OPERation:NTRansition
-// 33  STATus:OPERation:PTRansition
-// 34  STATus:LOCK:CONDition?
-// 35  STATus:LOCK[:EVENt]?
-// 36  STATus:LOCK:ENABle
-// 37  STATus:LOCK:NTRansition
-// 38  STATus:LOCK:PTRansition
-// 39  STATus:WARNing:CONDition?
-// 40  STATus:WARNing[:EVENt]?
-// 41  STATus:WARNing:ENABle
-// 42  STATus:WARNing:NTRansition
-// 43  STATus:WARNing:PTRansition
+// 29  *SAV, no query
+// 30  *RCL, no query
+// 31  DISPlay:TEXT
+// 32  STATus:OPERation:CONDition?
+// 33  STATus:OPERation[:EVENt]?
+// 34  STATus:OPERation:ENABle
+// 35  STATus:OPERation:NTRansition
+// 36  STATus:OPERation:PTRansition
+// 37  STATus:LOCK:CONDition?
+// 38  STATus:LOCK[:EVENt]?
+// 39  STATus:LOCK:ENABle
+// 40  STATus:LOCK:NTRansition
+// 41  STATus:LOCK:PTRansition
+// 42  STATus:WARNing:CONDition?
+// 43  STATus:WARNing[:EVENt]?
+// 44  STATus:WARNing:ENABle
+// 45  STATus:WARNing:NTRansition
+// 46  STATus:WARNing:PTRansition
 //
 // Words of the rows' nodes, by the bytes that stand for them in a row:
-//       \0 OUTPut        \x01 STATe         \x02 PON           \x03 RELay         \x04 MONitor       \x05 MODE
-//     \x06 SOURce        \x07 VOLTage       \x08 LEVel         \x09 IMMediate     \x0a AMPLitude     \x0b RANGe
-//     \x0c FREQuency     \x0d CURRent       \x0e LIMit         \x0f RMS           \x10 PEAK          \x11 TIME
+//       \0 OUTPut        \x01 VOLTage       \x02 FREQuency     \x03 CURRent       \x04 STATe         \x05 PON
+//     \x06 RELay         \x07 MONitor       \x08 MODE          \x09 SOURce        \x0a LEVel         \x0b IMMediate
+//     \x0c AMPLitude     \x0d RANGe         \x0e LIMit         \x0f RMS           \x10 PEAK          \x11 TIME
 //     \x12 HIGH          \x13 LOW           \x14 DISPlay       \x15 BRIGhtness    \x16 SYSTem        \x17 KLOCk
 //     \x18 IDN           \x19 TST           \x1a OPC           \x1b WAI           \x1c RST           \x1d CLS
 //     \x1e ESE           \x1f SRE           \x20 ESR           \x21 STB           \x22 STATus        \x23 OPERation
 //     \x24 CONDition     \x25 EVENt         \x26 ENABle        \x27 NTRansition   \x28 PTRansition   \x29 ERRor
-//     \x2a EXAM          \x2b LOCK          \x2c WARNing
+//     \x2a EXAM          \x2b LOCK          \x2c WARNing       \x2d SAV           \x2e RCL           \x2f TEXT
 //
-// So \x03\x03\x86\x07\x0b\0\0\0, row 5, has the forms 1 + 2, set and asked, and 3 nodes. They are \x86, SOURce (\x06) with 128
-// more, so that it may be left out; \x07, VOLTage; \x0b, RANGe: the header is [SOURce:]VOLTage:RANGe.
+// So \x03\x03\x89\x01\x0d\0\0\0, row 5, has the forms 1 + 2, set and asked, and 3 nodes. They are \x89, SOURce (\x09) with 128
+// more, so that it may be left out; \x01, VOLTage; \x0d, RANGe: the header is [SOURce:]VOLTage:RANGe.
 
 // 16 bytes to a word of a parameter: the lengths of its short and its long form, then its letters. 8 bytes to a row: its forms
 // as bits, the number of its nodes, and each node's word, with 128 more where the node may be left out. 16 bytes to a word of a
@@ -120,20 +126,20 @@ pub(crate) fn commands() -> [u8; SIZE]
         \x02\x02ON\0\0\0\0\0\0\0\0\0\0\0\0\
         \x03\x07MINIMUM\0\0\0\0\0\0\0\
         \x03\x07MAXIMUM\0\0\0\0\0\0\0\
-        \x03\x02\0\x81\0\0\0\0\
-        \x03\x02\0\x02\0\0\0\0\
-        \x03\x02\0\x03\0\0\0\0\
-        \x03\x03\0\x04\x05\0\0\0\
-        \x03\x05\x86\x07\x88\x89\x8a\0\
-        \x03\x03\x86\x07\x0b\0\0\0\
-        \x03\x02\x86\x0c\0\0\0\0\
-        \x03\x05\x86\x0d\x0e\x0f\x8a\0\
-        \x03\x05\x86\x0d\x0e\x0f\x05\0\
-        \x03\x05\x86\x0d\x0e\x10\x05\0\
-        \x03\x05\x86\x0d\x0e\x0f\x11\0\
-        \x03\x05\x86\x0d\x0e\x10\x11\0\
-        \x03\x05\x86\x0d\x0e\x10\x12\0\
-        \x03\x05\x86\x0d\x0e\x10\x13\0\
+        \x03\x02\0\x84\0\0\0\0\
+        \x03\x02\0\x05\0\0\0\0\
+        \x03\x02\0\x06\0\0\0\0\
+        \x03\x03\0\x07\x08\0\0\0\
+        \x03\x05\x89\x01\x8a\x8b\x8c\0\
+        \x03\x03\x89\x01\x0d\0\0\0\
+        \x03\x02\x89\x02\0\0\0\0\
+        \x03\x05\x89\x03\x0e\x0f\x8c\0\
+        \x03\x05\x89\x03\x0e\x0f\x08\0\
+        \x03\x05\x89\x03\x0e\x10\x08\0\
+        \x03\x05\x89\x03\x0e\x0f\x11\0\
+        \x03\x05\x89\x03\x0e\x10\x11\0\
+        \x03\x05\x89\x03\x0e\x10\x12\0\
+        \x03\x05\x89\x03\x0e\x10\x13\0\
         \x03\x02\x14\x15\0\0\0\0\
         \x03\x02\x16\x17\0\0\0\0\
         \x03\x02\x16\x2a\0\0\0\0\
@@ -149,6 +155,9 @@ pub(crate) fn commands() -> [u8; SIZE]
         \x08\x01\x20\0\0\0\0\0\
         \x08\x01\x21\0\0\0\0\0\
         \x02\x02\x16\x29\0\0\0\0\
+        \x04\x01\x2d\0\0\0\0\0\
+        \x04\x01\x2e\0\0\0\0\0\
+        \x03\x02\x14\x2f\0\0\0\0\
         \x02\x03\x22\x23\x24\0\0\0\
         \x02\x03\x22\x23\xa5\0\0\0\
         \x03\x03\x22\x23\x26\0\0\0\
@@ -165,19 +174,19 @@ pub(crate) fn commands() -> [u8; SIZE]
         \x03\x03\x22\x2c\x27\0\0\0\
         \x03\x03\x22\x2c\x28\0\0\0\
         \x0f\xd2\x0a\0\0\0\0\0\x8f\x56\x48\x2b\0\0\0\0\
+        \x96\xb2\x07\0\0\0\0\0\xb6\x9c\x40\xd9\x03\0\0\0\
+        \x26\x16\x09\0\0\0\0\0\x26\x0f\x57\x6a\x2c\x12\0\0\
+        \x43\xca\x0a\0\0\0\0\0\x83\xba\x22\x65\x05\0\0\0\
         \x93\x06\x0a\0\0\0\0\0\xb3\xd0\x40\x01\0\0\0\0\
         \xd0\x3d\0\0\0\0\0\0\xd0\x3d\0\0\0\0\0\0\
         \x92\x15\0\0\0\0\0\0\x32\x07\x56\0\0\0\0\0\
         \xcd\x3d\0\0\0\0\0\0\x4d\x3e\x9a\xdc\x03\0\0\0\
         \xad\x90\x07\0\0\0\0\0\xad\x90\x07\0\0\0\0\0\
         \x53\xd6\x07\0\0\0\0\0\xb3\x0c\x59\x1f\0\0\0\0\
-        \x96\xb2\x07\0\0\0\0\0\xb6\x9c\x40\xd9\x03\0\0\0\
         \xcc\x16\0\0\0\0\0\0\x8c\x15\x5b\0\0\0\0\0\
         \xa9\x35\0\0\0\0\0\0\xa9\xd0\x90\x48\x69\x0d\0\0\
         \x81\xc1\x06\0\0\0\0\0\xa1\x90\x4a\x13\x83\x0d\0\0\
         \xf2\xb8\0\0\0\0\0\0\xb2\x1c\x17\0\0\0\0\0\
-        \x26\x16\x09\0\0\0\0\0\x26\x0f\x57\x6a\x2c\x12\0\0\
-        \x43\xca\x0a\0\0\0\0\0\x83\xba\x22\x65\x05\0\0\0\
         \xac\x25\0\0\0\0\0\0\x8c\xa6\x96\0\0\0\0\0\
         \x72\x36\0\0\0\0\0\0\x72\x36\0\0\0\0\0\0\
         \x70\x85\x02\0\0\0\0\0\x70\x85\x02\0\0\0\0\0\
@@ -209,10 +218,13 @@ pub(crate) fn commands() -> [u8; SIZE]
         \xa5\x05\x0c\0\0\0\0\0\xa5\x05\x0c\0\0\0\0\0\
         \x6c\x8d\x07\0\0\0\0\0\x6c\x8d\x07\0\0\0\0\0\
         \xd7\xc9\0\0\0\0\0\0\xf7\xb8\xe4\x64\0\0\0\0\
+        \xd3\x06\0\0\0\0\0\0\xd3\x06\0\0\0\0\0\0\
+        \x92\x0d\0\0\0\0\0\0\x92\x0d\0\0\0\0\0\0\
+        \x94\xe2\x02\0\0\0\0\0\x94\xe2\x02\0\0\0\0\0\
         \0\0\0\0\0\0\0\0\0\0\0\0\0\0\0\0\
         \0\0\0\0\0\0\0\0\0\0\0\0\0\0\0\0\
         \0\0\0\0\0\0\0\0\0\0\0\0\0\0\0\0\
-        \x1f\x1f\x1f\x1f\x1f\x1f\x1f\x1f\x1f\x1f\0\0\0\0\0\0\
+        \0\0\0\0\0\0\0\0\0\0\0\0\0\0\0\0\
         \0\x01\x02\x03\x04\x05\x06\x07\x08\x09\x0a\x0b\x0c\x0d\x0e\x0f\
         \x10\x11\x12\x13\x14\x15\x16\x17\x18\x19\x1a\0\0\0\0\x1f\
         \0\x01\x02\x03\x04\x05\x06\x07\x08\x09\x0a\x0b\x0c\x0d\x0e\x0f\
@@ -225,20 +237,20 @@ pub(crate) fn commands() -> [u8; SIZE]
         \0\0\0\0\0\0\0\0\0\0\0\0\0\0\0\0\
         \0\0\0\0\0\0\0\0\0\0\0\0\0\0\0\0\
         \0\0\0\0\0\0\0\0\0\0\0\0\0\0\0\0\
-        \x2c\x2c\x2c\x2c\x2c\x03\x06\x2c\x2c\x2c\x2c\x2c\x2c\x2c\x2c\0\
-        \x2c\x04\x2c\x2c\x2c\x2c\x04\x2c\x2c\x04\x2c\x17\x04\x18\x2c\x2c\
-        \x2c\x11\x05\x2c\x2c\x2c\x2c\x13\x2c\x2c\x16\x19\x12\x1e\x2c\x14\
-        \x2c\x2c\x2c\x2c\x2c\x2c\x20\x2c\x21\x2c\x2c\x2c\x2c\x2c\x2c\x2c\
-        \x2c\x2c\x2c\x2c\x2c\x2c\x2c\x2c\x2c\x2c\x2c\x2c\x2c\x2c\x2c\x2c\
-        \x2c\x2c\x2c\x2c\x2c\x2c\x2c\x2c\x2c\x04\x2c\x2c\x2c\x2c\x2c\x2c\
-        \x2c\x2c\x0e\x2c\x2c\x2c\x2c\x2c\x2c\x2c\x2c\x2c\x2c\x2c\x2c\x2c\
-        \x2c\x2c\x2c\x2c\x2c\x2c\x2c\x2c\x01\x2c\x02\0\x2c\x2c\x2c\x2c\
-        \x2c\x2c\x2c\x2c\x2c\x2c\x2c\x2c\x0c\x2c\x2c\x2c\x0d\x09\x2c\x2c\
-        \x2c\x2c\x2c\x2c\x0b\x2c\x2c\x2c\x2c\x2c\x2c\x2c\x2c\x2c\x2c\x2c\
-        \x2c\x04\x2c\x2c\x2c\x2c\x2c\x2c\x2c\x04\x2c\x2c\x2c\x2c\x2c\x2c\
-        \x2c\x07\x2c\x2c\x2c\x2c\x2c\x2c\x2c\x2c\x2c\x2c\x2c\x08\x2c\x2c\
-        \x2c\x2c\x2c\x2c\x0a\x2c\x2c\x2c\x2c\x2c\x2c\x2c\x2c\x10\x06\x2c\
-        \x2c\x04\x2c\x0f\x23\x2c\x2c\x1e\x2c\x04\x2c\x2c\x04\x2c\x04\x28\
-        \x2c\x2c\x05\x22\x2c\x23\x2c\x2c\x2c\x2c\x2c\x27\x2c\x28\x25\x2c\
-        \x26\x2c\x07\x2c\x2c\x2c\x2a\x2c\x2b\x2c\x2c\x2c\x2c\x2c\x2c\x2c"
+        \x2f\x2f\x2f\x2f\x2f\x03\x06\x2f\x2f\x2f\x2f\x2f\x2f\x2f\x2f\0\
+        \x2f\x04\x2f\x2f\x2f\x2f\x04\x2f\x2f\x04\x2f\x17\x04\x18\x2f\x2f\
+        \x2f\x11\x05\x2f\x2f\x2f\x2f\x13\x2f\x2f\x16\x19\x12\x21\x2f\x14\
+        \x2f\x2f\x2f\x2f\x2f\x2f\x23\x2f\x24\x2f\x2f\x2f\x2f\x2f\x2f\x2f\
+        \x2f\x2f\x2f\x2f\x2f\x2f\x2f\x2f\x2f\x2f\x2f\x2f\x2f\x2f\x2f\x2f\
+        \x2f\x2f\x2f\x2f\x2f\x2f\x2f\x2f\x2f\x04\x2f\x2f\x2f\x2f\x2f\x2f\
+        \x2f\x2f\x0e\x2f\x2f\x2f\x2f\x2f\x2f\x2f\x2f\x2f\x2f\x2f\x2f\x2f\
+        \x2f\x2f\x2f\x2f\x1f\x2f\x2f\x2f\x01\x2f\x02\0\x2f\x2f\x2f\x2f\
+        \x2f\x2f\x2f\x2f\x2f\x2f\x2f\x2f\x0c\x2f\x2f\x2f\x0d\x09\x2f\x2f\
+        \x2f\x2f\x2f\x2f\x0b\x2f\x2f\x2f\x2f\x2f\x2f\x2f\x2f\x2f\x2f\x2f\
+        \x2f\x04\x2f\x2f\x2f\x2f\x2f\x2f\x2f\x04\x2f\x2f\x2f\x2f\x2f\x2f\
+        \x2f\x07\x2f\x2f\x2f\x2f\x2f\x2f\x2f\x2f\x2f\x2f\x2f\x08\x2f\x2f\
+        \x2f\x2f\x2f\x2f\x0a\x2f\x2f\x2f\x2f\x2f\x2f\x2f\x2f\x10\x06\x2f\
+        \x2f\x04\x2f\x0f\x26\x2f\x2f\x21\x2f\x04\x2f\x2f\x04\x2f\x04\x2b\
+        \x2f\x2f\x05\x25\x2f\x26\x2f\x2f\x2f\x2f\x2f\x2a\x2f\x2b\x28\x2f\
+        \x29\x2f\x07\x2f\x2f\x2f\x2d\x2f\x2e\x2f\x2f\x2f\x2f\x2f\x2f\x2f"
 }

@@ -1,13 +1,15 @@
 // Checks 1 to 7 on one unit, a part of the line where it stands.
 use crate::deed;
 use crate::deed::Heading;
+use crate::deed::NO_CHANNEL;
+use crate::deed::NOWHERE;
 use crate::deed::Role;
 use crate::header;
 use crate::header::Looked;
 use crate::header::MOST_NAMES;
 use crate::parameter;
 use crate::parameter::Decision;
-use crate::table::ROWS;
+use crate::quoted;
 use registers::error::Error;
 use registers::settings::Settings;
 use registers::text;
@@ -18,16 +20,23 @@ ghost use lib.ListN.{length, take};
 ghost use Rattle.registers.specs.Text.{Text, every};
 ghost use Rattle.registers.specs.Error.{numberOf};
 ghost use Rattle.interpreter.specs.Cuts.{trim, trimEnd};
-ghost use Rattle.interpreter.specs.DeedParts.{rowCount};
+ghost use Rattle.interpreter.specs.DeedParts.{noChannel};
 ghost use Rattle.interpreter.specs.TableParts.{commandTable};
 ghost use Rattle.interpreter.specs.HeaderParts.{Holds, Held};
 ghost use Rattle.interpreter.specs.ParameterParts.{meantDeed};
 ghost use Rattle.interpreter.specs.Unit.{allowed};
-ghost use Rattle.interpreter.specs.UnitParts.{decided, decidedText, headerRefusal, UnitRead};
+ghost use Rattle.interpreter.specs.UnitParts.{decided, decidedText, headerRefusal, SpanOf, UnitRead};
 
-// What checks 1 to 7 say of a unit, and how many names the path has that it leaves.
+// A part of a text, by its places.
+pub(crate) struct Span {
+    pub(crate) from: usize,
+    pub(crate) to: usize,
+}
+
+// What checks 1 to 7 say of a unit, where its parameters stand in it, and how many names the path has that it leaves.
 pub(crate) struct Reading {
     pub(crate) decision: Decision,
+    pub(crate) given: Span,
     pub(crate) used: usize,
 }
 
@@ -61,19 +70,22 @@ fn trimmed_end(text: &[u8]) -> usize
 
 // Makes checks 2 to 7 after the header, on the parameters' text without white space around it.
 fn decide(table: &[u8], settings: Settings, heading: Heading, text: &[u8]) -> Decision
-    requires { ⌜ (now table ≡ commandTable) × (heading .row ≤ rowCount) × (trim (now text) ≡ now text) ⌝ }
-    ensures { λ r. ⌜ meantDeed r ≡ decided settings (heading .row) (heading .asked) (now (text .entry)) ⌝ }
+    requires { ⌜ (now table ≡ commandTable) × (heading .place ≤ noChannel) × (trim (now text) ≡ now text) ⌝ }
+    ensures { λ r. ⌜ meantDeed r ≡ decided settings (heading .place) (heading .asked) (now (text .entry)) ⌝ }
 {
     let counted = parameter::count(text);
     if !counted.full {
         return Decision::Refused(Error::Syntax);
     }
-    let row = heading.row;
+    let place = heading.place;
     let asked = heading.asked;
-    if row == ROWS {
+    if place == NOWHERE {
         return Decision::Refused(Error::UndefinedHeader);
     }
-    let role = deed::role_of(row);
+    if place == NO_CHANNEL {
+        return Decision::Refused(Error::HeaderSuffix);
+    }
+    let role = deed::role_of(place);
     let most = parameter::most(role, asked);
     if most < counted.parts {
         return Decision::Refused(Error::ParameterNotAllowed);
@@ -89,13 +101,15 @@ fn decide(table: &[u8], settings: Settings, heading: Heading, text: &[u8]) -> De
             return parameter::decide_register(table, register, asked, text);
         }
         Role::Only(deed) => return Decision::Obey(deed),
+        Role::Saving(saving) => return parameter::decide_place(table, saving, asked, text),
+        Role::Label => return quoted::decide(asked, text),
     }
 }
 
 // Makes check 1 first: white space is allowed, and so is every byte of a header, so that only the parameters' text is looked at.
 fn decide_text(table: &[u8], settings: Settings, heading: Heading, text: &[u8]) -> Decision
-    requires { ⌜ (now table ≡ commandTable) × (heading .row ≤ rowCount) × (trim (now text) ≡ now text) ⌝ }
-    ensures { λ r. ⌜ meantDeed r ≡ decidedText settings (heading .row) (heading .asked) (now (text .entry)) ⌝ }
+    requires { ⌜ (now table ≡ commandTable) × (heading .place ≤ noChannel) × (trim (now text) ≡ now text) ⌝ }
+    ensures { λ r. ⌜ meantDeed r ≡ decidedText settings (heading .place) (heading .asked) (now (text .entry)) ⌝ }
 {
     if !all_allowed(text) {
         return Decision::Refused(Error::InvalidCharacter);
@@ -103,15 +117,17 @@ fn decide_text(table: &[u8], settings: Settings, heading: Heading, text: &[u8]) 
     decide(table, settings, heading, text)
 }
 
-// Makes the same checks on all that follows the header.
-fn decide_rest(table: &[u8], settings: Settings, heading: Heading, rest: &[u8]) -> Decision
-    requires { ⌜ (now table ≡ commandTable) × (heading .row ≤ rowCount) ⌝ }
-    ensures { λ r. ⌜ meantDeed r ≡ decidedText settings (heading .row) (heading .asked) (trim (now (rest .entry))) ⌝ }
+// Finds the parameters' text of a unit whose header ends at a place: all that follows, without white space around it.
+fn span_after(unit: &[u8], at: usize) -> Span
+    requires { ⌜ at ≤ length (now unit) ⌝ }
+    ensures { λ r. ⌜ SpanOf (now (unit .entry)) at r ⌝ }
 {
-    let start = text::white_end(rest, 0);
-    let text = &rest[start..];
-    let end = trimmed_end(text);
-    decide_text(table, settings, heading, &text[0..end])
+    let from = text::white_end(unit, at);
+    let long = trimmed_end(&unit[from..]);
+    Span {
+        from,
+        to: from + long,
+    }
 }
 
 // Tells which of checks 1 and 2 refuses a unit that starts with no header.
@@ -133,7 +149,7 @@ pub(crate) fn read(
     unit: &[u8],
 ) -> Reading
     requires { ⌜ (now table ≡ commandTable) × Held (now path) used ⌝ }
-    ensures { λ r. ⌜ ((names : List Text) → Holds names (now (path .entry)) used → UnitRead settings names (now (unit .entry)) (r .decision) (r .used) (now (path .exit))) ⌝ }
+    ensures { λ r. ⌜ ((names : List Text) → Holds names (now (path .entry)) used → UnitRead settings names (now (unit .entry)) (r .decision) (r .given) (r .used) (now (path .exit))) ⌝ }
 {
     let start = text::white_end(unit, 0);
     let looked = header::look_up(table, path, used, &unit[start..]);
@@ -141,6 +157,7 @@ pub(crate) fn read(
         Looked::Bad => {
             return Reading {
                 decision: Decision::Refused(header_error(unit)),
+                given: Span { from: 0, to: 0 },
                 used,
             };
         }
@@ -149,9 +166,12 @@ pub(crate) fn read(
             used: left,
             end,
         } => {
-            let after = start + end;
+            let given = span_after(unit, start + end);
+            let from = given.from;
+            let to = given.to;
             return Reading {
-                decision: decide_rest(table, settings, heading, &unit[after..]),
+                decision: decide_text(table, settings, heading, &unit[from..to]),
+                given,
                 used: left,
             };
         }

@@ -20,9 +20,71 @@ pub(crate) struct Words {
 }
 
 // Where each setting's words begin, and how many there are, by the setting's row (table.rt lists the rows and the words).
-const FIRST_WORDS: [u8; Settings::COUNT] = [6, 6, 6, 0, 8, 3, 8, 8, 5, 5, 8, 8, 8, 8, 8, 6, 6];
+const FIRST_WORDS: [u8; Settings::COUNT] = [
+    6,
+    6,
+    6,
+    0,
+    8,
+    3,
+    8,
+    8,
+    5,
+    5,
+    8,
+    8,
+    8,
+    8,
+    8,
+    6,
+    6,
+    6,
+    6,
+    6,
+    8,
+    3,
+    8,
+    8,
+    5,
+    5,
+    8,
+    8,
+    8,
+    8,
+];
 
-const WORD_COUNTS: [u8; Settings::COUNT] = [2, 2, 2, 3, 2, 2, 2, 2, 2, 2, 2, 2, 2, 2, 2, 2, 2];
+const WORD_COUNTS: [u8; Settings::COUNT] = [
+    2,
+    2,
+    2,
+    3,
+    2,
+    2,
+    2,
+    2,
+    2,
+    2,
+    2,
+    2,
+    2,
+    2,
+    2,
+    2,
+    2,
+    2,
+    2,
+    2,
+    2,
+    2,
+    2,
+    2,
+    2,
+    2,
+    2,
+    2,
+    2,
+    2,
+];
 
 // How many bytes a word has in the table of short forms.
 const SHORT_SIZE: usize = 5;

@@ -37,6 +37,7 @@ mod field;
 mod report;
 mod script;
 
+use interpreter::state::STORE;
 use interpreter::state::State;
 
 // The room for a script line, and for a report. The longest reports are that of a state whose line
@@ -68,7 +69,7 @@ fn write_front(out: &[u8], length: usize) -> bool {
 
 // Plays the event of the line that is held. One that was too long can't be read, like one without a
 // letter; the second test only tells the prover that the line has so many bytes.
-fn play_line(player: Player, line: &[u8], out: &mut [u8]) -> event::Played {
+fn play_line(player: Player, store: &mut [u8], line: &[u8], out: &mut [u8]) -> event::Played {
     if player.overlong {
         return event::unreadable(player.state);
     }
@@ -76,13 +77,13 @@ fn play_line(player: Player, line: &[u8], out: &mut [u8]) -> event::Played {
     if line.len() < end {
         return event::unreadable(player.state);
     }
-    event::play(player.state, &line[0..end], out)
+    event::play(player.state, store, &line[0..end], out)
 }
 
 // Plays and answers the line that has ended, and makes room for the next.
-fn end_line(player: Player, line: &[u8], out: &mut [u8]) -> Player {
+fn end_line(player: Player, store: &mut [u8], line: &[u8], out: &mut [u8]) -> Player {
     let lines = next(player.lines);
-    let played = play_line(player, line, out);
+    let played = play_line(player, store, line, out);
     let length = report::ended(out, played.length, lines);
     let written = write_front(out, length);
     let after = played.state;
@@ -96,14 +97,20 @@ fn end_line(player: Player, line: &[u8], out: &mut [u8]) -> Player {
 }
 
 // Takes in bytes of the script: a newline ends a line, and bytes past a line's room are dropped.
-fn play_bytes(start: Player, line: &mut [u8], out: &mut [u8], bytes: &[u8]) -> Player {
+fn play_bytes(
+    start: Player,
+    store: &mut [u8],
+    line: &mut [u8],
+    out: &mut [u8],
+    bytes: &[u8],
+) -> Player {
     let mut player = start;
     let mut i: usize = 0;
     while i < bytes.len() {
         let b = bytes[i];
         i += 1;
         if b == b'\n' {
-            player = end_line(player, line, out);
+            player = end_line(player, store, line, out);
             continue;
         }
         let at = player.filled;
@@ -119,24 +126,36 @@ fn play_bytes(start: Player, line: &mut [u8], out: &mut [u8], bytes: &[u8]) -> P
 
 // Reads once and plays what was read. At the script's end, or where it can't be read, the player is
 // closed.
-fn play_some(mut player: Player, chunk: &mut [u8], line: &mut [u8], out: &mut [u8]) -> Player {
+fn play_some(
+    mut player: Player,
+    store: &mut [u8],
+    chunk: &mut [u8],
+    line: &mut [u8],
+    out: &mut [u8],
+) -> Player {
     let got = libc::read(libc::STDIN_FILENO, chunk);
     let n = io::count(got, chunk);
     if n == 0 {
         player.open = false;
         return player;
     }
-    play_bytes(player, line, out, &chunk[0..n])
+    play_bytes(player, store, line, out, &chunk[0..n])
 }
 
 // Plays until the player is closed. A proved loop has to end, so it counts its turns down, from a
 // number that no run uses up.
-fn play_all(start: Player, chunk: &mut [u8], line: &mut [u8], out: &mut [u8]) -> Player {
+fn play_all(
+    start: Player,
+    store: &mut [u8],
+    chunk: &mut [u8],
+    line: &mut [u8],
+    out: &mut [u8],
+) -> Player {
     let mut player = start;
     let mut turns = u64::MAX;
     while turns > 0 {
         turns -= 1;
-        player = play_some(player, chunk, line, out);
+        player = play_some(player, store, chunk, line, out);
         let open = player.open;
         if !open {
             return player;
@@ -146,6 +165,8 @@ fn play_all(start: Player, chunk: &mut [u8], line: &mut [u8], out: &mut [u8]) ->
 }
 
 fn main() {
+    // the saved setups: they outlive a power-up
+    let mut store = [0u8; STORE];
     let mut chunk = io::large_buffer();
     let mut line = [0u8; ROOM];
     let mut out = [0u8; ROOM];
@@ -157,9 +178,9 @@ fn main() {
         lines: 0,
         open: true,
     };
-    let last = play_all(start, &mut chunk, &mut line, &mut out);
+    let last = play_all(start, &mut store, &mut chunk, &mut line, &mut out);
     // the last line lacks its newline
     if last.filled != 0 {
-        end_line(last, &line, &mut out);
+        end_line(last, &mut store, &line, &mut out);
     }
 }

@@ -8,9 +8,9 @@ use lib.Dec.{ltb, eqb}
 use Rattle.registers.specs.Text.{Text, if_then_else_, bytes}
 use Rattle.registers.specs.Answer.{decimal}
 use Rattle.registers.specs.declared.error.Error.{Error}
-use Rattle.registers.specs.declared.error.Error.the-variants.{InvalidCharacter, Syntax, DataType, ParameterNotAllowed, MissingParameter, UndefinedHeader, InvalidCharacterInNumber, ExponentTooLarge, TooManyDigits, InvalidSuffix, SuffixNotAllowed, InvalidCharacterData, SettingsConflict, DataOutOfRange, InputBufferOverrun, QueryInterrupted, QueryUnterminated, QueryDeadlocked}
+use Rattle.registers.specs.declared.error.Error.the-variants.{InvalidCharacter, Syntax, DataType, ParameterNotAllowed, MissingParameter, UndefinedHeader, HeaderSuffix, InvalidCharacterInNumber, ExponentTooLarge, TooManyDigits, InvalidSuffix, SuffixNotAllowed, InvalidCharacterData, StringDataError, InvalidStringData, SettingsConflict, DataOutOfRange, TooMuchData, SaveRecallMemoryLost, InputBufferOverrun, QueryInterrupted, QueryUnterminated, QueryDeadlocked}
 
--- the number of each error that can be raised: 01's, and -131 of 02 (#101)
+-- the number of each error that can be raised: 01's, and of 02 -131 (#101), -114 (#111), -150, -151 and -223 (#109), and -314 (#108)
 abbrev pub numberOf : Error → ℕ
 numberOf InvalidCharacter = 101
 numberOf Syntax = 102
@@ -18,14 +18,19 @@ numberOf DataType = 104
 numberOf ParameterNotAllowed = 108
 numberOf MissingParameter = 109
 numberOf UndefinedHeader = 113
+numberOf HeaderSuffix = 114
 numberOf InvalidCharacterInNumber = 121
 numberOf ExponentTooLarge = 123
 numberOf TooManyDigits = 124
 numberOf InvalidSuffix = 131
 numberOf SuffixNotAllowed = 138
 numberOf InvalidCharacterData = 141
+numberOf StringDataError = 150
+numberOf InvalidStringData = 151
 numberOf SettingsConflict = 221
 numberOf DataOutOfRange = 222
+numberOf TooMuchData = 223
+numberOf SaveRecallMemoryLost = 314
 numberOf InputBufferOverrun = 363
 numberOf QueryInterrupted = 410
 numberOf QueryUnterminated = 420
@@ -49,14 +54,19 @@ messages =
     ∷ (108, "Parameter not allowed")
     ∷ (109, "Missing parameter")
     ∷ (113, "Undefined header")
+    ∷ (114, "Header suffix out of range")
     ∷ (121, "Invalid character in number")
     ∷ (123, "Exponent too large")
     ∷ (124, "Too many digits")
     ∷ (131, "Invalid suffix")
     ∷ (138, "Suffix not allowed")
     ∷ (141, "Invalid character data")
+    ∷ (150, "String data error")
+    ∷ (151, "Invalid string data")
     ∷ (221, "Settings conflict")
     ∷ (222, "Data out of range")
+    ∷ (223, "Too much data")
+    ∷ (314, "Save/recall memory lost")
     ∷ (350, "Queue overflow")
     ∷ (363, "Input buffer overrun")
     ∷ (410, "Query INTERRUPTED")

@@ -19,7 +19,7 @@ use Rattle.registers.specs.Queue.{queueable, mayBeQueued}
 use Rattle.registers.specs.Number.{afterSign, fractionOf, afterFraction, exponentOf, afterExponent, lowering, written, numeralFrom, decimalOf, valueOf, scaled, number}
 use Rattle.registers.specs.Suffix.{suffixes, noSuffix, powerIn, remains}
 use Rattle.registers.specs.Rounding.{nearest, sizeIn, rounded, fitted, sizeSide, sideIn, switchedOn}
-use Rattle.registers.specs.Settings.{Kind, bool, words, number as steps, Setting, minus, table, settingAt, kindOf, quantityOf, valueAt, atReset, wideRange, lowest, highest, within, conflict, examined, accepted, stored, answerOf}
+use Rattle.registers.specs.Settings.{Kind, bool, words, number as steps, Setting, minus, table, slots, settingAt, kindOf, quantityOf, valueAt, atReset, wideRange, narrow, lowest, highest, within, conflict, examined, accepted, stored, answerOf}
 use Rattle.registers.specs.Group.{rises, falls, eventsAfter, conditionIs, eventRead, possibleGroup}
 use Rattle.registers.specs.Status.{registersOf, troubleOf, withoutBit6, storedIn, registerIn, summary, statusByte, possibleRegisters, possibleTrouble, possibleStatus, withTrouble, raisedIn, clearedIn, eventsIn, groupIn, setRead, locked, setBits, withRegisters, oldestReadIn, reportedIn, registerSet, atStart}
 use Rattle.registers.specs.declared.error.Error.{Error}
@@ -59,6 +59,7 @@ data Example : Type 0 where
   sets : String → String → String → Example  -- a header, a number given for it at *RST, and what the header then answers
   refuses : String → ℕ → List String → Example  -- a header, an error, and texts that check 6 or 7 refuses by it at *RST
   limits : String → String → String → String → Example  -- a header's lowest, highest and own value at *RST, as answers
+  slot : ℕ → String → String → String → Example  -- the same of a slot
   answers : List (String × ℤ) → String → String → Example  -- values stored by header after *RST, and what a header then answers
   lays : String → String → String → Example  -- a text, a lent tail, and that tail with the text in it
   message : ℕ → String → Example  -- an error, and what SYSTem:ERRor? answers
@@ -198,6 +199,20 @@ examples =
     ∷ limits "DISP:BRIG" "0" "99" "50"
     ∷ limits "SYST:KLOC" "0" "1" "0"
     ∷ limits "SYST:EXAM" "0" "1" "0"
+    -- and channel 2's thirteen, by their slots
+    ∷ slot 17 "0" "1" "0"
+    ∷ slot 18 "0" "1" "0"
+    ∷ slot 19 "0" "1" "1"
+    ∷ slot 20 "0.0" "12.0" "0.0"
+    ∷ slot 21 "R12V" "R24V" "R12V"
+    ∷ slot 22 "40.0" "550.0" "50.0"
+    ∷ slot 23 "0.1" "2.0" "1.0"
+    ∷ slot 24 "CONT" "OFF" "OFF"
+    ∷ slot 25 "CONT" "OFF" "OFF"
+    ∷ slot 26 "1" "10" "1"
+    ∷ slot 27 "1" "10" "1"
+    ∷ slot 28 "0.5" "8.0" "4.0"
+    ∷ slot 29 "-8.0" "-0.5" "-4.0"
     -- stored and answered; the voltage's limit goes by the range, and check 8 keeps R24V above 12.0
     ∷ answers (("OUTP:MON:MODE", pos 1) ∷ []) "OUTP:MON:MODE" "SCUR"
     ∷ answers (("CURR:LIM:PEAK:LOW", minus 5) ∷ []) "CURR:LIM:PEAK:LOW" "-0.5"
@@ -211,6 +226,7 @@ examples =
     -- error texts
     ∷ message 0 "0,\"No error\""
     ∷ message 222 "-222,\"Data out of range\""
+    ∷ message 114 "-114,\"Header suffix out of range\""
     ∷ message 350 "-350,\"Queue overflow\""
     ∷ message 410 "-410,\"Query INTERRUPTED\""
     -- transitions: at power-up PTR has every bit and NTR none
@@ -381,6 +397,8 @@ holds (refuses h n ts) = every (λ (t : String). fails n (given (row h) t)) ts
 holds (limits h low high reset) =
     answered (row h) low (lowest (row h))
     && (answered (row h) high (highest atReset (row h)) && answered (row h) reset (valueAt atReset (row h)))
+holds (slot i low high reset) =
+    answered i low (lowest i) && (answered i high (highest atReset i) && answered i reset (valueAt atReset i))
 holds (answers ps h answer) = answered (row h) answer (valueAt (storedAll ps atReset) (row h))
 holds (lays text before tail) = same (over (bytes text) (bytes before)) (bytes tail)
 holds (message n answer) = same (errorText n) (bytes answer)
@@ -398,7 +416,7 @@ unfolding examples passes fails sameFit sameSide fit stepsOf shortest rowIn row 
     eventBit messageIn errorText queueable mayBeQueued
     afterSign fractionOf afterFraction exponentOf afterExponent lowering written numeralFrom decimalOf valueOf scaled suffixes noSuffix powerIn remains number switchedOn
     nearest sizeIn rounded fitted sizeSide sideIn
-    table settingAt atReset wideRange lowest highest within conflict examined accepted stored answerOf
+    table slots settingAt atReset wideRange narrow lowest highest within conflict examined accepted stored answerOf
     rises falls eventsAfter conditionIs eventRead possibleGroup
     withoutBit6 storedIn registerIn setBits summary statusByte possibleRegisters possibleTrouble possibleStatus
     raisedIn clearedIn eventsIn oldestReadIn reportedIn registerSet atStart

@@ -14,8 +14,10 @@ pub mod Number
 pub mod NumberParts
 pub mod Rounding
 pub mod RoundingParts
+pub mod Label
 pub mod Settings
 pub mod SettingsParts
+pub mod Setup
 pub mod Group
 pub mod Status
 pub mod Examples

@@ -15,7 +15,7 @@ most = 16
 abbrev pub lastPlace : ℕ
 lastPlace = most - 1
 
--- the numbers that 01 puts into the queue, and -131 of 02 (#101), each of which has a text: refusal 4 speaks of "a number this paper
+-- the numbers that 01 puts into the queue, and those of 02 (#101, #108, #109, #111), each of which has a text: refusal 4 speaks of "a number this paper
 -- never puts there"
 unfoldable pub queueable : List ℕ
 queueable = map (λ (m : ℕ × String). m .0) (rest messages)

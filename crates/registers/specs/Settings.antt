@@ -1,15 +1,19 @@
 -- "The sixteen settings", and SYSTem:EXAM as the seventeenth (02, #107): headers, values, steps, limits and values at *RST, and how a
--- value is answered. Checks 7 and 8, exam mode, and refusal 4 on the settings, by these limits.
+-- value is answered. Thirteen of them are there for each of two channels (02, #111): a setting is named by its slot, 0 to 16 as in the
+-- table, 17 to 29 for channel 2. Checks 7 and 8, exam mode, and refusal 4 on the settings, by these limits.
+-- And DISPlay:TEXT (02, #109), whose value is a text and stands beside the table.
 -- A bool is 0 or 1, a word its place in its list from 0, and a number is counted in its steps.
+use mathlib.Core.Path.{_≡_}
 use mathlib.Core.Bool.{Bool, true, false, not, _&&_, _||_}
-use mathlib.Core.List.{List, [], _∷_, map}
+use mathlib.Core.List.{List, [], _∷_, _++_, map}
 use Prim.Native.Nat.{ℕ, pred}
 use Prim.Native.String.{String}
-use lib.Dec.{eqb}
+use lib.Dec.{leb, eqb}
 use lib.ListN.{length, getD, set}
 use lib.IntN.{ℤ, pos, negsuc, negℤ}
 use lib.Signed.{leZ, ltZ}
 use Rattle.registers.specs.Text.{Text, if_then_else_, below}
+use Rattle.registers.specs.Label.{mostText, padded, heldIn, possibleText}
 use Rattle.registers.specs.Answer.{decimal, tenths, signedText}
 use Rattle.registers.specs.Words.{Node, must, may, shortForm}
 use Rattle.registers.specs.declared.rounding.Side.{Side}
@@ -43,14 +47,21 @@ minus n = negℤ (pos n)
 abbrev pub underLimit : List Node → List Node
 underLimit nodes = may "SOURce" ∷ must "CURRent" ∷ must "LIMit" ∷ nodes
 
--- "The sixteen settings", in 01's order, and after them the one that 02 adds
-unfoldable pub table : List Setting
-table =
+-- "The sixteen settings", in 01's order, and after them the one that 02 adds. The thirteen of a channel (02, #111) are the first three, and
+-- the ten of the source
+abbrev pub outputRows : List Setting
+outputRows =
     row (must "OUTPut" ∷ may "STATe" ∷ []) bool Nothing (pos 0)
     ∷ row (must "OUTPut" ∷ must "PON" ∷ []) bool Nothing (pos 0)
     ∷ row (must "OUTPut" ∷ must "RELay" ∷ []) bool Nothing (pos 1)
-    ∷ row (must "OUTPut" ∷ must "MONitor" ∷ must "MODE" ∷ []) (words ("CURRent" ∷ "SCURrent" ∷ "VOLTage" ∷ [])) Nothing (pos 2)
-    ∷ row (may "SOURce" ∷ must "VOLTage" ∷ may "LEVel" ∷ may "IMMediate" ∷ may "AMPLitude" ∷ []) (number 10 (pos 0) (pos 240)) Volt (pos 0)
+    ∷ []
+
+abbrev pub monitorRow : Setting
+monitorRow = row (must "OUTPut" ∷ must "MONitor" ∷ must "MODE" ∷ []) (words ("CURRent" ∷ "SCURrent" ∷ "VOLTage" ∷ [])) Nothing (pos 2)
+
+abbrev pub sourceRows : List Setting
+sourceRows =
+    row (may "SOURce" ∷ must "VOLTage" ∷ may "LEVel" ∷ may "IMMediate" ∷ may "AMPLitude" ∷ []) (number 10 (pos 0) (pos 240)) Volt (pos 0)
     ∷ row (may "SOURce" ∷ must "VOLTage" ∷ must "RANGe" ∷ []) (words ("R12V" ∷ "R24V" ∷ [])) Nothing (pos 0)
     ∷ row (may "SOURce" ∷ must "FREQuency" ∷ []) (number 10 (pos 400) (pos 5500)) Hertz (pos 500)
     ∷ row (underLimit (must "RMS" ∷ may "AMPLitude" ∷ [])) (number 10 (pos 1) (pos 20)) Ampere (pos 10)
@@ -60,14 +71,36 @@ table =
     ∷ row (underLimit (must "PEAK" ∷ must "TIME" ∷ [])) (number 1 (pos 1) (pos 10)) Second (pos 1)
     ∷ row (underLimit (must "PEAK" ∷ must "HIGH" ∷ [])) (number 10 (pos 5) (pos 80)) Ampere (pos 40)
     ∷ row (underLimit (must "PEAK" ∷ must "LOW" ∷ [])) (number 10 (minus 80) (minus 5)) Ampere (minus 40)
-    ∷ row (must "DISPlay" ∷ must "BRIGhtness" ∷ []) (number 1 (pos 0) (pos 99)) Nothing (pos 50)
+    ∷ []
+
+abbrev pub singleRows : List Setting
+singleRows =
+    row (must "DISPlay" ∷ must "BRIGhtness" ∷ []) (number 1 (pos 0) (pos 99)) Nothing (pos 50)
     ∷ row (must "SYSTem" ∷ must "KLOCk" ∷ []) bool Nothing (pos 0)
     ∷ row (must "SYSTem" ∷ must "EXAM" ∷ []) bool Nothing (pos 0)
     ∷ []
 
--- how many there are, and the four that a rule names, by their place in the table
+unfoldable pub table : List Setting
+table = outputRows ++ monitorRow ∷ sourceRows ++ singleRows
+
+-- how many rows there are
+abbrev pub tableCount : ℕ
+tableCount = 17
+
+-- a bool that has no header stands past the table
+abbrev pub past : Setting
+past = row [] bool Nothing (pos 0)
+
+-- ---- slots
+
+-- "The thirteen rows of that kind exist per channel; monitor mode .., brightness, key lock, exam mode .. stay single" (02, #111): the
+-- table's own rows, for channel 1 and what is single, and then those of channel 2
+unfoldable pub slots : List Setting
+slots = table ++ (outputRows ++ sourceRows)
+
+-- how many there are, and those that a rule names, by their slot
 abbrev pub count : ℕ
-count = 17
+count = 30
 
 abbrev pub output : ℕ
 output = 0
@@ -81,9 +114,22 @@ range = 5
 abbrev pub exam : ℕ
 exam = 16
 
--- the row at a place; past the table a bool that has no header
+abbrev pub output2 : ℕ
+output2 = 17
+
+abbrev pub voltage2 : ℕ
+voltage2 = 20
+
+abbrev pub range2 : ℕ
+range2 = 21
+
+-- whether a slot is one of channel 2's
+abbrev pub second : ℕ → Bool
+second i = leb tableCount i
+
+-- the row of a slot; past the last a bool that has no header
 unfoldable pub settingAt : ℕ → Setting
-settingAt i = getD table i (row [] bool Nothing (pos 0))
+settingAt i = getD slots i past
 
 abbrev pub kindOf : ℕ → Kind
 kindOf i = settingAt i .kind
@@ -98,11 +144,23 @@ abbrev pub valueAt : Settings → ℕ → ℤ
 valueAt s i = getD (s .values) i (pos 0)
 
 abbrev pub withValue : ℕ → ℤ → Settings → Settings
-withValue i v s = record { values = set (s .values) i v }
+withValue i v s = record { values = set (s .values) i v; text = s .text }
 
--- "At *RST"
+-- the display's text, and other settings that differ in it alone
+abbrev pub displayed : Settings → Text
+displayed s = heldIn (s .text)
+
+abbrev pub withText : Text → Settings → Settings
+withText t s = record { values = s .values; text = padded mostText t }
+
+-- settings with as many values and bytes of text as their type says
+pub record AsLong (s : Settings) : Type 0 where
+  pub values : length (s .values) ≡ count
+  pub text : length (s .text) ≡ mostText
+
+-- "At *RST"; the text is "empty at *RST"
 unfoldable pub atReset : Settings
-atReset = record { values = map (λ (x : Setting). x .reset) table }
+atReset = record { values = map (λ (x : Setting). x .reset) slots; text = padded mostText [] }
 
 -- ---- limits
 
@@ -121,9 +179,13 @@ highestOf (number k low high) = high
 abbrev pub twelveVolts : ℤ
 twelveVolts = pos 120
 
--- R12V is word 0 of the range and R24V word 1
-unfoldable pub wideRange : Settings → Bool
-wideRange s = leZ (pos 1) (valueAt s range)
+-- R12V is word 0 of a range and R24V word 1
+unfoldable pub wideRange : Settings → ℕ → Bool
+wideRange s r = leZ (pos 1) (valueAt s r)
+
+-- a voltage whose own channel's range is R12V
+unfoldable pub narrow : Settings → ℕ → Bool
+narrow s i = (eqb i voltage && not (wideRange s range)) || (eqb i voltage2 && not (wideRange s range2))
 
 -- the lowest and the highest value of a row
 unfoldable pub lowest : ℕ → ℤ
@@ -131,7 +193,7 @@ lowest i = lowestOf (kindOf i)
 
 -- "0.0 to 12.0 or 24.0 by range"
 unfoldable pub highest : Settings → ℕ → ℤ
-highest s i = if eqb i voltage && not (wideRange s) then twelveVolts else highestOf (kindOf i)
+highest s i = if narrow s i then twelveVolts else highestOf (kindOf i)
 
 -- check 7: "-222 outside the limits"
 unfoldable pub within : Settings → ℕ → ℤ → Bool
@@ -149,17 +211,28 @@ onStep Above = false
 unfoldable pub accepted : Settings → Side → Bool
 accepted s x = onStep x || not (examined s)
 
+-- a range while its own channel's voltage is above 12.0
+abbrev pub above : Settings → ℕ → Bool
+above s i = (eqb i range && ltZ twelveVolts (valueAt s voltage)) || (eqb i range2 && ltZ twelveVolts (valueAt s voltage2))
+
 -- check 8: "-221: range R12V while the voltage is above 12.0"
 unfoldable pub conflict : Settings → ℕ → ℤ → Bool
-conflict s i v = eqb i range && (leZ v (pos 0) && ltZ twelveVolts (valueAt s voltage))
+conflict s i v = leZ v (pos 0) && above s i
 
--- refusal 4: "a setting outside its limits", "a voltage above its range"
+-- refusal 4: "a setting outside its limits", "a voltage above its range"; the text's limits too
+unfoldable pub possibleValues : Settings → Bool
+possibleValues s = below count (λ i. within s i (valueAt s i))
+
 unfoldable pub possibleSettings : Settings → Bool
-possibleSettings s = below count (λ i. within s i (valueAt s i))
+possibleSettings s = possibleValues s && possibleText (s .text)
 
 -- a value is stored only where checks 7 and 8 let it pass
 unfoldable pub stored : ℕ → ℤ → Settings → Settings
 stored i v s = if within s i v && not (conflict s i v) then withValue i v s else s
+
+-- a text, as the record holds it, is stored only where it is within its limits
+unfoldable pub textStored : Text → Settings → Settings
+textStored t s = if possibleText t then record { values = s .values; text = t } else s
 
 -- ---- "Answers: 0 or 1; plain integers; one decimal for step 0.1 ..; words in short form"
 

@@ -16,14 +16,19 @@ pub enum Error {
     ParameterNotAllowed,
     MissingParameter,
     UndefinedHeader,
+    HeaderSuffix,
     InvalidCharacterInNumber,
     ExponentTooLarge,
     TooManyDigits,
     InvalidSuffix,
     SuffixNotAllowed,
     InvalidCharacterData,
+    StringDataError,
+    InvalidStringData,
     SettingsConflict,
     DataOutOfRange,
+    TooMuchData,
+    SaveRecallMemoryLost,
     InputBufferOverrun,
     QueryInterrupted,
     QueryUnterminated,
@@ -42,14 +47,19 @@ impl Error {
             Error::ParameterNotAllowed => 108,
             Error::MissingParameter => 109,
             Error::UndefinedHeader => 113,
+            Error::HeaderSuffix => 114,
             Error::InvalidCharacterInNumber => 121,
             Error::ExponentTooLarge => 123,
             Error::TooManyDigits => 124,
             Error::InvalidSuffix => 131,
             Error::SuffixNotAllowed => 138,
             Error::InvalidCharacterData => 141,
+            Error::StringDataError => 150,
+            Error::InvalidStringData => 151,
             Error::SettingsConflict => 221,
             Error::DataOutOfRange => 222,
+            Error::TooMuchData => 223,
+            Error::SaveRecallMemoryLost => 314,
             Error::InputBufferOverrun => 363,
             Error::QueryInterrupted => 410,
             Error::QueryUnterminated => 420,
@@ -77,7 +87,7 @@ pub(crate) fn event_bit(number: u16) -> u16
 // in an answer, and zeros. The last row is for every number that has no text.
 
 // How many messages there are, and how many bytes the row of one has.
-const MESSAGES: usize = 20;
+const MESSAGES: usize = 25;
 
 const MESSAGE_SIZE: usize = 33;
 
@@ -120,14 +130,19 @@ pub fn write_error(number: u16, tail: &mut [u8]) -> usize
         \x00\x6c\x18,\"Parameter not allowed\"\0\0\0\0\0\0\
         \x00\x6d\x14,\"Missing parameter\"\0\0\0\0\0\0\0\0\0\0\
         \x00\x71\x13,\"Undefined header\"\0\0\0\0\0\0\0\0\0\0\0\
+        \x00\x72\x1d,\"Header suffix out of range\"\0\
         \x00\x79\x1e,\"Invalid character in number\"\
         \x00\x7b\x15,\"Exponent too large\"\0\0\0\0\0\0\0\0\0\
         \x00\x7c\x12,\"Too many digits\"\0\0\0\0\0\0\0\0\0\0\0\0\
         \x00\x83\x11,\"Invalid suffix\"\0\0\0\0\0\0\0\0\0\0\0\0\0\
         \x00\x8a\x15,\"Suffix not allowed\"\0\0\0\0\0\0\0\0\0\
         \x00\x8d\x19,\"Invalid character data\"\0\0\0\0\0\
+        \x00\x96\x14,\"String data error\"\0\0\0\0\0\0\0\0\0\0\
+        \x00\x97\x16,\"Invalid string data\"\0\0\0\0\0\0\0\0\
         \x00\xdd\x14,\"Settings conflict\"\0\0\0\0\0\0\0\0\0\0\
         \x00\xde\x14,\"Data out of range\"\0\0\0\0\0\0\0\0\0\0\
+        \x00\xdf\x10,\"Too much data\"\0\0\0\0\0\0\0\0\0\0\0\0\0\0\
+        \x01\x3a\x1a,\"Save/recall memory lost\"\0\0\0\0\
         \x01\x5e\x11,\"Queue overflow\"\0\0\0\0\0\0\0\0\0\0\0\0\0\
         \x01\x6b\x17,\"Input buffer overrun\"\0\0\0\0\0\0\0\
         \x01\x9a\x14,\"Query INTERRUPTED\"\0\0\0\0\0\0\0\0\0\0\

@@ -6,10 +6,12 @@
 pub mod answer;
 pub mod error;
 pub mod group;
+pub mod label;
 pub mod number;
 mod queue;
 pub mod rounding;
 pub mod settings;
+pub mod setup;
 pub mod status;
 pub mod suffix;
 pub mod text;

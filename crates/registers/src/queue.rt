@@ -12,21 +12,26 @@ pub(crate) const MOST: usize = 16;
 pub(crate) const LAST: usize = MOST - 1;
 
 // The numbers that 01 and 02 put into the queue.
-const QUEUEABLE: [u16; 19] = [
+const QUEUEABLE: [u16; 24] = [
     101,
     102,
     104,
     108,
     109,
     113,
+    114,
     121,
     123,
     124,
     131,
     138,
     141,
+    150,
+    151,
     221,
     222,
+    223,
+    314,
     350,
     363,
     410,

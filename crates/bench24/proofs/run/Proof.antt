@@ -1,69 +1,86 @@
--- The loop over the reads. Invariant: both buffers keep their lengths, and since power-up the lines of some bytes were heard (`HeardSince`);
+-- The loop over the reads. Invariant: store and buffers keep their lengths, and since power-up the lines of some bytes were heard (`HeardSince`);
 -- what one read gave is heard after that (`since-on`). Measure: the turns left.
 use mathlib.Core.Path.{_≡_, refl}
 use native.Mathlib.Omega.{arith}
 use lib.ListN.{length}
 use borrow.Author.Needs.{needs}
+use Rattle.interpreter.specs.Box.{memory}
 use Rattle.bench24.specs.Heard.{HeardSince}
 use Rattle.bench24.proofs.Hearing.{since-begun, since-on}
 use Rattle.bench24.proofs.run.Statement.{statement}
 use Rattle.bench24.proofs.run.Tie as tie
 
 abbrev Inv-loop : tie.InvT-loop
-Inv-loop input₀ output₀ state₀ turns₀ input output state turns = (length input ≡ length input₀) × (length output ≡ length output₀) × HeardSince state
+Inv-loop store₀ input₀ output₀ state₀ turns₀ store input output state turns =
+    (length store ≡ length store₀) × (length input ≡ length input₀) × (length output ≡ length output₀) × HeardSince (memory store₀) state (memory store)
 
 abbrev μ-loop : tie.MeasureT-loop
-μ-loop input₀ output₀ state₀ turns₀ input output state turns = turns
+μ-loop store₀ input₀ output₀ state₀ turns₀ store input output state turns = turns
 
 -- where the loop stands, and the read, as what was read was served
 abbrev loop-at : tie.After-serve-all Inv-loop μ-loop → tie.At-loop Inv-loop μ-loop
-loop-at v = v .before .before .before .before .before .before .before .before .before .before .before .before
+loop-at v = v .before .before .before .before .before .before .before .before .before .before .before .before .before
 
 abbrev read-at : tie.After-serve-all Inv-loop μ-loop → tie.After-read Inv-loop μ-loop
-read-at v = v .before .before .before .before .before .before .before .before .before
+read-at v = v .before .before .before .before .before .before .before .before .before .before
 
 loop-holds : tie.Need-loop-holds Inv-loop μ-loop
-loop-holds c = (refl, refl, since-begun _ (c .power-up .ensures))
+loop-holds c = (refl, refl, refl, since-begun _ _ (c .power-up .ensures))
 
 returns : tie.Need-returns Inv-loop μ-loop
-returns c = c .before .before .before .before .before .before .before .before .loop .inv .2
+returns c = c .before .before .before .before .before .before .before .before .loop .inv .3
 
 serve-all-requires : tie.Need-serve-all-requires Inv-loop μ-loop
 serve-all-requires c κs =
-    let g = c .before .before .before .before .before .before .before .before .before .before .before .loop .inv in
-    let same = g .1 in
-    let room = c .before .before .before .before .before .before .before .before .before .before .before .before .before .before .before .pre in
-    (g .2 .possible, omega arith)
-
-same-length-3 : tie.Need-same-length-3 Inv-loop μ-loop
-same-length-3 c =
-    let v = c .before .before .before .before .before in
-    let kept = read-at v .read .kept .1 .0 in
-    let same = loop-at v .loop .inv .0 in
-    omega arith
+    let g = c .before .before .before .before .before .before .before .before .before .before .before .before .loop .inv in
+    let stores = g .0 in
+    let same = g .2 in
+    let p = c .before .before .before .before .before .before .before .before .before .before .before .before .before .before .before .before .before .pre in
+    let size = p .0 in
+    let room = p .1 in
+    (g .3 .possible, omega arith, omega arith)
 
 same-length-4 : tie.Need-same-length-4 Inv-loop μ-loop
 same-length-4 c =
-    let v = c .before .before .before .before .before in
-    let kept = v .serve-all .kept .1 .1 .0 in
+    let v = c .before .before .before .before .before .before .before in
+    let kept = v .serve-all .kept .1 .0 in
+    let same = loop-at v .loop .inv .0 in
+    omega arith
+
+same-length-5 : tie.Need-same-length-5 Inv-loop μ-loop
+same-length-5 c =
+    let v = c .before .before .before .before .before .before .before in
+    let kept = read-at v .read .kept .1 .0 in
     let same = loop-at v .loop .inv .1 in
     omega arith
 
+same-length-6 : tie.Need-same-length-6 Inv-loop μ-loop
+same-length-6 c =
+    let v = c .before .before .before .before .before .before .before in
+    let kept = v .serve-all .kept .1 .1 .1 .0 in
+    let same = loop-at v .loop .inv .2 in
+    omega arith
+
 returns-2 : tie.Need-returns-2 Inv-loop μ-loop
-returns-2 c = let v = c .before .before .before .before .before in since-on _ _ _ (loop-at v .loop .inv .2) (v .serve-all .ensures)
+returns-2 c = let v = c .before .before .before .before .before .before .before in since-on _ _ _ _ _ _ (loop-at v .loop .inv .3) (v .serve-all .ensures)
+
+loop-less : tie.Need-loop-less Inv-loop μ-loop
+loop-less c = let more = c .before .before .before .before .before .before .before .before .before .before .before .before .before .before .before .before .before .before .before .loop-test .taken in omega (arith, more)
 
 loop-again : tie.Need-loop-again Inv-loop μ-loop
 loop-again c =
-    let v = c .before .before .before .before .before in
+    let v = c .before .before .before .before .before .before .before in
     let g = loop-at v .loop .inv in
+    let stores = v .serve-all .kept .1 .0 in
     let inputs = read-at v .read .kept .1 .0 in
-    let outputs = v .serve-all .kept .1 .1 .0 in
-    let same = g .0 in
-    let room = g .1 in
-    (omega arith, omega arith, since-on _ _ _ (g .2) (v .serve-all .ensures))
+    let outputs = v .serve-all .kept .1 .1 .1 .0 in
+    let size = g .0 in
+    let same = g .1 in
+    let room = g .2 in
+    (omega arith, omega arith, omega arith, since-on _ _ _ _ _ _ (g .3) (v .serve-all .ensures))
 
 returns-3 : tie.Need-returns-3 Inv-loop μ-loop
-returns-3 c = c .before .loop .inv .2
+returns-3 c = c .before .loop .inv .3
 
 pub run-spec : {M : Type 1} → statement M
 run-spec =
@@ -73,14 +90,15 @@ run-spec =
     μ-loop
     (λ c κs. tt)
     loop-holds
-    (λ c. search needs) (λ c κs. tt) (λ c κs. tt) (λ c. search needs) (λ c. search needs)
+    (λ c. search needs) (λ c κs. tt) (λ c κs. tt) (λ c. search needs) (λ c. search needs) (λ c. search needs)
     returns
     (λ c. search needs) (λ c. search needs) (λ c. search needs)
     serve-all-requires
-    same-length-3
     same-length-4
+    same-length-5
+    same-length-6
     returns-2
-    (λ c. search needs)
+    loop-less
     loop-again
-    (λ c. search needs) (λ c. search needs)
+    (λ c. search needs) (λ c. search needs) (λ c. search needs)
     returns-3)

@@ -6,21 +6,22 @@ use Rattle.interpreter.specs.Demand2.{ResetsOnly, ClearsOnly, Demand2}
 use Rattle.interpreter.proofs.line.Pieces.{piece-append, newlines-append}
 use Rattle.interpreter.proofs.demands.histories.Pieces.{recut-state, recut-results}
 use Rattle.interpreter.proofs.demands.histories.NewlineCounts.{recut-counts}
-use Rattle.interpreter.proofs.demands.Limits.{within-limits, within-range}
+use Rattle.interpreter.proofs.demands.Limits.{within-limits, text-within, within-range}
 use Rattle.interpreter.proofs.demands.trip.RoundTrip.{query-answers, round-trip}
 
 resets-only : ResetsOnly
 unfolding perform changed
-resets-only b = refl
+resets-only t b = refl
 
 clears-only : ClearsOnly
 unfolding perform
-clears-only b = refl
+clears-only t b = refl
 
 pub demand2 : Demand2
 demand2 =
     record {
       limits = within-limits;
+      text = text-within;
       range = within-range;
       resets = resets-only;
       clears = clears-only;

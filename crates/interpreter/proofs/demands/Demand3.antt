@@ -10,7 +10,7 @@ use native.Mathlib.Omega.{arith}
 use lib.ListN.{length, take, drop}
 use lib.Seq.{take-nil, drop-at}
 use Rattle.registers.specs.Text.{Text, if_then_else_}
-use Rattle.interpreter.specs.Box.{Box, box, withLine, powerUp, mostLine}
+use Rattle.interpreter.specs.Box.{Memory, Box, box, withLine, powerUp, mostLine}
 use Rattle.interpreter.specs.Line.{endLine}
 use Rattle.interpreter.specs.Events.{Event, received, Result, after}
 use Rattle.interpreter.specs.Histories.{newline, moments, Recut, isTake, noPiece, howMany, resultsOf, answers, replies}
@@ -30,18 +30,18 @@ start-cut : (k : ℕ) (b : Box) → b .core .line ≡ [] → b .core .overlong �
 unfolding cutTo
 start-cut k b p q = ap₂ (λ (l : Text) (o : Bool). box (withLine l o (b .core)) (b .trouble)) (p ∙ sym (ap (take k) p ∙ take-nil k)) q
 
-module _ (before during : List Event) (line : ALine before during) where
+module _ (m : Memory) (before during : List Event) (line : ALine m before during) where
   abbrev start : Box
-  start = after powerUp before
+  start = after (powerUp m) before
 
   abbrev end : Box
-  end = atEnd before during
+  end = atEnd m before during
 
   abbrev k : ℕ
   k = length (cutLine end)
 
   short : k ≤ mostLine
-  short = le-trans (cut-length end) (history-fit powerUp (before ++ during) power-up-fit .core .line)
+  short = le-trans (cut-length end) (history-fit (powerUp m) (before ++ during) (power-up-fit m) .core .line)
 
   -- as the newline comes, the box with the cut line is the box with its line cut
   kept : DuringKept k short start during
@@ -57,7 +57,7 @@ module _ (before during : List Event) (line : ALine before during) where
   kept-state : after start (keep k during) ≡ cut end
   kept-state =
       ap₂ (λ (y : Box) (j : ℕ). after y (keep j during)) whole (sym all-left) ∙ kept .state
-      ∙ ap (cutTo k) (sym (after-append powerUp before during)) ∙ cut-is end
+      ∙ ap (cutTo k) (sym (after-append (powerUp m) before during)) ∙ cut-is end
 
   kept-results : (p : Event → Bool) → ((xs : Text) → p (received xs) ≡ false) → resultsOf p start (keep k during) ≡ resultsOf p start during
   kept-results p silent =
@@ -69,54 +69,54 @@ module _ (before during : List Event) (line : ALine before during) where
   sent = asSent before during
 
   abbrev short-sent : List Event
-  short-sent = asCut before during
+  short-sent = asCut m before during
 
-  same-core : after powerUp sent .core ≡ after powerUp short-sent .core
+  same-core : after (powerUp m) sent .core ≡ after (powerUp m) short-sent .core
   same-core =
-      let s = newline-after powerUp (before ++ during) in
-      let c = newline-after powerUp (before ++ keep k during) ∙ ap endLine (after-append powerUp before (keep k during) ∙ kept-state) in
+      let s = newline-after (powerUp m) (before ++ during) in
+      let c = newline-after (powerUp m) (before ++ keep k during) ∙ ap endLine (after-append (powerUp m) before (keep k during) ∙ kept-state) in
       ap (λ (b : Box). b .core) s ∙ newline-cut end (line .other) ∙ sym (ap (λ (b : Box). b .core) c)
 
   module _ (p : Event → Bool) (silent : (xs : Text) → p (received xs) ≡ false) where
     -- a newline adds no result
-    newline-silent : (es : List Event) → resultsOf p powerUp (es ++ newline ∷ []) ≡ resultsOf p powerUp es
+    newline-silent : (es : List Event) → resultsOf p (powerUp m) (es ++ newline ∷ []) ≡ resultsOf p (powerUp m) es
     unfolding resultsOf if_then_else_
-    newline-silent es = results-append p powerUp es (newline ∷ []) ∙ rw (silent (10 ∷ [])) (append-nil (resultsOf p powerUp es))
+    newline-silent es = results-append p (powerUp m) es (newline ∷ []) ∙ rw (silent (10 ∷ [])) (append-nil (resultsOf p (powerUp m) es))
 
-    same-results : resultsOf p powerUp sent ≡ resultsOf p powerUp short-sent
+    same-results : resultsOf p (powerUp m) sent ≡ resultsOf p (powerUp m) short-sent
     same-results =
-        newline-silent (before ++ during) ∙ results-append p powerUp before during
-        ∙ sym (newline-silent (before ++ keep k during) ∙ results-append p powerUp before (keep k during)
-        ∙ ap (λ (rs : List Result). resultsOf p powerUp before ++ rs) (kept-results p silent))
+        newline-silent (before ++ during) ∙ results-append p (powerUp m) before during
+        ∙ sym (newline-silent (before ++ keep k during) ∙ results-append p (powerUp m) before (keep k during)
+        ∙ ap (λ (rs : List Result). resultsOf p (powerUp m) before ++ rs) (kept-results p silent))
 
   -- ---- afterwards
 
   after-agree : (later : List Event)
-      → AgreeBoth (watch (after powerUp sent) later) later (after powerUp sent) (after powerUp short-sent)
+      → AgreeBoth (watch (after (powerUp m) sent) later) later (after (powerUp m) sent) (after (powerUp m) short-sent)
   after-agree later =
       over-cores (λ (a b : Box). AgreeBoth (watch a later) later a b) (λ c t t′. history-agree later c t t′)
-      (after powerUp sent) (after powerUp short-sent) same-core
+      (after (powerUp m) sent) (after (powerUp m) short-sent) same-core
 
-  watch-alike : (later : List Event) → watch (after powerUp sent) later ≡ watch (after powerUp short-sent) later
+  watch-alike : (later : List Event) → watch (after (powerUp m) sent) later ≡ watch (after (powerUp m) short-sent) later
   watch-alike later =
       over-cores (λ (a b : Box). watch a later ≡ watch b later) (λ c t t′. history-watch later c t t′)
-      (after powerUp sent) (after powerUp short-sent) same-core
+      (after (powerUp m) sent) (after (powerUp m) short-sent) same-core
 
   module _ (later h h′ : List Event) (is : Recut h (sent ++ later)) (is′ : Recut h′ (short-sent ++ later)) where
-    state-agree : Agree (watch (after powerUp sent) later) (after powerUp h) (after powerUp h′)
+    state-agree : Agree (watch (after (powerUp m) sent) later) (after (powerUp m) h) (after (powerUp m) h′)
     state-agree =
-        subst₂ (Agree (watch (after powerUp sent) later))
-        (sym (recut-state powerUp h (sent ++ later) is ∙ after-append powerUp sent later))
-        (sym (recut-state powerUp h′ (short-sent ++ later) is′ ∙ after-append powerUp short-sent later))
+        subst₂ (Agree (watch (after (powerUp m) sent) later))
+        (sym (recut-state (powerUp m) h (sent ++ later) is ∙ after-append (powerUp m) sent later))
+        (sym (recut-state (powerUp m) h′ (short-sent ++ later) is′ ∙ after-append (powerUp m) short-sent later))
         (after-agree later .0)
 
-    taken-agree : AgreeAnswers (watch (after powerUp sent) later) (answers powerUp h) (answers powerUp h′)
+    taken-agree : AgreeAnswers (watch (after (powerUp m) sent) later) (answers (powerUp m) h) (answers (powerUp m) h′)
     taken-agree =
-        subst₂ (AgreeAnswers (watch (after powerUp sent) later))
-        (sym (recut-results isTake (λ xs. refl) powerUp h (sent ++ later) is ∙ results-append isTake powerUp sent later))
-        (sym (recut-results isTake (λ xs. refl) powerUp h′ (short-sent ++ later) is′ ∙ results-append isTake powerUp short-sent later
-        ∙ ap (λ (rs : List Result). rs ++ answers (after powerUp short-sent) later) (sym (same-results isTake (λ xs. refl)))))
-        (answers-after (watch (after powerUp sent) later) (answers powerUp sent) _ _ (after-agree later .1))
+        subst₂ (AgreeAnswers (watch (after (powerUp m) sent) later))
+        (sym (recut-results isTake (λ xs. refl) (powerUp m) h (sent ++ later) is ∙ results-append isTake (powerUp m) sent later))
+        (sym (recut-results isTake (λ xs. refl) (powerUp m) h′ (short-sent ++ later) is′ ∙ results-append isTake (powerUp m) short-sent later
+        ∙ ap (λ (rs : List Result). rs ++ answers (after (powerUp m) short-sent) later) (sym (same-results isTake (λ xs. refl)))))
+        (answers-after (watch (after (powerUp m) sent) later) (answers (powerUp m) sent) _ _ (after-agree later .1))
       where
         answers-after : (w : Watch) (x a b : List Result) → AgreeAnswers w a b → AgreeAnswers w (x ++ a) (x ++ b)
         answers-after neither x a b e = ap (λ (rs : List Result). x ++ rs) e
@@ -124,11 +124,11 @@ module _ (before during : List Event) (line : ALine before during) where
         answers-after cleared x a b e = ap (λ (rs : List Result). x ++ rs) e
 
 -- the results of a history in any pieces, after those of a first part
-after-first-at : (h first onward : List Event) (n : ℕ) → Recut h (first ++ onward) → others first ≡ n
-    → drop n (replies powerUp h) ≡ replies (after powerUp first) onward
-after-first-at h first onward n e m =
-    ap (drop n) (recut-results noPiece (λ xs. refl) powerUp h (first ++ onward) e ∙ results-append noPiece powerUp first onward)
-    ∙ drop-at (replies powerUp first) (replies (after powerUp first) onward) n (results-length noPiece powerUp first ∙ m)
+after-first-at : (m : Memory) (h first onward : List Event) (n : ℕ) → Recut h (first ++ onward) → others first ≡ n
+    → drop n (replies (powerUp m) h) ≡ replies (after (powerUp m) first) onward
+after-first-at m h first onward n e k =
+    ap (drop n) (recut-results noPiece (λ xs. refl) (powerUp m) h (first ++ onward) e ∙ results-append noPiece (powerUp m) first onward)
+    ∙ drop-at (replies (powerUp m) first) (replies (after (powerUp m) first) onward) n (results-length noPiece (powerUp m) first ∙ k)
 
 -- the newline, and bytes that are cut, count for nothing
 others-line : (before during meanwhile : List Event) (d : List Event) → others d ≡ others during
@@ -137,33 +137,33 @@ unfolding howMany if_then_else_
 others-line before during meanwhile d e =
     simp (others-append, e) (omega arith)
 
-module _ (before during : List Event) (line : ALine before during) (h h′ meanwhile onward : List Event) where
-  results-agree : Recut h (asSent before during ++ meanwhile ++ onward) → Recut h′ (asCut before during ++ meanwhile ++ onward)
-      → watch (after powerUp (asSent before during)) meanwhile ≡ cleared
-      → drop (others (before ++ during ++ meanwhile)) (replies powerUp h) ≡ drop (others (before ++ during ++ meanwhile)) (replies powerUp h′)
+module _ (m : Memory) (before during : List Event) (line : ALine m before during) (h h′ meanwhile onward : List Event) where
+  results-agree : Recut h (asSent before during ++ meanwhile ++ onward) → Recut h′ (asCut m before during ++ meanwhile ++ onward)
+      → watch (after (powerUp m) (asSent before during)) meanwhile ≡ cleared
+      → drop (others (before ++ during ++ meanwhile)) (replies (powerUp m) h) ≡ drop (others (before ++ during ++ meanwhile)) (replies (powerUp m) h′)
   results-agree is is′ w =
       let sent = asSent before during in
-      let short = asCut before during in
-      let k = length (cutLine (atEnd before during)) in
+      let short = asCut m before during in
+      let k = length (cutLine (atEnd m before during)) in
       let n = others (before ++ during ++ meanwhile) in
-      let a : Agree cleared (after (after powerUp sent) meanwhile) (after (after powerUp short) meanwhile) =
-      rw w at (after-agree before during line meanwhile .0) in
-      let same : after powerUp (sent ++ meanwhile) ≡ after powerUp (short ++ meanwhile) =
-      after-append powerUp sent meanwhile ∙ a ∙ sym (after-append powerUp short meanwhile) in
-      after-first-at h (sent ++ meanwhile) onward n is (others-line before during meanwhile during refl)
+      let a : Agree cleared (after (after (powerUp m) sent) meanwhile) (after (after (powerUp m) short) meanwhile) =
+      rw w at (after-agree m before during line meanwhile .0) in
+      let same : after (powerUp m) (sent ++ meanwhile) ≡ after (powerUp m) (short ++ meanwhile) =
+      after-append (powerUp m) sent meanwhile ∙ a ∙ sym (after-append (powerUp m) short meanwhile) in
+      after-first-at m h (sent ++ meanwhile) onward n is (others-line before during meanwhile during refl)
       ∙ ap (λ (b : Box). replies b onward) same
-      ∙ sym (after-first-at h′ (short ++ meanwhile) onward n is′ (others-line before during meanwhile (keep k during) (others-keep k during)))
+      ∙ sym (after-first-at m h′ (short ++ meanwhile) onward n is′ (others-line before during meanwhile (keep k during) (others-keep k during)))
 
 pub demand3 : Statement
-demand3 before during later h h′ line is is′ =
-    let front : (f m o : List Event) → later ≡ m ++ o → f ++ later ≡ f ++ m ++ o =
-    λ f m o e. ap (λ (l : List Event). f ++ l) e ∙ sym (append-assoc f m o) in
+demand3 m before during later h h′ line is is′ =
+    let front : (f a o : List Event) → later ≡ a ++ o → f ++ later ≡ f ++ a ++ o =
+    λ f a o e. ap (λ (l : List Event). f ++ l) e ∙ sym (append-assoc f a o) in
     record {
-      first = watch-alike before during line later;
-      state = state-agree before during line later h h′ is is′;
-      taken = taken-agree before during line later h h′ is is′;
-      results = λ m o split w.
-          results-agree before during line h h′ m o (is ∙ ap moments (front (asSent before during) m o split))
-          (is′ ∙ ap moments (front (asCut before during) m o split)) w;
-      counts = cut-counts powerUp (length (cutLine (atEnd before during))) before during later h h′ (line .underWay) is is′;
+      first = watch-alike m before during line later;
+      state = state-agree m before during line later h h′ is is′;
+      taken = taken-agree m before during line later h h′ is is′;
+      results = λ a o split w.
+          results-agree m before during line h h′ a o (is ∙ ap moments (front (asSent before during) a o split))
+          (is′ ∙ ap moments (front (asCut m before during) a o split)) w;
+      counts = cut-counts (powerUp m) (length (cutLine (atEnd m before during))) before during later h h′ (line .underWay) is is′;
     }

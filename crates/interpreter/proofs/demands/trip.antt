@@ -3,3 +3,4 @@ pub mod ReadBack
 pub mod SentUnit
 pub mod AnswerWaits
 pub mod RoundTrip
+pub mod ShownText

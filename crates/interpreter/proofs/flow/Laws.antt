@@ -15,12 +15,11 @@ use borrow.Rule.Slice.PartMut.{putMid}
 use borrow.Author.Tests.{lt-ltb, le-ltb, eqb-true, ltb-true, ltb-false}
 use Rattle.bytes.specs.Bytes.{indexOf, indexAfter, slice}
 use Rattle.registers.specs.Text.{Text, if_then_else_}
-use Rattle.interpreter.specs.Box.{Core, Box, box, withLine, mostLine}
+use Rattle.interpreter.specs.Box.{Memory, memory, storeSize, Core, Box, box, withLine, mostLine}
 use Rattle.interpreter.specs.Line.{held, byte, piece, newlines}
 use Rattle.interpreter.specs.FlowParts.{flowBox, FlowFits, firstLine, FlowFed}
 use Rattle.interpreter.specs.declared.flow.Flow.{Flow}
 use Rattle.interpreter.proofs.Lists.{rest-is}
-use Rattle.interpreter.proofs.line.Units.{place}
 use Rattle.interpreter.proofs.line.Pieces.{piece-append, newlines-append}
 
 -- ---- a text laid over another
@@ -37,6 +36,11 @@ module _ (d : Text) (at : ℕ) (s : Text) (n : ℕ) (has : n ≤ length s) (room
       (omega arith, rw (is, sub-zero, take-length (take n s), l, all, none, append-nil, append-assoc, drop-drop n at d))
 
 -- ---- the first newline
+
+-- where a byte stands in the rest of a text
+place : (x : ℕ) (l : Text) (at end : ℕ) → end ≡ at + indexOf x (slice at (length l) l) → end - at ≡ indexOf x (drop at l)
+unfolding slice
+place x l at end is = let e : end ≡ at + indexOf x (drop at l) = rw (take-length l) at is in omega arith
 
 none-before : (l : Text) → newlines (take (indexOf 10 l) l) ≡ 0
 unfolding newlines indexOf indexAfter if_then_else_
@@ -160,28 +164,28 @@ heldIn f at o n = record { present = f .present; filled = at; overlong = o; read
 
 module _ (f : Flow) (line part : Text) (w : FlowFits f) (long : length line ≡ mostLine) (plain : newlines part ≡ 0) where
   pub held-fed : (n at : ℕ) (lines : Text) → n ≡ min (length part) (mostLine - f .filled) → at ≡ f .filled + n → lines ≡ paste line (f .filled) part n
-      → (out : Text) → FlowFed f line out part (heldIn f at (f .overlong || ltb n (length part)) (f .read + length part)) lines out
-  held-fed n at lines is e l out =
+      → (out : Text) (m : Memory) → FlowFed f line out m part (heldIn f at (f .overlong || ltb n (length part)) (f .read + length part)) lines out m
+  held-fed n at lines is e l out m =
       let h = w .filled in
-      let m = min-take part (mostLine - f .filled) n is in
+      let most = min-take part (mostLine - f .filled) n is in
       let k : length (take (f .filled) line) ≡ f .filled = length-take-le (f .filled) line (omega arith) in
-      let all = piece-held part (flowBox f line out) plain (rw k h) in
+      let all = piece-held part (flowBox f line out m) plain (rw k h) in
       record {
         fits = record { filled = omega arith; waiting = w .waiting; queued = w .queued; few = (let few = w .few in omega arith) };
-        box = rw (e, l, take-paste line (f .filled) part n (omega arith) (omega arith), m .0, m .1) (sym (rw k at all));
+        box = rw (e, l, take-paste line (f .filled) part n (omega arith) (omega arith), most .0, most .1) (sym (rw k at all));
         read = refl;
         count = omega arith;
       }
 
 -- ---- bytes taken in, one part after the other
 
-pub fed-none : (f : Flow) (line out : Text) → FlowFits f → FlowFed f line out [] f line out
+pub fed-none : (f : Flow) (line out : Text) (m : Memory) → FlowFits f → FlowFed f line out m [] f line out m
 unfolding piece newlines
-fed-none f line out w = record { fits = w; box = refl; read = omega arith; count = omega arith }
+fed-none f line out m w = record { fits = w; box = refl; read = omega arith; count = omega arith }
 
-pub fed-then : (f g r : Flow) (line out xs line₁ out₁ ys line₂ out₂ : Text) → FlowFed f line out xs g line₁ out₁ → FlowFed g line₁ out₁ ys r line₂ out₂
-    → FlowFed f line out (xs ++ ys) r line₂ out₂
-fed-then f g r line out xs line₁ out₁ ys line₂ out₂ p q =
+pub fed-then : (f g r : Flow) (line out xs line₁ out₁ ys line₂ out₂ : Text) (m m₁ m₂ : Memory)
+    → FlowFed f line out m xs g line₁ out₁ m₁ → FlowFed g line₁ out₁ m₁ ys r line₂ out₂ m₂ → FlowFed f line out m (xs ++ ys) r line₂ out₂ m₂
+fed-then f g r line out xs line₁ out₁ ys line₂ out₂ m₀ m₁ m₂ p q =
     let n = newlines-append xs ys in
     let c = p .count in
     let d = q .count in
@@ -196,17 +200,20 @@ fed-then f g r line out xs line₁ out₁ ys line₂ out₂ p q =
 
 -- ---- a piece line by line
 
-pub record Feeding (f₀ : Flow) (line₀ out₀ bytes line out : Text) (f : Flow) : Type 0 where
+pub record Feeding (f₀ : Flow) (line₀ out₀ store₀ bytes line out store : Text) (f : Flow) : Type 0 where
   pub within : f .read ≤ length bytes
-  pub fed : FlowFed f₀ line₀ out₀ (take (f .read) bytes) f line out
+  pub sized : length store ≡ storeSize
+  pub fed : FlowFed f₀ line₀ out₀ (memory store₀) (take (f .read) bytes) f line out (memory store)
 
-pub feed-begun : (f : Flow) (line out bytes : Text) → FlowFits f → f .read ≡ 0 → Feeding f line out bytes line out f
-feed-begun f line out bytes w z =
+pub feed-begun : (f : Flow) (line out store bytes : Text) → FlowFits f → f .read ≡ 0 → length store ≡ storeSize
+    → Feeding f line out store bytes line out store f
+feed-begun f line out store bytes w z l =
     let none : take (f .read) bytes ≡ [] = ap (λ (n : ℕ). take n bytes) z in
-    record { within = omega arith; fed = rw none (fed-none f line out w) }
+    record { within = omega arith; sized = l; fed = rw none (fed-none f line out (memory store) w) }
 
-module _ (f₀ : Flow) (line₀ out₀ bytes line out : Text) (f : Flow) (g : Feeding f₀ line₀ out₀ bytes line out f) where
-  module _ (h : f .read < length bytes) (r : Flow) (line′ out′ : Text) (w : FlowFed f line out (firstLine (drop (f .read) bytes)) r line′ out′) where
+module _ (f₀ : Flow) (line₀ out₀ store₀ bytes line out store : Text) (f : Flow) (g : Feeding f₀ line₀ out₀ store₀ bytes line out store f) where
+  module _ (h : f .read < length bytes) (r : Flow) (line′ out′ store′ : Text)
+      (w : FlowFed f line out (memory store) (firstLine (drop (f .read) bytes)) r line′ out′ (memory store′)) where
     pub feed-further : f .read < r .read
     feed-further =
         let d = length-drop (f .read) bytes in
@@ -214,15 +221,15 @@ module _ (f₀ : Flow) (line₀ out₀ bytes line out : Text) (f : Flow) (g : Fe
         let n = w .read in
         omega arith
 
-    pub feed-on : Feeding f₀ line₀ out₀ bytes line′ out′ r
-    feed-on =
+    pub feed-on : length store′ ≡ length store → Feeding f₀ line₀ out₀ store₀ bytes line′ out′ store′ r
+    feed-on kept =
         let first = firstLine (drop (f .read) bytes) in
         let d = length-drop (f .read) bytes in
         let m = first-within (drop (f .read) bytes) in
         let n = w .read in
         let e : take (r .read) bytes ≡ take (f .read) bytes ++ first =
         rw (n, take-add (f .read) (length first) bytes, first-front (drop (f .read) bytes)) in
-        record { within = omega arith; fed = rw e (fed-then f₀ f r line₀ out₀ (take (f .read) bytes) line out first line′ out′ (g .fed) w) }
+        record { within = omega arith; sized = kept ∙ g .sized; fed = rw e (fed-then f₀ f r line₀ out₀ (take (f .read) bytes) line out first line′ out′ _ _ _ (g .fed) w) }
 
-  pub feed-end : length bytes ≤ f .read → FlowFed f₀ line₀ out₀ bytes f line out
+  pub feed-end : length bytes ≤ f .read → FlowFed f₀ line₀ out₀ (memory store₀) bytes f line out (memory store)
   feed-end h = rw (take-all (f .read) bytes h) at (g .fed)

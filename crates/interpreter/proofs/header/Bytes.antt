@@ -11,7 +11,7 @@ use borrow.Author.Tests.{eqb-true, ne-eqb, le-leb, lt-leb, ltb-true, ltb-false}
 use Rattle.registers.specs.Text.{Text, if_then_else_, white, printable, digit, small, letter, wordByte, every, first, rest, below}
 use Rattle.registers.specs.Check.{Checked, refused, passed, check, _>>_}
 use Rattle.registers.proofs.Tests.{and-both, and-true, below-at}
-use Rattle.interpreter.specs.Cuts.{joinFirst, cutAt}
+use Rattle.interpreter.specs.Cuts.{joinFirst, cutAt, isQuote}
 use Rattle.interpreter.specs.Header.{Place, Header, asks, name, placed, header, bodyOf, byFirst}
 use Rattle.interpreter.proofs.Choices.{if-elim}
 use Rattle.interpreter.proofs.Checks.{apart}
@@ -53,6 +53,17 @@ all-solid = refl
 
 header-solid : (b : ℕ) → headerByte b ≡ true → solid b ≡ true
 header-solid b e = rw e at (below-at 128 (λ b. not (headerByte b) || solid b) all-solid b (below-128 b e (ltb b 128) refl))
+
+-- nor does any open a quote
+unfoldable pub unquoted : ℕ → Bool
+unquoted b = not (isQuote b)
+
+all-unquoted : below 128 (λ b. not (headerByte b) || unquoted b) ≡ true
+unfolding headerByte unquoted wordByte letter small digit
+all-unquoted = refl
+
+header-unquoted : (b : ℕ) → headerByte b ≡ true → unquoted b ≡ true
+header-unquoted b e = rw e at (below-at 128 (λ b. not (headerByte b) || unquoted b) all-unquoted b (below-128 b e (ltb b 128) refl))
 
 -- ---- names joined by separators
 
@@ -135,3 +146,9 @@ unfolding bodyOf if_then_else_
 header-is-solid h x e set =
     let r = body-solid h x e in
     rw (r .1 ∙ set) at (r .0)
+
+pub header-is-unquoted : (h : Text) (x : Header) → header h ≡ passed x → x .query ≡ false → every unquoted h ≡ true
+unfolding header bodyOf if_then_else_
+header-is-unquoted h x e set =
+    let r = first-bytes (bodyOf h) (asks h) x e in
+    rw (r .1 ∙ set) at (every-map headerByte unquoted header-unquoted (bodyOf h) (r .0))

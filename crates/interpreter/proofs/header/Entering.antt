@@ -14,12 +14,12 @@ use Rattle.registers.specs.Text.{Text, if_then_else_, visible, letter, small, d
 use Rattle.registers.proofs.Tests.{is-true, and-true}
 use Rattle.registers.proofs.text.Laws.{rest-at, drop-start, start-passes}
 use Rattle.interpreter.specs.Header.{name}
-use Rattle.interpreter.specs.NameParts.{codeOf, withCode, keyFrom, keyOf, nameIn, NameRead, codeCount}
+use Rattle.interpreter.specs.NameParts.{codeOf, withCode, keyFrom, wordKey, classOf, keyOf, suffixPlace, stemByte, nameIn, NameRead, codeCount}
 use Rattle.interpreter.specs.HeaderParts.{mostNames, asksIn, namesIn, unasked, Entered, TailRead, NamesRead}
 use Rattle.interpreter.specs.declared.name.Name.{Name}
 use Rattle.interpreter.specs.declared.header.Names.{Names}
 use Prim.Native.Char.{code}
-use Rattle.interpreter.proofs.table.Codes.{letter-word, code-some}
+use Rattle.interpreter.proofs.table.Codes.{letter-word, letter-stem, code-some, digit-alone}
 use Rattle.interpreter.proofs.header.Scan.{scan-none, scan-on, scan-on-asks, scan-on-length, scan-last, scan-last-asks, scan-last-length, scan-bad}
 
 -- ---- a name is entered
@@ -63,22 +63,31 @@ after-first p z (b ∷ t) = go (p b) refl (after-first p z t)
     go true q ih = ih
     go false q ih = q
 
+-- a name that starts with a letter has a number
+not-digit : (b : ℕ) → letter b ≡ true → digit b ≡ false
+not-digit b e = go (digit b) refl
+  where
+    go : (d : Bool) → digit b ≡ d → digit b ≡ false
+    go true q = absurd (false≢true (sym (digit-alone b q .0) ∙ e))
+    go false q = q
+
+some-key : (b : ℕ) (t : Text) → letter b ≡ true → 0 < keyOf (b ∷ t)
+unfolding keyOf wordKey withCode if_then_else_
+some-key b t e = let s = code-some b (letter-stem b e) in rw (not-digit b e) (omega arith)
+
 module _ (u : Text) where
   -- a number that is 0 is that of no name
   pub unnamed : keyOf (nameIn u) ≡ 0 → letter (first u) ≡ false
-  unfolding nameIn keyOf withCode letter small if_then_else_
+  unfolding nameIn letter small if_then_else_
   unnamed e = go u (letter (first u)) refl e
     where
       go : (t : Text) (l : Bool) → letter (first t) ≡ l → keyOf (if l then start wordByte t else []) ≡ 0 → l ≡ false
       go t false q k = refl
       go [] true q k = absurd (false≢true q)
-      go (b ∷ t) true q k =
-          let s = code-some b (letter-word b q) in
-          let z : keyFrom 0 (start wordByte t) % 2 ^ 59 * codeCount + codeOf b ≡ 0 = rw (letter-word b q) at k in
-          absurd (omega arith)
+      go (b ∷ t) true q k = absurd (let s = some-key b (start wordByte t) q in let z : keyOf (b ∷ start wordByte t) ≡ 0 = rw (letter-word b q) at k in omega arith)
 
   pub named : (keyOf (nameIn u) ≡ 0 → ⊥) → letter (first u) ≡ true
-  unfolding nameIn keyOf if_then_else_
+  unfolding nameIn keyOf wordKey classOf if_then_else_
   named ne = go (letter (first u)) refl ne
     where
       go : (l : Bool) → letter (first u) ≡ l → (keyOf (if l then start wordByte u else []) ≡ 0 → ⊥) → l ≡ true

@@ -12,16 +12,19 @@ use Rattle.registers.specs.Text.{Text, if_then_else_, white, visible, letter, s
 use Rattle.registers.specs.Check.{refused, passed, check, _>>_}
 use Rattle.registers.proofs.Tests.{and-both}
 use Rattle.interpreter.specs.Cuts.{cutAt}
-use Rattle.interpreter.specs.Header.{Place, common, root, here, Header, header, placed, name, isCommon, fullNames, pathAfter, bodyOf, byFirst}
-use Rattle.interpreter.specs.DeedParts.{rowCount}
-use Rattle.interpreter.specs.RowsParts.{rowOf, rowOfKeys}
+use Rattle.interpreter.specs.Header.{Place, common, root, here, Header, header, placed, name, isCommon, fullNames, pathAfter, bodyOf, byFirst, suffixIn}
+use Rattle.interpreter.specs.NameParts.{classOf}
+use Rattle.interpreter.specs.DeedParts as deeds
+use Rattle.interpreter.specs.DeedParts.{placeCount}
+use Rattle.interpreter.specs.RowsParts.{rowOf, classIn, rowOfKeys}
 use Rattle.interpreter.specs.TableParts.{orZero}
 use Rattle.interpreter.specs.HeaderParts.{mostNames, asksIn, namesIn, Holds, NamesGood, HeaderRead, starred, rooted, LookedUp}
 use Rattle.interpreter.specs.declared.header.Names.{Names}
 use Rattle.interpreter.specs.declared.header.Looked.the-variants.{At}
 use Prim.Native.Char.{code}
 use Rattle.interpreter.proofs.header.Scan.{asks-cons, body-cons, body-first}
-use Rattle.interpreter.proofs.header.Path.{path-row, path-left, counted, star-row, star-left}
+use Rattle.interpreter.proofs.header.Path.{path-place, path-left, counted, star-place, star-left}
+use Rattle.interpreter.proofs.deed.Laws.{place-row}
 
 -- ---- what leads a header
 
@@ -96,13 +99,13 @@ module _ (t : Text) {s r : Bool} (l : Led t s r) where
       (keys : List ℕ) (long : length keys ≡ mostNames) (x : Names) (row : ℕ) where
     -- the row of the names that it stands for, and the path
     abbrev Row : Type 0
-    Row = row ≡ rowOf (isCommon (placeOf s r)) (fullNames (placeOf s r) path names) (x .asked)
+    Row = row ≡ deeds.placeOf (rowOf (isCommon (placeOf s r)) (fullNames (placeOf s r) path names) (x .asked)) (classOf (suffixIn (fullNames (placeOf s r) path names)))
 
     abbrev Left : Type 0
-    Left = row < rowCount → Holds (pathAfter (placeOf s r) path names) keys (x .count - 1)
+    Left = row < placeCount → Holds (pathAfter (placeOf s r) path names) keys (x .count - 1)
 
     looked : every name names ≡ true → {held : List ℕ} → NamesGood (not s) t n held x keys → Row → Left
-        → LookedUp path t (At (record { row = row; asked = x .asked }) (x .count - 1) (x .end)) keys
+        → LookedUp path t (At (record { place = row; asked = x .asked }) (x .count - 1) (x .end)) keys
     looked good g at left = (
       read,
       look-good good,
@@ -128,28 +131,28 @@ module _ (t : Text) (path : List Text) (before : List ℕ) (used : ℕ) (p : Hol
     (keys : List ℕ) (long : length keys ≡ mostNames) (x : Names) (row : ℕ) where
   look-at : (s r : Bool) → Led t s r → every name (namesIn (not s) (drop (boolByte (s || r)) t)) ≡ true
       → NamesGood (not s) t (boolByte (s || r)) (take (orZero (not r) used) before) x keys
-      → row ≡ rowOfKeys s (drop (orZero s used) (take (x .count) keys)) (x .asked)
-      → LookedUp path t (At (record { row = row; asked = x .asked }) (x .count - 1) (x .end)) keys
+      → row ≡ deeds.placeOf (rowOfKeys s (drop (orZero s used) (take (x .count) keys)) (x .asked)) (classIn (drop (orZero s used) (take (x .count) keys)))
+      → LookedUp path t (At (record { place = row; asked = x .asked }) (x .count - 1) (x .end)) keys
   unfolding namesIn if_then_else_
   look-at true false l good g f =
       let name-of = bodyOf (start visible (drop 1 t)) in
       let e = and-both (name name-of) true good .0 in
       looked t l path before used p was keys long x row good g
-      (f ∙ star-row before used (p .few) was name-of keys long (x .count) (g .few) (g .held) e (x .asked))
+      (f ∙ star-place before used (p .few) was name-of keys long (x .count) (g .few) (g .held) e (x .asked))
       (λ h. star-left before used (p .few) was name-of keys long (x .count) (g .few) (g .held) path p)
   look-at false true l good g f =
       let names = cutAt (code ":") (bodyOf (start visible (drop 1 t))) in
-      let at = f ∙ path-row [] names refl good keys long (x .count) (g .few) (g .held) (x .asked) in
+      let at = f ∙ path-place [] names refl good keys long (x .count) (g .few) (g .held) (x .asked) in
       looked t l path before used p was keys long x row good g at
-      (λ h. path-left [] names refl good keys long (x .count) (g .few) (g .held) (x .asked) (rw at at h))
+      (λ h. path-left [] names refl good keys long (x .count) (g .few) (g .held) (x .asked) (place-row _ _ (rw at at h)))
   look-at false false l good g f =
       let names = cutAt (code ":") (bodyOf (start visible (drop 0 t))) in
       let held = rw (p .is) at (g .held) in
-      let at = f ∙ path-row path names (p .all) good keys long (x .count) (g .few) held (x .asked) in
+      let at = f ∙ path-place path names (p .all) good keys long (x .count) (g .few) held (x .asked) in
       looked t l path before used p was keys long x row good g at
-      (λ h. path-left path names (p .all) good keys long (x .count) (g .few) held (x .asked) (rw at at h))
+      (λ h. path-left path names (p .all) good keys long (x .count) (g .few) held (x .asked) (place-row _ _ (rw at at h)))
   look-at true true l good g f = absurd (false≢true (sym (l .one refl)))
 
-  pub look-found : HeaderRead used t before x keys → x .good ≡ true → row ≡ rowOfKeys (starred t) (drop (orZero (starred t) used) (take (x .count) keys)) (x .asked)
-      → LookedUp path t (At (record { row = row; asked = x .asked }) (x .count - 1) (x .end)) keys
+  pub look-found : HeaderRead used t before x keys → x .good ≡ true → row ≡ deeds.placeOf (rowOfKeys (starred t) (drop (orZero (starred t) used) (take (x .count) keys)) (x .asked)) (classIn (drop (orZero (starred t) used) (take (x .count) keys)))
+      → LookedUp path t (At (record { place = row; asked = x .asked }) (x .count - 1) (x .end)) keys
   look-found m good f = look-at (starred t) (rooted t) (led t) (sym (m .good) ∙ good) (m .found good) f

@@ -9,7 +9,7 @@ use lib.ListN.{length, getD}
 use Rattle.registers.specs.Text.{Text, if_then_else_}
 use Rattle.registers.specs.Check.{refused, passed}
 use Rattle.interpreter.specs.Rows.{Row, rows, fitsRow, findRow}
-use Rattle.interpreter.specs.DeedParts.{rowCount, roleAt}
+use Rattle.interpreter.specs.DeedParts.{rowCount, rowRole}
 use Rattle.interpreter.specs.TableParts.{firstFit}
 use Rattle.interpreter.specs.RowsParts.{rowOf}
 use Rattle.interpreter.specs.declared.deed.Role.{Role}
@@ -57,8 +57,8 @@ module _ (star : Bool) (names : List Text) (asked : Bool) where
     unfolding rowOf
     found-none h = let n = rows-many in none-in rows (omega arith)
 
-    pub found-role : row < rowCount → findRow star names asked rows ≡ passed (roleAt row)
-    unfolding rowOf roleAt
+    pub found-role : row < rowCount → findRow star names asked rows ≡ passed (rowRole row)
+    unfolding rowOf rowRole
     found-role h =
         let n = rows-many in
         let f = found-in rows (setting row) (omega arith) in

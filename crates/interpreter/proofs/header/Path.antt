@@ -5,18 +5,22 @@ use mathlib.Core.Bool.{Bool, true, false}
 use mathlib.Core.List.{List, [], _∷_, _++_, map, map-append}
 use Prim.Native.Nat.{ℕ, suc, _+_, _-_, _≤_, _<_}
 use native.Mathlib.Omega.{arith}
+use lib.Dec.{ltb}
 use lib.ListN.{length, take, drop, length-append, length-take, length-map}
+use borrow.Author.Tests.{ltb-true, ltb-false}
 use lib.Seq.{length-take-le, take-all, take-take, take-append-seam, drop-append-seam}
 use Rattle.registers.specs.Text.{Text, if_then_else_, every}
 use Rattle.registers.proofs.Tests.{and-both, and-true, every-append}
 use Rattle.interpreter.specs.Cuts.{front}
-use Rattle.interpreter.specs.Header.{name}
-use Rattle.interpreter.specs.NameParts.{keyOf}
-use Rattle.interpreter.specs.DeedParts.{rowCount}
-use Rattle.interpreter.specs.RowsParts.{rowOf, rowOfKeys}
+use Rattle.interpreter.specs.Header.{name, suffixIn}
+use Rattle.interpreter.specs.NameParts.{classOf, keyOf}
+use Rattle.interpreter.specs.DeedParts.{rowCount, placeCount, placeOf}
+use Rattle.interpreter.specs.RowsParts.{rowOf, classIn, rowOfKeys}
 use Rattle.interpreter.specs.TableParts.{orZero}
 use Rattle.interpreter.specs.HeaderParts.{mostNames, Holds}
 use Rattle.interpreter.proofs.rows.Numbers.{row-same, held-same, found-few}
+use Rattle.interpreter.proofs.rows.Suffixes.{class-names}
+use Rattle.interpreter.proofs.deed.Laws.{place-nowhere}
 
 every-front {ℓ} : {A : Type ℓ} (p : A → Bool) (l : List A) → every p l ≡ true → every p (front l) ≡ true
 unfolding if_then_else_
@@ -56,6 +60,21 @@ module _ (path names : List Text) (known : every name path ≡ true) (good : eve
   pub path-row : (asked : Bool) → rowOfKeys false (take count keys) asked ≡ rowOf false full asked
   path-row asked = ap (λ (k : List ℕ). rowOfKeys false k asked) all-held ∙ held-same false asked (map keyOf full) ∙ row-same false full asked full-good
 
+  -- a header that has a row has all its names held
+  all-names : (asked : Bool) → rowOf false full asked < rowCount → take count keys ≡ map keyOf full
+  all-names asked h =
+      let short = found-few false asked (map keyOf full) (rw (sym (row-same false full asked full-good)) at h) in
+      all-held ∙ take-all mostNames (map keyOf full) (omega arith)
+
+  -- so that its place is the one of its names
+  pub path-place : (asked : Bool) → placeOf (rowOfKeys false (take count keys) asked) (classIn (take count keys)) ≡ placeOf (rowOf false full asked) (classOf (suffixIn full))
+  path-place asked = rw (path-row asked) (go (ltb (rowOf false full asked) rowCount) refl)
+    where
+      go : (b : Bool) → ltb (rowOf false full asked) rowCount ≡ b
+          → placeOf (rowOf false full asked) (classIn (take count keys)) ≡ placeOf (rowOf false full asked) (classOf (suffixIn full))
+      go true e = rw (all-names asked (ltb-true _ rowCount e), class-names full full-good)
+      go false e = place-nowhere (rowOf false full asked) _ _ (ltb-false _ rowCount e)
+
   -- a header that has a row leaves all its names but the last
   pub path-left : (asked : Bool) → rowOf false full asked < rowCount → Holds (front full) keys (count - 1)
   path-left asked h =
@@ -91,6 +110,13 @@ module _ (before : List ℕ) (used : ℕ) (room : used < mostNames) (was : lengt
       let d : drop used (take count keys) ≡ keyOf n ∷ [] =
       rw entered-after (subst (λ (k : ℕ). drop k (take used before ++ keyOf n ∷ []) ≡ keyOf n ∷ []) (length-take-le used before (omega arith)) (drop-append-seam (take used before) (keyOf n ∷ []))) in
       rw d (row-same true (n ∷ []) asked (rw e))
+
+  pub star-place : name n ≡ true → (asked : Bool)
+      → placeOf (rowOfKeys true (drop used (take count keys)) asked) (classIn (drop used (take count keys))) ≡ placeOf (rowOf true (n ∷ []) asked) (classOf (suffixIn (n ∷ [])))
+  star-place e asked =
+      let d : drop used (take count keys) ≡ keyOf n ∷ [] =
+      rw entered-after (subst (λ (k : ℕ). drop k (take used before ++ keyOf n ∷ []) ≡ keyOf n ∷ []) (length-take-le used before (omega arith)) (drop-append-seam (take used before) (keyOf n ∷ []))) in
+      rw d (rw (row-same true (n ∷ []) asked (rw e), class-names (n ∷ []) (rw e)))
 
   pub star-left : (path : List Text) → Holds path before used → Holds path keys (count - 1)
   star-left path p =

@@ -12,7 +12,7 @@ use lib.Seq.{take-suc-set}
 use borrow.Author.Tests.{eq-eqb, ne-eqb}
 use Rattle.registers.specs.Text.{Text, if_then_else_, start, white, every}
 use Rattle.registers.specs.declared.error.Error.the-variants.{InputBufferOverrun}
-use Rattle.interpreter.specs.Box.{box, mostAnswer}
+use Rattle.interpreter.specs.Box.{Memory, box, mostAnswer}
 use Rattle.interpreter.specs.Line.{runUnits, finished, unitsOf, runLine, endLine}
 use Rattle.interpreter.specs.PresentParts.{boxIn, raisedWith}
 use Rattle.interpreter.specs.PresentParts.{boxAt, Discarded}
@@ -44,22 +44,22 @@ module _ (l : Text) (n : ℕ) (is : n ≡ 0 + length (start white l)) where
   pub not-blank : (n ≡ length l → ⊥) → every white l ≡ false
   not-blank ne = sym whole ∙ ne-eqb n (length l) ne
 
-module _ (p : Present) (line : Text) (o : Bool) where
-  pub line-overlong : length (p .status .errors) ≡ most → o ≡ true → boxIn (raisedWith InputBufferOverrun p) [] ≡ runLine line o (boxIn p [])
+module _ (p : Present) (line : Text) (o : Bool) (m : Memory) where
+  pub line-overlong : length (p .status .errors) ≡ most → o ≡ true → boxIn (raisedWith InputBufferOverrun p) [] m ≡ runLine line o (boxIn p [] m)
   unfolding runLine if_then_else_
-  line-overlong long e = rw e (raised-box InputBufferOverrun p long [])
+  line-overlong long e = rw e (raised-box InputBufferOverrun p m long [])
 
-  pub line-blank : o ≡ false → every white line ≡ true → boxIn p [] ≡ runLine line o (boxIn p [])
+  pub line-blank : o ≡ false → every white line ≡ true → boxIn p [] m ≡ runLine line o (boxIn p [] m)
   unfolding runLine unitsOf finished runUnits if_then_else_
   line-blank e b = rw (e, b)
 
-  module _ (e : o ≡ false) (visible : every white line ≡ false) (r : Present) (out : Text) (ran : UnitsRan p line r out) where
-    pub line-none : r .answered ≡ 0 → boxAt r out ≡ runLine line o (boxIn p [])
+  module _ (e : o ≡ false) (visible : every white line ≡ false) (r : Present) (out : Text) (m′ : Memory) (ran : UnitsRan p line m r out m′) where
+    pub line-none : r .answered ≡ 0 → boxAt r out m′ ≡ runLine line o (boxIn p [] m)
     unfolding runLine unitsOf finished if_then_else_
     line-none z = rw (e, visible, ← ran .box, z)
 
     pub line-some : (r .answered ≡ 0 → ⊥) → length out ≡ mostAnswer
-        → boxIn r (take (r .answered + 1) (set out (r .answered) 10)) ≡ runLine line o (boxIn p [])
+        → boxIn r (take (r .answered + 1) (set out (r .answered) 10)) m′ ≡ runLine line o (boxIn p [] m)
     unfolding runLine unitsOf finished if_then_else_
     line-some h long =
         let room = ran .room in
@@ -67,8 +67,8 @@ module _ (p : Present) (line : Text) (o : Bool) where
 
 -- ---- the newline
 
-module _ (p : Present) (out : Text) where
+module _ (p : Present) (out : Text) (m : Memory) where
   pub ended : (q : Present) → Discarded p q → 0 < length out → (line : Text) (o : Bool)
-      → runLine line o (boxIn q []) ≡ endLine (boxHolding p line o (take (p .answered) out))
+      → runLine line o (boxIn q [] m) ≡ endLine (boxHolding p line o (take (p .answered) out) m)
   unfolding endLine
-  ended q w room line o = rw (w .box out room)
+  ended q w room line o = rw (w .box out m room)

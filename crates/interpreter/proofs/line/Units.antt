@@ -9,14 +9,14 @@ use native.Mathlib.Omega.{arith}
 use native.Mathlib.Numerals.{add-one}
 use lib.Dec.{ltb, eqb, leb·suc-suc}
 use lib.ListN.{length, take, drop, length-drop}
-use lib.Seq.{drop-drop, take-length}
+use lib.Seq.{drop-drop}
 use borrow.Author.Tests.{ltb-true, ltb-false, lt-ltb, le-ltb}
-use Rattle.bytes.specs.Bytes.{indexOf, indexAfter, slice}
 use Rattle.registers.specs.Text.{Text, if_then_else_}
 use Rattle.registers.specs.Check.{refused, passed}
 use Rattle.registers.proofs.Tests.{and-both}
-use Rattle.interpreter.specs.Cuts.{cutAt}
-use Rattle.interpreter.specs.Box.{Box, box, mostAnswer}
+use Rattle.interpreter.specs.Cuts.{quoteNext, separates, cutOpen}
+use Rattle.interpreter.specs.CutsParts.{placeOpen}
+use Rattle.interpreter.specs.Box.{Memory, memory, storeSize, Box, box, mostAnswer}
 use Rattle.interpreter.specs.Line.{Obeyed, attempt, refuse, runUnits}
 use Rattle.interpreter.specs.HeaderParts.{Holds}
 use Rattle.interpreter.specs.PresentParts.{boxIn}
@@ -27,35 +27,33 @@ use Rattle.interpreter.specs.declared.line.Done.{Done}
 use Rattle.registers.specs.Queue.{most}
 use Rattle.interpreter.proofs.header.Path.{holds-none}
 
--- ---- where a byte stands in the rest of a text
-
-pub place : (x : ℕ) (l : Text) (at end : ℕ) → end ≡ at + indexOf x (slice at (length l) l) → end - at ≡ indexOf x (drop at l)
-unfolding slice
-place x l at end is = let e : end ≡ at + indexOf x (drop at l) = rw (take-length l) at is in omega arith
-
 -- ---- a line cut at its units
 
 -- the units after the first
-unfoldable others : Text → List Text
-others l = if ltb (indexOf (code ";") l) (length l) then cutAt (code ";") (drop (indexOf (code ";") l + 1) l) else []
+unfoldable others : ℕ → Text → List Text
+others mark l =
+    if ltb (placeOpen (code ";") mark l) (length l) then cutOpen (code ";") 0 (drop (placeOpen (code ";") mark l + 1) l) else []
 
-first-unit : (l : Text) → cutAt (code ";") l ≡ take (indexOf (code ";") l) l ∷ others l
-unfolding cutAt others indexOf indexAfter if_then_else_
-first-unit [] = refl
-first-unit (x ∷ l) = go (eqb x (code ";")) refl (first-unit l)
+first-unit : (mark : ℕ) (l : Text) → cutOpen (code ";") mark l ≡ take (placeOpen (code ";") mark l) l ∷ others mark l
+unfolding cutOpen others placeOpen if_then_else_
+first-unit mark [] = refl
+first-unit mark (x ∷ l) = go (separates (code ";") mark x) refl (first-unit (quoteNext mark x) l)
   where
-    go : (t : Bool) → eqb x (code ";") ≡ t → cutAt (code ";") l ≡ take (indexOf (code ";") l) l ∷ others l
-        → cutAt (code ";") (x ∷ l) ≡ take (indexOf (code ";") (x ∷ l)) (x ∷ l) ∷ others (x ∷ l)
+    n : ℕ
+    n = placeOpen (code ";") (quoteNext mark x) l
+
+    go : (t : Bool) → separates (code ";") mark x ≡ t → cutOpen (code ";") (quoteNext mark x) l ≡ take n l ∷ others (quoteNext mark x) l
+        → cutOpen (code ";") mark (x ∷ l) ≡ take (placeOpen (code ";") mark (x ∷ l)) (x ∷ l) ∷ others mark (x ∷ l)
     go true e ih = rw (e, lt-ltb 0 (suc (length l)) (omega arith))
-    go false e ih = rw (e, ih, leb·suc-suc (suc (indexOf (code ";") l)) (length l), add-one (suc (indexOf (code ";") l)), add-one (indexOf (code ";") l))
+    go false e ih = rw (e, ih, leb·suc-suc (suc n) (length l), add-one (suc n), add-one n)
 
-others-more : (l : Text) → indexOf (code ";") l < length l → others l ≡ cutAt (code ";") (drop (indexOf (code ";") l + 1) l)
+others-more : (l : Text) → placeOpen (code ";") 0 l < length l → others 0 l ≡ cutOpen (code ";") 0 (drop (placeOpen (code ";") 0 l + 1) l)
 unfolding others if_then_else_
-others-more l h = rw (lt-ltb (indexOf (code ";") l) (length l) h)
+others-more l h = rw (lt-ltb (placeOpen (code ";") 0 l) (length l) h)
 
-others-none : (l : Text) → length l ≤ indexOf (code ";") l → others l ≡ []
+others-none : (l : Text) → length l ≤ placeOpen (code ";") 0 l → others 0 l ≡ []
 unfolding others if_then_else_
-others-none l h = rw (le-ltb (indexOf (code ";") l) (length l) h)
+others-none l h = rw (le-ltb (placeOpen (code ";") 0 l) (length l) h)
 
 -- ---- units run one by one
 
@@ -74,70 +72,72 @@ run-none path b = refl
 
 -- ---- the units of a line so far: what is left does what all of them do
 
-pub record Going (b : Box) (line : Text) (keys : List ℕ) (out : Text) (d : Done) (at : ℕ) : Type 0 where
+pub record Going (b : Box) (line : Text) (keys : List ℕ) (out store : Text) (d : Done) (at : ℕ) : Type 0 where
   pub queued : d .present .status .queued ≤ most
   pub answers : d .present .answered < mostAnswer
   pub long : length out ≡ mostAnswer
+  pub sized : length store ≡ storeSize
   pub within : at ≤ length line
   pub path : List Text
   pub holds : Holds path keys (d .used)
-  pub left : runUnits (cutAt (code ";") (drop at line)) path (boxAt (d .present) out) ≡ runUnits (cutAt (code ";") line) [] b
+  pub left : runUnits (cutOpen (code ";") 0 (drop at line)) path (boxAt (d .present) out (memory store)) ≡ runUnits (cutOpen (code ";") 0 line) [] b
 
-pub going-start : (p : Present) (o : Bool) (line : Text) (keys : List ℕ) (out : Text) → p .answered ≡ 0 → p .status .queued ≤ most → length out ≡ mostAnswer
-    → Going (boxIn p []) line keys out (record { present = p; used = 0; obeyed = o }) 0
-going-start p o line keys out z q l =
-    record { queued = q; answers = omega arith; long = l; within = zero-le; path = []; holds = holds-none keys; left = rw z }
+pub going-start : (p : Present) (o : Bool) (line : Text) (keys : List ℕ) (out store : Text) → p .answered ≡ 0 → p .status .queued ≤ most → length out ≡ mostAnswer
+    → length store ≡ storeSize → Going (boxIn p [] (memory store)) line keys out store (record { present = p; used = 0; obeyed = o }) 0
+going-start p o line keys out store z q l z′ =
+    record { queued = q; answers = omega arith; long = l; sized = z′; within = zero-le; path = []; holds = holds-none keys; left = rw z }
 
-module _ (b : Box) (line : Text) (keys : List ℕ) (out : Text) (d : Done) (at : ℕ) (g : Going b line keys out d at)
-    (end : ℕ) (is : end ≡ at + indexOf (code ";") (slice at (length line) line)) (within : end ≤ length line)
-    (r : Done) (more : List ℕ) (left : Text) (w : UnitRan d (g .path) (take (end - at) (drop at line)) out r more left) where
+module _ (b : Box) (line : Text) (keys : List ℕ) (out store : Text) (d : Done) (at : ℕ) (g : Going b line keys out store d at)
+    (end : ℕ) (is : end ≡ at + placeOpen (code ";") 0 (drop at line)) (within : end ≤ length line)
+    (r : Done) (more : List ℕ) (left kept : Text) (w : UnitRan d (g .path) (take (end - at) (drop at line)) out (memory store) r more left (memory kept)) where
   -- the rest of the line, which begins with this unit, and the box before it
   abbrev here : Text
   here = drop at line
 
   abbrev before : Box
-  before = boxAt (d .present) out
+  before = boxAt (d .present) out (memory store)
 
-  n : end - at ≡ indexOf (code ";") here
-  n = place (code ";") line at end is
+  n : end - at ≡ placeOpen (code ";") 0 here
+  n = omega (arith, is)
 
-  first : cutAt (code ";") here ≡ take (end - at) here ∷ others here
-  first = rw n (first-unit here)
+  first : cutOpen (code ";") 0 here ≡ take (end - at) here ∷ others 0 here
+  first = rw n (first-unit 0 here)
 
-  stopped : r .obeyed ≡ false → boxAt (r .present) left ≡ runUnits (cutAt (code ";") line) [] b
+  stopped : r .obeyed ≡ false → boxAt (r .present) left (memory kept) ≡ runUnits (cutOpen (code ";") 0 line) [] b
   stopped f =
       let s = w .stops f in
-      s .2 ∙ sym (run-stop (take (end - at) here) (others here) (g .path) before (s .0) (s .1)) ∙ (rw first at (g .left))
+      s .2 ∙ sym (run-stop (take (end - at) here) (others 0 here) (g .path) before (s .0) (s .1)) ∙ (rw first at (g .left))
 
-  passes : (t : r .obeyed ≡ true) → runUnits (others here) (w .goes t .0) (boxAt (r .present) left) ≡ runUnits (cutAt (code ";") line) [] b
-  passes t = sym (run-on (take (end - at) here) (others here) (g .path) before _ (w .goes t .1)) ∙ (rw first at (g .left))
+  passes : (t : r .obeyed ≡ true) → runUnits (others 0 here) (w .goes t .0) (boxAt (r .present) left (memory kept)) ≡ runUnits (cutOpen (code ";") 0 line) [] b
+  passes t = sym (run-on (take (end - at) here) (others 0 here) (g .path) before _ (w .goes t .1)) ∙ (rw first at (g .left))
 
   pub going-less : (r .obeyed && ltb end (length line)) ≡ true → length line - (end + 1) < length line - at
   going-less e = let h = ltb-true end (length line) (and-both (r .obeyed) (ltb end (length line)) e .1) in omega (arith, is)
 
-  pub going-on : (r .obeyed && ltb end (length line)) ≡ true → length left ≡ length out → Going b line more left r (end + 1)
-  going-on e l =
+  pub going-on : (r .obeyed && ltb end (length line)) ≡ true → length left ≡ length out → length kept ≡ length store → Going b line more left kept r (end + 1)
+  going-on e l k =
       let both = and-both (r .obeyed) (ltb end (length line)) e in
       let h = ltb-true end (length line) (both .1) in
       let o = w .goes (both .0) in
       let m = n in
       let f = length-drop at line in
-      let next : at + (indexOf (code ";") here + 1) ≡ end + 1 = omega arith in
-      let rest : others here ≡ cutAt (code ";") (drop (end + 1) line) = rw (others-more here (omega arith), drop-drop (indexOf (code ";") here + 1) at line, next) in
+      let next : at + (placeOpen (code ";") 0 here + 1) ≡ end + 1 = omega arith in
+      let rest : others 0 here ≡ cutOpen (code ";") 0 (drop (end + 1) line) = rw (others-more here (omega arith), drop-drop (placeOpen (code ";") 0 here + 1) at line, next) in
       record {
         queued = w .queued;
         answers = w .room;
         long = l ∙ g .long;
+        sized = k ∙ g .sized;
         within = omega arith;
         path = o .0;
         holds = o .2;
         left = rw rest at (passes (both .0));
       }
 
-  pub going-end : (r .obeyed && ltb end (length line)) ≡ false → boxAt (r .present) left ≡ runUnits (cutAt (code ";") line) [] b
+  pub going-end : (r .obeyed && ltb end (length line)) ≡ false → boxAt (r .present) left (memory kept) ≡ runUnits (cutOpen (code ";") 0 line) [] b
   going-end e = go (r .obeyed) refl (ltb end (length line)) refl
     where
-      go : (t : Bool) → r .obeyed ≡ t → (u : Bool) → ltb end (length line) ≡ u → boxAt (r .present) left ≡ runUnits (cutAt (code ";") line) [] b
+      go : (t : Bool) → r .obeyed ≡ t → (u : Bool) → ltb end (length line) ≡ u → boxAt (r .present) left (memory kept) ≡ runUnits (cutOpen (code ";") 0 line) [] b
       go false o u q = stopped o
       go true o true q = absurd (false≢true (sym e ∙ rw (o, q)))
       go true o false q =

@@ -14,7 +14,7 @@ use denote.Enum.Declared.{tagOf}
 use borrow.Author.Tests.{leb-true, ltb-true, ltb-false}
 use Rattle.registers.specs.Text.{if_then_else_}
 use Rattle.registers.specs.Rounding.{switchedOn, rounded, sideIn}
-use Rattle.registers.specs.Settings.{count, Kind, bool, words, number, table, settingAt, kindOf, sortOf, meantValues, highest}
+use Rattle.registers.specs.Settings.{count, Kind, bool, words, number, table, settingAt, kindOf, sortOf, meantValues, highest, slots}
 use Rattle.registers.specs.declared.number.Decimal.{Decimal}
 use Rattle.registers.specs.declared.rounding.Side.{Side}
 use Rattle.registers.specs.declared.rounding.Side.the-variants.{On}
@@ -27,7 +27,7 @@ use Rattle.registers.proofs.settings.Values as values
 use Rattle.interpreter.specs.WordsParts.{wordCount}
 use Rattle.interpreter.specs.Parameter.{Word, Figure, least, greatest, asksLimits, wordsOf, limitAt, valueGiven, sideGiven, isNumber}
 use Rattle.interpreter.specs.declared.deed.Role.{Role}
-use Rattle.interpreter.specs.declared.deed.Role.the-variants.{Setting, Register, Only}
+use Rattle.interpreter.specs.declared.deed.Role.the-variants.{Setting, Register, Only, Saving, Label}
 use Rattle.interpreter.proofs.Lists.{listed, agree}
 
 -- ---- what two functions say of every row, by computing both for all settings
@@ -53,7 +53,7 @@ figureIn d Whole = rounded 1 d
 -- where the code has been told the sort
 pub figure-in : (i : ℕ) {v told : Values} → told ≡ v → meantValues told ≡ sortOf (kindOf i) → (s : Settings) (d : Decimal)
     → figureIn d v ≡ valueGiven s i (kindOf i) (Figure d)
-unfolding listed settingAt table if_then_else_ valueGiven
+unfolding listed settingAt slots table if_then_else_ valueGiven
 figure-in i is of s d =
     ap (figureIn d) (sym is ∙ values-is _ (kindOf i) of) ∙ kinds-agree (λ k. figureIn d (valuesIn k)) (λ k. valueGiven s i k (Figure d)) refl refl i
 
@@ -65,7 +65,7 @@ sideOf d Tenths = sideIn 10 d
 sideOf d Whole = sideIn 1 d
 
 pub side-of : (i : ℕ) {v told : Values} → told ≡ v → meantValues told ≡ sortOf (kindOf i) → (d : Decimal) → sideOf d v ≡ sideGiven (kindOf i) (Figure d)
-unfolding listed settingAt table if_then_else_
+unfolding listed settingAt slots table if_then_else_
 side-of i is of d = ap (sideOf d) (sym is ∙ values-is _ (kindOf i) of) ∙ kinds-agree (λ k. sideOf d (valuesIn k)) (λ k. sideGiven k (Figure d)) refl refl i
 
 abbrev pub numberIn : Values → Bool
@@ -138,7 +138,7 @@ limit-other s i (suc n) h = refl
 -- ---- how many words a setting takes
 
 pub words-few : (i : ℕ) → i < count → length (wordsOf (kindOf i)) ≤ wordCount
-unfolding settingAt table
+unfolding settingAt slots table
 words-few i h = leb-true (length (wordsOf (kindOf i))) wordCount (below-at count (λ k. leb (length (wordsOf (kindOf k))) wordCount) refl i h)
 
 -- ---- check 4: a number's query may have one parameter; what sets takes as many as it may have, and a query does without
@@ -160,12 +160,16 @@ unfolding least if_then_else_
 least-asked (Setting i) = refl
 least-asked (Register r) = refl
 least-asked (Only d) = refl
+least-asked (Saving x) = refl
+least-asked Label = refl
 
 least-set : (r : Role) → greatest r false ≡ least r false
 unfolding least greatest if_then_else_
 least-set (Setting i) = refl
 least-set (Register r) = refl
 least-set (Only d) = refl
+least-set (Saving x) = refl
+least-set Label = refl
 
 -- what the code compares
 module _ (r : Role) (n : ℕ) where
@@ -190,3 +194,7 @@ greatest-one (Setting i) false = omega arith
 greatest-one (Register x) true = omega arith
 greatest-one (Register x) false = omega arith
 greatest-one (Only d) asked = omega arith
+greatest-one (Saving x) true = omega arith
+greatest-one (Saving x) false = omega arith
+greatest-one Label true = omega arith
+greatest-one Label false = omega arith

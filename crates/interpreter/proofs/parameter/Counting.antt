@@ -1,6 +1,6 @@
 -- The loop that counts the parameters. Its invariant, `Counting`: the parts begun and those left of the cut text are all parts, and what is known
 -- of the ended ones with those left says whether all are filled.
-use mathlib.Core.Path.{_≡_, refl, ap, sym, _∙_}
+use mathlib.Core.Path.{_≡_, refl, ap, sym, subst, _∙_}
 use mathlib.Core.Bool.{Bool, true, false, not, _&&_, _||_}
 use mathlib.Core.List.{List, [], _∷_, map}
 use Prim.Native.Nat.{ℕ, suc, _+_, _≤_, _<_}
@@ -9,11 +9,12 @@ use native.Mathlib.Numerals.{add-one}
 use lib.ListN.{length, getD, drop, length-map, drop-of-length-le}
 use lib.Seq.{drop-cons}
 use Rattle.registers.specs.Text.{Text, if_then_else_, white, every, empty}
-use Rattle.interpreter.specs.Cuts.{joinFirst, cutAt, trim}
+use Rattle.interpreter.specs.Cuts.{joinFirst, quoteNext, separates, cutOpen, trim}
 use Rattle.interpreter.specs.Parameter.{parameters}
 use Rattle.interpreter.specs.ParameterParts.{CountedIn}
 use Prim.Native.Char.{code}
-use Rattle.interpreter.proofs.parameter.Cuts.{cut-here, cut-later, cut-some, join-length, parameters-some, trim-empty}
+use Rattle.interpreter.proofs.cuts.Parts.{outside, cut-here, cut-later, cut-some, join-length}
+use Rattle.interpreter.proofs.parameter.Cuts.{parameters-some, trim-empty}
 
 -- a part that is more than white space
 abbrev filled : Text → Bool
@@ -24,12 +25,13 @@ abbrev filledFrom : Bool → List Text → Bool
 filledFrom visible [] = visible
 filledFrom visible (p ∷ ps) = (visible || filled p) && every filled ps
 
--- up to place i so many parts have begun; `full`: those that have ended are filled; `visible`: the last has a visible byte
-pub record Counting (t : Text) (parts : ℕ) (full visible : Bool) (i : ℕ) : Type 0 where
+-- up to place i so many parts have begun; `full`: those that have ended are filled; `visible`: the last has a visible byte; `mark`: the
+-- quote that is open there
+pub record Counting (t : Text) (parts : ℕ) (full visible : Bool) (mark i : ℕ) : Type 0 where
   pub place : i ≤ length t
   pub few : parts ≤ i + 1
-  pub long : parts + length (cutAt (code ",") (drop i t)) ≡ 1 + length (cutAt (code ",") t)
-  pub all : (full && filledFrom visible (cutAt (code ",") (drop i t))) ≡ every filled (cutAt (code ",") t)
+  pub long : parts + length (cutOpen (code ",") mark (drop i t)) ≡ 1 + length (cutOpen (code ",") 0 t)
+  pub all : (full && filledFrom visible (cutOpen (code ",") mark (drop i t))) ≡ every filled (cutOpen (code ",") 0 t)
 
 -- ---- the start
 
@@ -37,13 +39,13 @@ fresh : (ps : List Text) → 1 ≤ length ps → filledFrom false ps ≡ every f
 fresh [] h = absurd (omega arith)
 fresh (p ∷ ps) h = refl
 
-pub counting-start : (t : Text) → Counting t 1 true false 0
+pub counting-start : (t : Text) → Counting t 1 true false 0 0
 counting-start t =
     record {
       place = omega arith;
       few = omega arith;
       long = omega arith;
-      all = fresh (cutAt (code ",") t) (cut-some (code ",") t);
+      all = fresh (cutOpen (code ",") 0 t) (cut-some (code ",") 0 t);
     }
 
 -- ---- a turn: at a comma a part ends, any other byte is one of the part
@@ -64,25 +66,29 @@ joined b full visible (p ∷ ps) h = ap (λ (w : Bool). full && (w && every fill
     or true false = refl
     or false false = refl
 
-module _ {t : Text} {parts : ℕ} {full visible : Bool} {i : ℕ} (w : Counting t parts full visible i) (h : i < length t) where
-  pub counting-comma : getD t i 0 ≡ code "," → Counting t (parts + 1) (full && visible) false (i + 1)
+module _ {t : Text} {parts : ℕ} {full visible : Bool} {mark i : ℕ} (w : Counting t parts full visible mark i) (h : i < length t) where
+  pub counting-comma : separates (code ",") mark (getD t i 0) ≡ true → Counting t (parts + 1) (full && visible) false mark (i + 1)
   counting-comma e =
-      let more = cutAt (code ",") (drop (i + 1) t) in
-      let cut : cutAt (code ",") (drop i t) ≡ [] ∷ more = rw (drop-cons t i 0 h, add-one i) (cut-here (code ",") (getD t i 0) (drop (suc i) t) e) in
+      let more = cutOpen (code ",") 0 (drop (i + 1) t) in
+      let cut : cutOpen (code ",") mark (drop i t) ≡ [] ∷ more =
+      rw (drop-cons t i 0 h, add-one i) (cut-here (code ",") mark (getD t i 0) (drop (suc i) t) e) in
       let long = rw cut at (w .long) in
-      record {
+      subst (λ (m : ℕ). Counting t (parts + 1) (full && visible) false m (i + 1)) (sym (outside (code ",") mark (getD t i 0) e))
+      (record {
         place = omega arith;
         few = omega arith;
         long = omega arith;
-        all = ended full visible more (cut-some (code ",") (drop (i + 1) t)) ∙ rw cut at (w .all);
-      }
+        all = ended full visible more (cut-some (code ",") 0 (drop (i + 1) t)) ∙ rw cut at (w .all);
+      })
 
-  pub counting-byte : (getD t i 0 ≡ code "," → ⊥) → Counting t parts full (visible || not (white (getD t i 0))) (i + 1)
+  pub counting-byte : separates (code ",") mark (getD t i 0) ≡ false
+      → Counting t parts full (visible || not (white (getD t i 0))) (quoteNext mark (getD t i 0)) (i + 1)
   counting-byte e =
       let b = getD t i 0 in
-      let more = cutAt (code ",") (drop (i + 1) t) in
-      let some = cut-some (code ",") (drop (i + 1) t) in
-      let cut : cutAt (code ",") (drop i t) ≡ joinFirst b more = rw (drop-cons t i 0 h, add-one i) (cut-later (code ",") b (drop (suc i) t) e) in
+      let more = cutOpen (code ",") (quoteNext mark b) (drop (i + 1) t) in
+      let some = cut-some (code ",") (quoteNext mark b) (drop (i + 1) t) in
+      let cut : cutOpen (code ",") mark (drop i t) ≡ joinFirst b more =
+      rw (drop-cons t i 0 h, add-one i) (cut-later (code ",") mark b (drop (suc i) t) e) in
       let long = rw cut at (w .long) in
       record {
         place = omega arith;
@@ -102,15 +108,15 @@ last true true = refl
 last true false = refl
 last false visible = refl
 
-pub counting-end : {t : Text} {parts : ℕ} {full visible : Bool} {i : ℕ} → Counting t parts full visible i → (length t ≡ 0 → ⊥) → length t ≤ i
+pub counting-end : {t : Text} {parts : ℕ} {full visible : Bool} {mark i : ℕ} → Counting t parts full visible mark i → (length t ≡ 0 → ⊥) → length t ≤ i
     → CountedIn t (record { parts = parts; full = full && visible })
-unfolding cutAt
-counting-end {t} {parts} {full} {visible} {i} w some h =
+unfolding cutOpen
+counting-end {t} {parts} {full} {visible} {mark} {i} w some h =
     let none : drop i t ≡ [] = drop-of-length-le t h in
     let long = rw none at (w .long) in
     record {
-      parts = rw (parameters-some t some) (omega (arith, length-map (cutAt (code ",") t) trim));
-      full = rw (parameters-some t some) (last full visible ∙ rw none at (w .all) ∙ sym (all-filled (cutAt (code ",") t)));
+      parts = rw (parameters-some t some) (omega (arith, length-map (cutOpen (code ",") 0 t) trim));
+      full = rw (parameters-some t some) (last full visible ∙ rw none at (w .all) ∙ sym (all-filled (cutOpen (code ",") 0 t)));
     }
 
 pub counting-none : (t : Text) → length t ≡ 0 → CountedIn t (record { parts = 0; full = true })

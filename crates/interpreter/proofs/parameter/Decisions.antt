@@ -8,7 +8,7 @@ use native.Mathlib.Omega.{arith}
 use lib.Dec.{T}
 use lib.IntN.{ℤ, pos, negsuc, natAbs}
 use lib.Signed.{leZ, mag, nonNeg}
-use mir.Syntax.{w16, w32}
+use mir.Syntax.{w16, w32, w64}
 use mir.Val.{Fits, ofZ, toZ, boolByte}
 use mir.Facts.{toZ-ofZ, toZ-pos}
 use lib.ListN.{length}
@@ -31,12 +31,13 @@ use Rattle.registers.specs.declared.status.Register.{Register}
 use Rattle.registers.specs.declared.status.Register.the-variants.{Ese, Sre, Enable, Ntr, Ptr}
 use Rattle.registers.proofs.rounding.Laws.{rounded-once}
 use Rattle.registers.proofs.rounding.Meaning.{fit-is, side-is}
-use Rattle.interpreter.specs.Parameter.{Given, Word, Figure, parameter, wordsOf, takesNumbers, asksLimits, limitWords, limitAt, limitGiven, valueGiven, sideGiven, least, greatest, settingDeed, limitDeed, registerDeed, deedOf, storeGiven}
-use Rattle.interpreter.specs.ParameterParts.{meantGiven, fitIn, roundedTo, putFit, registerTo, partsOf}
-use Rattle.interpreter.specs.declared.deed.Deed.the-variants.{Change, Query}
+use Rattle.interpreter.specs.Parameter.{placeGiven, savingDeed, Given, Word, Figure, parameter, wordsOf, takesNumbers, asksLimits, limitWords, limitAt, limitGiven, valueGiven, sideGiven, least, greatest, settingDeed, limitDeed, registerDeed, deedOf, storeGiven}
+use Rattle.interpreter.specs.ParameterParts.{meantGiven, fitIn, roundedTo, putFit, registerTo, savingTo, partsOf, labelTo}
+use Rattle.interpreter.specs.declared.deed.Deed.the-variants.{Change, Query, Saving}
 use Rattle.interpreter.specs.declared.deed.Change.the-variants.{Put, Store}
 use Rattle.interpreter.specs.declared.deed.Query.the-variants.{Limit, Value}
-use Rattle.interpreter.specs.declared.deed.Role.the-variants.{Setting, Register as register}
+use Rattle.interpreter.specs.declared.deed.Role.the-variants.{Setting, Register as register, Saving as saving, Label as label}
+use Rattle.interpreter.specs.declared.deed.Saving as savings
 use Rattle.interpreter.specs.declared.parameter.Parameter.{Parameter}
 use Rattle.interpreter.specs.declared.parameter.Parameter.the-variants.{Refused as noParameter, Word as wordGiven, Figure as figureGiven}
 use Rattle.interpreter.proofs.parameter.Limits.{limit-within}
@@ -118,6 +119,46 @@ module _ (x : Register) (d : Decimal) {f : Fit} (is : meantFit f ≡ fitted 1 (p
   unfolding storeGiven check _>>_
   store-outside told side = rw (rounded-once 1 (pos 0) (pos (widest x)) d .outside (sym is ∙ ap meantFit told))
 
+-- ---- check 7 on a number for a place of the store
+
+small-place : (z : ℤ) → leZ (pos 0) z ≡ true → leZ z (pos 9) ≡ true → T (nonNeg z) × Fits w64 (natAbs z)
+small-place (pos n) low high = (tt, omega (arith, leb-true n 9 high))
+small-place (negsuc n) low high = absurd (false≢true low)
+
+module _ (x : savings.Saving) (d : Decimal) {f : Fit} (is : meantFit f ≡ fitted 1 (pos 0) (pos 9) d) where
+  pub place-natural : (z : ℤ) → f ≡ Within z → T (nonNeg z) × Fits w64 (natAbs z)
+  place-natural z told =
+      let h = rounded-once 1 (pos 0) (pos 9) d .within z (sym is ∙ ap meantFit told) in
+      small-place z (h .1) (h .2)
+
+  pub place-within : (z : ℤ) → f ≡ Within z → passed (Saving x (natAbs z)) ≡ placeGiven x (rounded 1 d)
+  unfolding placeGiven check _>>_
+  place-within z told =
+      let h = rounded-once 1 (pos 0) (pos 9) d .within z (sym is ∙ ap meantFit told) in
+      rw (← h .0, h .1, h .2)
+
+  pub place-outside : f ≡ Outside → refused 222 ≡ placeGiven x (rounded 1 d)
+  unfolding placeGiven check _>>_
+  place-outside told = rw (rounded-once 1 (pos 0) (pos 9) d .outside (sym is ∙ ap meantFit told))
+
+module _ (x : savings.Saving) (t : Text) where
+  pub place-refused : {n : ℕ} → parameter [] true Nothing t ≡ refused n → refused n ≡ savingTo x false t
+  unfolding savingTo savingDeed placeGiven _>>=_
+  place-refused e = rw e
+
+  pub place-figure : {d : Decimal} → parameter [] true Nothing t ≡ passed (Figure d) → placeGiven x (rounded 1 d) ≡ savingTo x false t
+  unfolding savingTo savingDeed placeGiven _>>=_
+  place-figure e = rw e
+
+-- a parameter is there where check 4 asked for one; a query of *SAV or *RCL has no row
+pub saving-is : (s : Settings) (x : savings.Saving) (asked : Bool) (t : Text) → least (saving x) asked ≤ length (partsOf t)
+    → length (partsOf t) ≤ greatest (saving x) asked → savingTo x asked t ≡ deedOf s (saving x) asked (partsOf t)
+unfolding savingTo deedOf least greatest if_then_else_
+saving-is s x true [] h k = refl
+saving-is s x true (b ∷ t) h k = absurd (omega arith)
+saving-is s x false [] h k = absurd (omega arith)
+saving-is s x false (b ∷ t) h k = refl
+
 -- ---- checks 5 to 7 on a setting
 
 -- without a parameter, where none is needed
@@ -176,3 +217,9 @@ unfolding registerTo deedOf least if_then_else_
 register-is s x true t h = refl
 register-is s x false [] h = absurd (omega arith)
 register-is s x false (b ∷ t) h = refl
+
+pub label-is : (s : Settings) (asked : Bool) (t : Text) → least label asked ≤ length (partsOf t) → labelTo asked t ≡ deedOf s label asked (partsOf t)
+unfolding labelTo deedOf least if_then_else_
+label-is s true t h = refl
+label-is s false [] h = absurd (omega arith)
+label-is s false (b ∷ t) h = refl

@@ -1,6 +1,6 @@
 -- Check 7 never refuses a word, nor on or off: their values are within the limits.
 use mathlib.Core.Path.{_≡_, refl, sym}
-use mathlib.Core.Bool.{Bool, true, false, not, _&&_, false≢true}
+use mathlib.Core.Bool.{Bool, true, false, not, _&&_, false≢true, _||_}
 use Prim.Native.Nat.{ℕ, zero, suc, pred, _<_}
 use native.Mathlib.Omega.{arith}
 use lib.Dec.{eqb}
@@ -10,7 +10,7 @@ use lib.Signed.{leZ}
 use borrow.Author.Tests.{eqb-true, le-leb}
 use Rattle.registers.specs.Text.{if_then_else_}
 use Rattle.registers.specs.Rounding.{switchedOn}
-use Rattle.registers.specs.Settings.{count, Kind, bool, words, number, table, settingAt, kindOf, lowestOf, highestOf, lowest, highest, within, voltage, wideRange, twelveVolts}
+use Rattle.registers.specs.Settings.{count, Kind, bool, words, number, table, settingAt, kindOf, lowestOf, highestOf, lowest, highest, within, voltage, voltage2, range, range2, wideRange, twelveVolts, slots, narrow}
 use Rattle.registers.specs.declared.number.Decimal.{Decimal}
 use Rattle.registers.specs.declared.settings.Settings.{Settings}
 use Rattle.registers.proofs.Tests.{below-at, and-true}
@@ -20,22 +20,29 @@ same-le : (z : ℤ) → leZ z z ≡ true
 same-le (pos n) = le-leb n n (omega arith)
 same-le (negsuc n) = le-leb n n (omega arith)
 
--- the range moves the highest value of the voltage alone, which is a number
+-- the ranges move the highest value of the voltages alone, which are numbers
 plain-highest : (s : Settings) (i : ℕ) → isNumber (kindOf i) ≡ false → highestOf (kindOf i) ≡ highest s i
-unfolding highest if_then_else_ settingAt table
-plain-highest s i h = go (eqb i voltage) refl
+unfolding highest narrow if_then_else_ settingAt slots table
+plain-highest s i h = go (eqb i voltage) refl (eqb i voltage2) refl
   where
-    go : (t : Bool) → eqb i voltage ≡ t → highestOf (kindOf i) ≡ (if t && not (wideRange s) then twelveVolts else highestOf (kindOf i))
-    go true e = absurd (false≢true (sym (rw (eqb-true i voltage e) at h)))
-    go false e = refl
+    go : (t : Bool) → eqb i voltage ≡ t → (u : Bool) → eqb i voltage2 ≡ u
+        → highestOf (kindOf i) ≡ (if (t && not (wideRange s range)) || (u && not (wideRange s range2)) then twelveVolts else highestOf (kindOf i))
+    go true e u f = absurd (false≢true (sym (rw (eqb-true i voltage e) at h)))
+    go false e true f = absurd (false≢true (sym (rw (eqb-true i voltage2 f) at h)))
+    go false e false f = refl
 
 low-high : (s : Settings) (i : ℕ) → i < count → leZ (lowest i) (highest s i) ≡ true
-unfolding lowest highest if_then_else_ settingAt table
-low-high s i h = go (wideRange s)
+unfolding lowest highest narrow if_then_else_ settingAt slots table
+low-high s i h = go (wideRange s range) (wideRange s range2)
   where
-    go : (w : Bool) → leZ (lowestOf (kindOf i)) (if eqb i voltage && not w then twelveVolts else highestOf (kindOf i)) ≡ true
-    go true = below-at count (λ k. leZ (lowestOf (kindOf k)) (if eqb k voltage && not true then twelveVolts else highestOf (kindOf k))) refl i h
-    go false = below-at count (λ k. leZ (lowestOf (kindOf k)) (if eqb k voltage && not false then twelveVolts else highestOf (kindOf k))) refl i h
+    least : Bool → Bool → ℕ → Bool
+    least w x k = leZ (lowestOf (kindOf k)) (if (eqb k voltage && not w) || (eqb k voltage2 && not x) then twelveVolts else highestOf (kindOf k))
+
+    go : (w x : Bool) → least w x i ≡ true
+    go true true = below-at count (least true true) refl i h
+    go true false = below-at count (least true false) refl i h
+    go false true = below-at count (least false true) refl i h
+    go false false = below-at count (least false false) refl i h
 
 module _ (s : Settings) (i : ℕ) where
   -- a place in the list of a row's words

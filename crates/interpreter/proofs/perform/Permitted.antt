@@ -5,22 +5,22 @@ use mathlib.Core.List.{[], _∷_}
 use Prim.Native.Nat.{ℕ}
 use native.Mathlib.Omega.{arith}
 use types.Run.{OneOf, miss}
-use lib.Dec.{eqb}
 use lib.IntN.{ℤ, pos}
 use lib.Signed.{leZ}
 use denote.Enum.Declared.{tagOf}
 use borrow.Author.Tests.{not-true, not-false}
 use Rattle.registers.specs.Check.{Checked, refused, passed, _>>_, check}
 use Rattle.registers.specs.Queue.{mayBeQueued, queueable}
-use Rattle.registers.specs.Settings.{output, conflict}
+use Rattle.registers.specs.Settings.{conflict}
 use Rattle.registers.specs.Status.{locked}
 use Rattle.registers.specs.declared.rounding.Side.{Side}
 use Rattle.interpreter.specs.Box.{Core}
-use Rattle.interpreter.specs.Perform.{blocked, conflicting, permitted}
+use Rattle.interpreter.specs.Perform.{isOutput, blocked, conflicting, permitted}
 use Rattle.interpreter.specs.declared.deed.Deed.{Deed}
-use Rattle.interpreter.specs.declared.deed.Deed.the-variants.{Change, Complete, Clear, Query, Inquire}
+use Rattle.interpreter.specs.declared.deed.Deed.the-variants.{Change, Complete, Clear, Query, Inquire, Saving}
+use Rattle.interpreter.specs.declared.deed.Saving as savings
 use Rattle.interpreter.specs.declared.deed.Change as changes
-use Rattle.interpreter.specs.declared.deed.Change.the-variants.{Nothing, Put, Reset, Store}
+use Rattle.interpreter.specs.declared.deed.Change.the-variants.{Nothing, Put, Reset, Store, Label as labelled}
 use Rattle.interpreter.proofs.deed.Deed as deeds
 use Rattle.interpreter.proofs.deed.Change as orders
 use Rattle.interpreter.proofs.Checks.{Holds, refuses-by}
@@ -70,9 +70,9 @@ module _ (d : Deed) (c : Core) (r : Bool) (is : permitted d c ≡ check 221 r) w
 -- a setting: its value is the output's off or the lock is open, and nothing conflicts
 pub put-permitted : (i : ℕ) (v : ℤ) (side : Side) (c : Core)
     → permitted (Change (Put i v side)) c
-    ≡ check 221 (((eqb i output && leZ v (pos 0)) || not (locked (c .registers))) && not (conflict (c .settings) i v))
+    ≡ check 221 (((isOutput i && leZ v (pos 0)) || not (locked (c .registers))) && not (conflict (c .settings) i v))
 unfolding permitted check _>>_
-put-permitted i v side c = go (eqb i output && leZ v (pos 0)) (locked (c .registers)) (conflict (c .settings) i v)
+put-permitted i v side c = go (isOutput i && leZ v (pos 0)) (locked (c .registers)) (conflict (c .settings) i v)
   where
     go : (off locks conflicts : Bool)
         → (check 221 (not (not off && locks)) >> check 221 (not conflicts)) ≡ check 221 ((off || not locks) && not conflicts)
@@ -89,6 +89,24 @@ reset-permitted c = go (locked (c .registers))
     go true = refl
     go false = refl
 
+-- *SAV and *RCL
+pub saving-permitted : (x : savings.Saving) (p : ℕ) (c : Core) → permitted (Saving x p) c ≡ check 221 (not (locked (c .registers)))
+unfolding permitted check _>>_
+saving-permitted x p c = go (locked (c .registers))
+  where
+    go : (locks : Bool) → (check 221 (not locks) >> check 221 true) ≡ check 221 (not locks)
+    go true = refl
+    go false = refl
+
+-- and so for the display's text
+pub label-permitted : (c : Core) → permitted (Change labelled) c ≡ check 221 (not (locked (c .registers)))
+unfolding permitted check _>>_
+label-permitted c = go (locked (c .registers))
+  where
+    go : (locks : Bool) → (check 221 (not locks) >> check 221 true) ≡ check 221 (not locks)
+    go true = refl
+    go false = refl
+
 -- all else passes
 pub free-change : (x : changes.Change) → OneOf (0 ∷ 3 ∷ []) (tagOf orders.the-type x) → (c : Core) → permitted (Change x) c ≡ check 221 true
 unfolding permitted check _>>_
@@ -96,6 +114,7 @@ free-change Nothing h c = refl
 free-change (Put i v side) h c = absurd (miss (0 ∷ 3 ∷ []) 1 tt h)
 free-change Reset h c = absurd (miss (0 ∷ 3 ∷ []) 2 tt h)
 free-change (Store x n side) h c = refl
+free-change labelled h c = absurd (miss (0 ∷ 3 ∷ []) 4 tt h)
 
 pub free-other : (d : Deed) → OneOf (1 ∷ 2 ∷ 3 ∷ 4 ∷ []) (tagOf deeds.the-type d) → (c : Core) → permitted d c ≡ check 221 true
 unfolding permitted check _>>_
@@ -104,3 +123,4 @@ free-other Complete h c = refl
 free-other Clear h c = refl
 free-other (Query q) h c = refl
 free-other (Inquire q) h c = refl
+free-other (Saving x p) h c = absurd (miss (1 ∷ 2 ∷ 3 ∷ 4 ∷ []) 5 tt h)

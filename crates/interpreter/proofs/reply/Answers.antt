@@ -23,7 +23,7 @@ use Rattle.interpreter.specs.Box.{mostAnswer}
 use Rattle.interpreter.specs.Reply.{joined}
 use Rattle.interpreter.specs.ReplyParts.{textOf, said, answeredWith, GivenTo}
 use Rattle.interpreter.specs.declared.reply.Reply.{Reply}
-use Rattle.interpreter.specs.declared.reply.Reply.the-variants.{Nothing, Identity, Word, Tenths, Whole, Number, Error}
+use Rattle.interpreter.specs.declared.reply.Reply.the-variants.{Nothing, Identity, Word, Tenths, Whole, Number, Error, Label}
 use Rattle.interpreter.proofs.reply.Reply as replies
 
 -- ---- texts that are joined
@@ -72,31 +72,32 @@ module _ (out tail t : Text) (k : ℕ) (bytes : take (length t) tail ≡ t) (lon
 
 -- ---- check 9
 
-pub says : (r : Reply) → OneOf (1 ∷ 2 ∷ 3 ∷ 4 ∷ 5 ∷ 6 ∷ []) (tagOf replies.the-type r) → said r ≡ true
-says Nothing h = absurd (miss (1 ∷ 2 ∷ 3 ∷ 4 ∷ 5 ∷ 6 ∷ []) 0 tt h)
+pub says : (r : Reply) → OneOf (1 ∷ 2 ∷ 3 ∷ 4 ∷ 5 ∷ 6 ∷ 7 ∷ []) (tagOf replies.the-type r) → said r ≡ true
+says Nothing h = absurd (miss (1 ∷ 2 ∷ 3 ∷ 4 ∷ 5 ∷ 6 ∷ 7 ∷ []) 0 tt h)
 says Identity h = refl
 says (Word n) h = refl
 says (Tenths v) h = refl
 says (Whole v) h = refl
 says (Number n) h = refl
 says (Error n) h = refl
+says Label h = refl
 
-module _ (out : Text) {answered : ℕ} (room : answered < mostAnswer) (size : length out ≡ mostAnswer) where
+module _ (label out : Text) {answered : ℕ} (room : answered < mostAnswer) (size : length out ≡ mostAnswer) where
   abbrev so-far : Text
   so-far = take answered out
 
-  pub given-none : GivenTo Nothing answered out answered out
+  pub given-none : GivenTo label Nothing answered out answered out
   unfolding answeredWith if_then_else_
   given-none =
       let l : length so-far < mostAnswer = rw length-take (omega arith) in
       record { stands = λ _. (l, refl); falls = λ h. absurd (omega arith) }
 
   module _ (reply : Reply) (some : said reply ≡ true) {tail : Text} {n : ℕ}
-      (laid : Laid (textOf reply) (midOf (start answered) (length (set out answered (code ";")) - start answered) (set out answered (code ";"))) n tail) where
+      (laid : Laid (textOf label reply) (midOf (start answered) (length (set out answered (code ";")) - start answered) (set out answered (code ";"))) n tail) where
     abbrev left : Text
     left = putMid (start answered) (length (set out answered (code ";")) - start answered) (set out answered (code ";")) tail
 
-    long : length (answeredWith reply so-far) ≡ start answered + n
+    long : length (answeredWith label reply so-far) ≡ start answered + n
     unfolding answeredWith if_then_else_
     long =
         let taken : length so-far ≡ answered = rw length-take (omega arith) in
@@ -107,7 +108,7 @@ module _ (out : Text) {answered : ℕ} (room : answered < mostAnswer) (size : le
       whole : m ≡ mostAnswer
       whole = kept ∙ length-set out answered (code ";") ∙ size
 
-      pub given-over : m - start answered ≤ n → GivenTo reply answered out m left
+      pub given-over : m - start answered ≤ n → GivenTo label reply answered out m left
       given-over h =
           let e = whole in
           let k = start-room answered room in
@@ -116,17 +117,17 @@ module _ (out : Text) {answered : ℕ} (room : answered < mostAnswer) (size : le
       pub end-room : n < m - start answered → start answered + n < mostAnswer
       end-room h = let e = whole in omega arith
 
-      pub given-whole : n < m - start answered → GivenTo reply answered out (start answered + n) left
+      pub given-whole : n < m - start answered → GivenTo label reply answered out (start answered + n) left
       unfolding answeredWith if_then_else_
       given-whole h =
           let e = whole in
           let fits = end-room h in
           let lent = midOf (start answered) (length (set out answered (code ";")) - start answered) (set out answered (code ";")) in
           let l : length lent ≡ mostAnswer - start answered = simp (length-take, length-drop, length-set) (omega arith) in
-          let k : length (textOf reply) ≤ length lent = let e = laid .long in omega arith in
-          let bytes : take (length (textOf reply)) tail ≡ textOf reply = rw (laid .bytes) (over-start (textOf reply) lent k) in
-          let t : length (textOf reply) ≤ length tail = rw (laid .bytes, over-length (textOf reply) lent) k in
-          let is = stands out tail (textOf reply) (length (set out answered (code ";")) - start answered) bytes t answered (omega arith) in
+          let k : length (textOf label reply) ≤ length lent = let e = laid .long in omega arith in
+          let bytes : take (length (textOf label reply)) tail ≡ textOf label reply = rw (laid .bytes) (over-start (textOf label reply) lent k) in
+          let t : length (textOf label reply) ≤ length tail = rw (laid .bytes, over-length (textOf label reply) lent) k in
+          let is = stands out tail (textOf label reply) (length (set out answered (code ";")) - start answered) bytes t answered (omega arith) in
           record {
             stands = λ _. (rw long fits, rw (some, laid .long) is);
             falls = λ f. absurd (omega arith);

@@ -20,7 +20,7 @@ use Rattle.interpreter.specs.RowsParts.{rowOf, keyMatches, greedy, fitsK
 use Rattle.interpreter.specs.HeaderParts.{mostNames}
 use Rattle.interpreter.proofs.rows.Greedy.{clear, rows-clear, greedy-spells}
 use Rattle.interpreter.proofs.rows.Rows.{few, rows-few}
-use Rattle.interpreter.proofs.table.Lengths.{rows-many}
+use Rattle.interpreter.proofs.table.Lengths.{rows-many, first-most}
 
 -- ---- a search by one test finds what a search by another finds, if the tests agree on every row
 
@@ -111,3 +111,8 @@ module _ (star : Bool) (asked : Bool) where
       go : (b : Bool) → leb (length keys) mostNodes ≡ b → length keys ≤ mostNodes
       go true q = leb-true (length keys) mostNodes q
       go false q = absurd (let z = long-none keys (leb-false (length keys) mostNodes q) in omega arith)
+
+-- a search finds a row, or none
+pub keys-most : (star : Bool) (keys : List ℕ) (asked : Bool) → rowOfKeys star keys asked ≤ rowCount
+unfolding rowOfKeys
+keys-most star keys asked = let n = rows-many in let m = first-most (fitsKeys star keys asked) rows in omega arith

@@ -7,7 +7,7 @@ use Prim.Native.Nat.{ℕ, suc, _+_, _%_, _≤_, _<_}
 use Prim.Native.String.{String}
 use native.Mathlib.Numerals.{add-one}
 use native.Mathlib.Omega.{arith}
-use lib.Dec.{eqb}
+use lib.Dec.{eqb, ltb}
 use lib.ListN.{length, getD, drop, drop-of-length-le}
 use lib.Seq.{drop-cons}
 use borrow.Author.Tests.{eq-eqb, eqb-true}
@@ -17,17 +17,18 @@ use Rattle.registers.specs.Words.{Node, must, may, shortForm, longForm}
 use Rattle.registers.specs.Settings.{table}
 use Rattle.registers.proofs.Tests.{and-both}
 use Rattle.interpreter.specs.Rows.{Row, rows, settingRows, otherRows, hasForm}
-use Rattle.interpreter.specs.NameParts.{codeOf, withCode, keyFrom, keyOf, codeCount}
+use Rattle.interpreter.specs.Header.{numbered}
+use Rattle.interpreter.specs.NameParts.{codeOf, withCode, keyFrom, wordKey, codeCount, suffixPlace, noNumber}
 use Rattle.interpreter.specs.DeedParts.{rowCount}
 use Rattle.interpreter.specs.TableParts.{firstFit, withLetter, markFrom, markOf, canMark, startOf, markCount}
-use Rattle.interpreter.specs.RowsParts.{keyMatches, greedy, fitsKeys, rowOfKeys, Marked}
+use Rattle.interpreter.specs.RowsParts.{keyMatches, greedy, fitsKeys, rowOfKeys, Marked, shownKey}
 use Rattle.interpreter.proofs.rows.Greedy.{wordOf}
 use Rattle.interpreter.proofs.table.Lengths.{rows-many, first-most}
 
 -- ---- a word's first letter stands lowest in the numbers of both its forms
 
 abbrev led : String → Bool
-led w = eqb (keyOf (shortForm w) % codeCount) (codeOf (first (bytes w))) && eqb (keyOf (longForm w) % codeCount) (codeOf (first (bytes w)))
+led w = eqb (wordKey (shortForm w) % codeCount) (codeOf (first (bytes w))) && eqb (wordKey (longForm w) % codeCount) (codeOf (first (bytes w)))
 
 abbrev allLed : List Node → Bool
 allLed nodes = every (λ x. led (wordOf x)) nodes
@@ -37,20 +38,29 @@ ledRow r = allLed (r .nodes)
 
 -- the one test over the table
 rows-led : every ledRow rows ≡ true
-unfolding rows settingRows otherRows table shortForm longForm bytes small capital keyOf keyFrom withCode codeOf letter digit wordByte if_then_else_
+unfolding rows settingRows otherRows table shortForm longForm bytes small capital wordKey keyFrom withCode codeOf letter digit wordByte if_then_else_
 rows-led = refl
+
+-- a suffix stands above the first letter
+shown-low : (takes : Bool) (k : ℕ) → shownKey takes k % codeCount ≡ k % codeCount
+unfolding shownKey if_then_else_
+shown-low takes k = go (takes && ltb k noNumber)
+  where
+    go : (b : Bool) → (if b then k % suffixPlace else k) % codeCount ≡ k % codeCount
+    go true = omega arith
+    go false = refl
 
 first-letter : (w : String) (k : ℕ) → led w ≡ true → keyMatches w k ≡ true → k % codeCount ≡ codeOf (first (bytes w))
 unfolding keyMatches
 first-letter w k l e =
-    let p = and-both (eqb (keyOf (shortForm w) % codeCount) (codeOf (first (bytes w)))) (eqb (keyOf (longForm w) % codeCount) (codeOf (first (bytes w)))) l in
-    go (eqb k (keyOf (shortForm w))) refl e (eqb-true _ _ (p .0)) (eqb-true _ _ (p .1))
+    let p = and-both (eqb (wordKey (shortForm w) % codeCount) (codeOf (first (bytes w)))) (eqb (wordKey (longForm w) % codeCount) (codeOf (first (bytes w)))) l in
+    go (shownKey (numbered w) k) (shown-low (numbered w) k) (eqb (shownKey (numbered w) k) (wordKey (shortForm w))) refl e (eqb-true _ _ (p .0)) (eqb-true _ _ (p .1))
   where
-    go : (b : Bool) → eqb k (keyOf (shortForm w)) ≡ b → (b || eqb k (keyOf (longForm w))) ≡ true
-        → keyOf (shortForm w) % codeCount ≡ codeOf (first (bytes w)) → keyOf (longForm w) % codeCount ≡ codeOf (first (bytes w))
+    go : (m : ℕ) → m % codeCount ≡ k % codeCount → (b : Bool) → eqb m (wordKey (shortForm w)) ≡ b → (b || eqb m (wordKey (longForm w))) ≡ true
+        → wordKey (shortForm w) % codeCount ≡ codeOf (first (bytes w)) → wordKey (longForm w) % codeCount ≡ codeOf (first (bytes w))
         → k % codeCount ≡ codeOf (first (bytes w))
-    go true q r s t = ap (λ (n : ℕ). n % codeCount) (eqb-true k (keyOf (shortForm w)) q) ∙ s
-    go false q r s t = ap (λ (n : ℕ). n % codeCount) (eqb-true k (keyOf (longForm w)) r) ∙ t
+    go m low true q r s t = sym low ∙ ap (λ (n : ℕ). n % codeCount) (eqb-true m (wordKey (shortForm w)) q) ∙ s
+    go m low false q r s t = sym low ∙ ap (λ (n : ℕ). n % codeCount) (eqb-true m (wordKey (longForm w)) r) ∙ t
 
 -- ---- names that a row's nodes spell have one of the row's marks
 

@@ -5,7 +5,7 @@ use mathlib.Core.List.{List, [], _∷_}
 use lib.Dec.{leb}
 use lib.ListN.{length}
 use Rattle.registers.specs.Text.{Text, empty}
-use Rattle.interpreter.specs.Box.{mostAnswer}
+use Rattle.interpreter.specs.Box.{memory, storeSize, mostAnswer}
 use Rattle.interpreter.specs.Events.{happens, received, take as takes}
 use Rattle.interpreter.specs.State.{boxOf}
 use Rattle.interpreter.specs.StateParts.{Tested, flowOf, stateOf}
@@ -16,6 +16,7 @@ use Rattle.interpreter.specs.declared.server.Progress.{Progress}
 use Rattle.interpreter.proofs.Choices.{if-elim}
 use Rattle.interpreter.proofs.Bounds.{Fit}
 use Rattle.interpreter.proofs.Possible.{event-fit, fit-from, fit-to}
+use Rattle.interpreter.proofs.state.Events.{size-right, size-wrong}
 use Rattle.interpreter.proofs.state.Records.{box-from, state-from, could, could-not, short-of}
 
 pub line-fits : (s : Service) (l : Text) → Fit mostAnswer (s .box) → Fit mostAnswer (servedLine s l .box)
@@ -32,20 +33,42 @@ serves-fit s (l ∷ ls) f =
     if-elim (λ (v : Service). Fit mostAnswer (v .box)) (leb mostAnswer (length (s .rest)))
     (λ _. serves-fit (servedLine s l) ls (line-fits s l f)) (λ _. f)
 
-module _ (s : State) (t : Bool) (w : Tested s t) (input output : Text) where
-  pub refused-chunk : not t ≡ true → Serves s input output 4 0 0 s output
-  refused-chunk h =
-      record { possible = λ p. absurd (false≢true (sym (could-not s t w h) ∙ p)); impossible = λ _. (refl, refl, refl, refl, refl) }
+module _ (s : State) (store input output : Text) where
+  pub wrong-chunk : (length store ≡ storeSize → ⊥) → Serves s (memory store) input output 5 0 0 s (memory store) output
+  wrong-chunk h =
+      let no = size-wrong store h in
+      record {
+        possible = λ q _. absurd (false≢true (sym no ∙ q));
+        impossible = λ q _. absurd (false≢true (sym no ∙ q));
+        wrong = λ _. (refl, refl, refl, refl, refl, refl);
+      }
 
-  pub served-chunk : not t ≡ false → (r : Progress) (lines left outputs : Text)
-      → FlowServed (flowOf s) (s .line) (s .answer) input output r lines left outputs
-      → Serves s input output 0 (r .flow .read) (r .written) (stateOf (r .flow) lines left) outputs
-  served-chunk h r lines left outputs d =
+module _ (s : State) (t : Bool) (w : Tested s t) (store input output : Text) (long : length store ≡ storeSize) where
+  pub refused-chunk : not t ≡ true → Serves s (memory store) input output 4 0 0 s (memory store) output
+  refused-chunk h =
+      record {
+        possible = λ _ p. absurd (false≢true (sym (could-not s t w h) ∙ p));
+        impossible = λ _ _. (refl, refl, refl, refl, refl, refl);
+        wrong = λ n. absurd (false≢true (sym n ∙ size-right store long));
+      }
+
+  pub served-chunk : not t ≡ false → (r : Progress) (lines left stored outputs : Text) → length stored ≡ length store
+      → FlowServed (flowOf s) (s .line) (s .answer) (memory store) input output r lines left (memory stored) outputs
+      → Serves s (memory store) input output 0 (r .flow .read) (r .written) (stateOf (r .flow) lines left) (memory stored) outputs
+  served-chunk h r lines left stored outputs kept d =
       let p = could s t w h in
       let u = stateOf (r .flow) lines left in
-      let still = serves-fit (service (boxOf s) 0 [] output) (linesOf input) (fit-from (boxOf s) (w .values) (box-from s p)) in
-      let box : boxOf u ≡ serves (service (boxOf s) 0 [] output) (linesOf input) .box = ap (λ (v : Service). v .box) (d .service) in
+      let b = boxOf s (memory store) in
+      let still = serves-fit (service b 0 [] output) (linesOf input) (fit-from b (w .values) (box-from s (memory store) p)) in
+      let box : boxOf u (memory stored) ≡ serves (service b 0 [] output) (linesOf input) .box = ap (λ (v : Service). v .box) (d .service) in
       record {
-        possible = λ _. (state-from u (short-of (r .flow) lines left (d .fits)) (rw (← box) at (fit-to _ still)), refl, d .within, d .service);
-        impossible = λ n. absurd (false≢true (sym n ∙ p));
+        possible = λ _ _. (
+          state-from u (memory stored) (short-of (r .flow) lines left (d .fits)) (rw (← box) at (fit-to _ still)),
+          refl,
+          d .within,
+          d .service,
+          size-right stored (kept ∙ long),
+        );
+        impossible = λ _ n. absurd (false≢true (sym n ∙ p));
+        wrong = λ n. absurd (false≢true (sym n ∙ size-right store long));
       }

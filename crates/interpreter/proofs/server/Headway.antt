@@ -8,7 +8,7 @@ use native.Mathlib.Omega.{arith}
 use lib.Dec.{leb}
 use lib.ListN.{length, drop}
 use Rattle.registers.specs.Text.{Text, empty}
-use Rattle.interpreter.specs.Box.{mostAnswer}
+use Rattle.interpreter.specs.Box.{Memory, rightSize, mostAnswer}
 use Rattle.interpreter.specs.Events.{happens, received}
 use Rattle.interpreter.specs.State.{possibleState}
 use Rattle.interpreter.specs.FlowParts.{firstLine}
@@ -33,17 +33,17 @@ serves-read s (l ∷ ls) =
     if-elim (λ (v : Service). (s .read ≤ v .read) × (v .read ≤ s .read + total (l ∷ ls))) (leb mostAnswer (length (s .rest)))
     (λ _. (omega (arith, more .0, is), omega (arith, more .1, is))) (λ _. (le-refl _, omega arith))
 
-module _ (s t : State) (input output left : Text) (number read written : ℕ) (w : Serves s input output number read written t left)
-    (p : possibleState s ≡ true) where
-  is : read ≡ serves (begun s output) (linesOf input) .read
-  is = ap (λ (v : Service). v .read) (w .possible p .3)
+module _ (s t : State) (m n : Memory) (input output left : Text) (number read written : ℕ) (w : Serves s m input output number read written t n left)
+    (q : rightSize m ≡ true) (p : possibleState s ≡ true) where
+  is : read ≡ serves (begun s m output) (linesOf input) .read
+  is = ap (λ (v : Service). v .read) (w .possible q p .3)
 
   pub reads-within : read ≤ length input
-  reads-within = let most = serves-read (begun s output) (linesOf input) .1 in let all = lines-total input in rw is (omega (arith, most, all))
+  reads-within = let most = serves-read (begun s m output) (linesOf input) .1 in let all = lines-total input in rw is (omega (arith, most, all))
 
   pub reads-some : mostAnswer ≤ length output → 0 < length input → 0 < read
   reads-some room some =
       let l = firstLine input in
       let more = linesOf (drop (length l) input) in
-      rw (is, lines-first input some, serves-on (begun s output) l more room)
-      (omega (arith, serves-read (servedLine (begun s output) l) more .0, line-read (begun s output) l, first-some input some))
+      rw (is, lines-first input some, serves-on (begun s m output) l more room)
+      (omega (arith, serves-read (servedLine (begun s m output) l) more .0, line-read (begun s m output) l, first-some input some))

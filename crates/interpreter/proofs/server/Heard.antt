@@ -11,10 +11,10 @@ use lib.ListN as L
 use lib.ListN.{length, drop}
 use borrow.Author.Tests.{leb-true, le-leb}
 use Rattle.registers.specs.Text.{Text, if_then_else_, empty}
-use Rattle.registers.specs.Settings.{count}
+use Rattle.registers.specs.Settings.{AsLong}
 use Rattle.registers.proofs.Tests.{and-true}
 use Rattle.interpreter.specs.Cuts.{joinFirst}
-use Rattle.interpreter.specs.Box.{Core, Box, answerIs, mostLine, mostAnswer}
+use Rattle.interpreter.specs.Box.{Memory, rightSize, Core, Box, answerIs, mostLine, mostAnswer}
 use Rattle.interpreter.specs.Line.{held, byte, piece}
 use Rattle.interpreter.specs.Events.{Event, received, take as takes, result, Happened, happened, happens, taken, after, results}
 use Rattle.interpreter.specs.State.{boxOf, possibleState}
@@ -153,30 +153,30 @@ goes v (l ∷ ls) f = go (leb mostAnswer (length (v .rest))) refl (goes (servedL
 
 -- ---- a chunk
 
-module _ (s t : State) (input output left : Text) (number read written : ℕ) (w : Serves s input output number read written t left)
-    (p : possibleState s ≡ true) (long : length (s .settings .values) ≡ count) where
-  fits : Fit mostAnswer (boxOf s)
-  fits = fit-from (boxOf s) long (box-from s p)
+module _ (s t : State) (m k : Memory) (input output left : Text) (number read written : ℕ) (w : Serves s m input output number read written t k left)
+    (q : rightSize m ≡ true) (p : possibleState s ≡ true) (long : AsLong (s .settings)) where
+  fits : Fit mostAnswer (boxOf s m)
+  fits = fit-from (boxOf s m) long (box-from s m p)
 
-  is : service (boxOf t) read (L.take written left) (drop written left) ≡ serves (begun s output) (linesOf input)
-  is = w .possible p .3
+  is : service (boxOf t k) read (L.take written left) (drop written left) ≡ serves (begun s m output) (linesOf input)
+  is = w .possible q p .3
 
-  went : Goes (begun s output) (linesOf input) (eventsOf (begun s output) (linesOf input)) (service (boxOf t) read (L.take written left) (drop written left))
-  went = rw is (goes (begun s output) (linesOf input) fits)
+  went : Goes (begun s m output) (linesOf input) (eventsOf (begun s m output) (linesOf input)) (service (boxOf t k) read (L.take written left) (drop written left))
+  went = rw is (goes (begun s m output) (linesOf input) fits)
 
   n : read ≡ total (went .done)
   n = omega (arith, went .read)
 
-  pub left-long : length (t .settings .values) ≡ count
-  left-long = rw (ap (λ (v : Service). v .box .core .settings) is) (serves-fit (begun s output) (linesOf input) fits .core .long)
+  pub left-long : AsLong (t .settings)
+  left-long = rw (ap (λ (v : Service). v .box .core .settings) is) (serves-fit (begun s m output) (linesOf input) fits .core .long)
 
   -- what was read was heard, in whole lines
-  pub part-heard : WholeLines read input × (boxOf t ≡ heard (boxOf s) (linesOf (L.take read input)))
+  pub part-heard : WholeLines read input × (boxOf t k ≡ heard (boxOf s m) (linesOf (L.take read input)))
   part-heard =
       (rw n (first-whole input (went .done) (went .rest) (went .is)), rw (n, first-lines input (went .done) (went .rest) (went .is)) (went .hears))
 
   -- a call is a history of pieces and takes: what it answers and leaves is what those events answer and leave
-  pub serves-history : ChunkHistory s t input left read written (eventsOf (begun s output) (linesOf input))
+  pub serves-history : ChunkHistory s t m k input left read written (eventsOf (begun s m output) (linesOf input))
   serves-history =
       record { events = rw (n, first-bytes input (went .done) (went .rest) (went .is)) (went .events); answers = went .answers }
 

@@ -12,7 +12,7 @@ use lib.Seq.{drop-drop, take-at, drop-at, paste, length-paste, take-paste, drop-
 use borrow.Author.Tests.{eqb-true, le-leb, lt-leb, leb-true, ltb-true, ltb-false, leb-false}
 use Rattle.bytes.specs.Bytes.{indexOf, indexAfter}
 use Rattle.registers.specs.Text.{Text, if_then_else_, empty}
-use Rattle.interpreter.specs.Box.{mostAnswer}
+use Rattle.interpreter.specs.Box.{Memory, memory, storeSize, mostAnswer}
 use Rattle.interpreter.specs.Events.{happens, taken}
 use Rattle.interpreter.specs.FlowParts.{flowBox, FlowFits, firstLine, FlowFed}
 use Rattle.interpreter.specs.Server.{linesOf, Service, service, servedLine, serves}
@@ -49,10 +49,10 @@ serves-on s l ls h = rw (le-leb mostAnswer (length (s .rest)) h)
 abbrev pub taken-from : Flow → Flow
 taken-from f = record { present = record { settings = f .present .settings; status = f .present .status; answered = 0 }; filled = f .filled; overlong = f .overlong; read = f .read; count = f .count }
 
-module _ (f r : Flow) (line out bytes lines left : Text) (w : FlowFed f line out bytes r lines left) (outs : length left ≡ mostAnswer) where
+module _ (f r : Flow) (line out : Text) (m : Memory) (bytes lines left : Text) (m′ : Memory) (w : FlowFed f line out m bytes r lines left m′) (outs : length left ≡ mostAnswer) where
   pub served-one : (read : ℕ) (answers rest : Text) → mostAnswer ≤ length rest
-      → servedLine (service (flowBox f line out) read answers rest) bytes
-      ≡ service (flowBox (taken-from r) lines left) (read + length bytes) (answers ++ take (r .present .answered) left) (drop (r .present .answered) rest)
+      → servedLine (service (flowBox f line out m) read answers rest) bytes
+      ≡ service (flowBox (taken-from r) lines left m′) (read + length bytes) (answers ++ take (r .present .answered) left) (drop (r .present .answered) rest)
   unfolding servedLine happens taken if_then_else_
   served-one read answers rest h = go (eqb (r .present .answered) 0) refl
     where
@@ -65,27 +65,28 @@ module _ (f r : Flow) (line out bytes lines left : Text) (w : FlowFed f line out
       is : empty (take (r .present .answered) left) ≡ eqb (r .present .answered) 0
       is = front-empty left (r .present .answered) (omega arith)
 
-      go : (t : Bool) → eqb (r .present .answered) 0 ≡ t → servedLine (service (flowBox f line out) read answers rest) bytes
-          ≡ service (flowBox (taken-from r) lines left) (read + length bytes) (answers ++ take (r .present .answered) left) (drop (r .present .answered) rest)
+      go : (t : Bool) → eqb (r .present .answered) 0 ≡ t → servedLine (service (flowBox f line out m) read answers rest) bytes
+          ≡ service (flowBox (taken-from r) lines left m′) (read + length bytes) (answers ++ take (r .present .answered) left) (drop (r .present .answered) rest)
       go true e = let z = eqb-true (r .present .answered) 0 e in rw (← w .box, is, z, append-nil answers)
       go false e =
           rw (← w .box, is, e, n, le-leb (r .present .answered) (length rest) within, take-at (take (r .present .answered) left) (drop (r .present .answered) rest) (r .present .answered) n, drop-at (take (r .present .answered) left) (drop (r .present .answered) rest) (r .present .answered) n)
 
 -- ---- the loop over a chunk's lines
 
-pub record Serving (begun : Service) (room : ℕ) (input line out output : Text) (f : Flow) (written : ℕ) : Type 0 where
+pub record Serving (begun : Service) (room : ℕ) (input line out store output : Text) (f : Flow) (written : ℕ) : Type 0 where
   pub fits : FlowFits f
+  pub sized : length store ≡ storeSize
   pub outputs : length output ≡ room
   pub read-in : f .read ≤ length input
   pub wrote : written ≤ length output
-  pub left : serves (serviceAt f written line out output) (linesOf (drop (f .read) input)) ≡ serves begun (linesOf input)
+  pub left : serves (serviceAt f written line out (memory store) output) (linesOf (drop (f .read) input)) ≡ serves begun (linesOf input)
 
-pub serve-begun : (f : Flow) (line out input output : Text) → FlowFits f → f .read ≡ 0
-    → Serving (service (flowBox f line out) 0 [] output) (length output) input line out output f 0
-serve-begun f line out input output w z = record { fits = w; outputs = refl; read-in = omega arith; wrote = zero-le; left = rw z }
+pub serve-begun : (f : Flow) (line out store input output : Text) → FlowFits f → f .read ≡ 0 → length store ≡ storeSize
+    → Serving (service (flowBox f line out (memory store)) 0 [] output) (length output) input line out store output f 0
+serve-begun f line out store input output w z l = record { fits = w; sized = l; outputs = refl; read-in = omega arith; wrote = zero-le; left = rw z }
 
-module _ (begun : Service) (room : ℕ) (input line out output : Text) (f : Flow) (written : ℕ)
-    (g : Serving begun room input line out output f written) where
+module _ (begun : Service) (room : ℕ) (input line out store output : Text) (f : Flow) (written : ℕ)
+    (g : Serving begun room input line out store output f written) where
   abbrev Goes : Bool → Type 0
   Goes t = (ltb (f .read) (length input) && leb mostAnswer (length output - written)) ≡ t
 
@@ -103,7 +104,7 @@ module _ (begun : Service) (room : ℕ) (input line out output : Text) (f : Flow
         omega arith
 
     -- the next line was taken in, and its answer laid after those before it
-    module _ (r : Flow) (line′ out′ : Text) (w : FlowFed f line out first r line′ out′) where
+    module _ (r : Flow) (line′ out′ store′ : Text) (w : FlowFed f line out (memory store) first r line′ out′ (memory store′)) where
       pub serve-further : f .read < r .read
       serve-further =
           let h = more-input in
@@ -112,9 +113,9 @@ module _ (begun : Service) (room : ℕ) (input line out output : Text) (f : Flow
           let n = w .read in
           omega arith
 
-      pub serve-on : length out′ ≡ mostAnswer → (end : ℕ) (output′ : Text) → end ≡ written + r .present .answered → output′ ≡ paste output written out′ (r .present .answered)
-          → Serving begun room input line′ out′ output′ (taken-from r) end
-      serve-on outs end output′ e u =
+      pub serve-on : length store′ ≡ length store → length out′ ≡ mostAnswer → (end : ℕ) (output′ : Text) → end ≡ written + r .present .answered → output′ ≡ paste output written out′ (r .present .answered)
+          → Serving begun room input line′ out′ store′ output′ (taken-from r) end
+      serve-on kept outs end output′ e u =
           let h = more-input in
           let free = more-room in
           let few = w .fits .waiting in
@@ -125,27 +126,28 @@ module _ (begun : Service) (room : ℕ) (input line out output : Text) (f : Flow
           let long = length-paste output written out′ (r .present .answered) (omega arith) (omega arith) in
           let rest = lines-first (drop (f .read) input) (omega arith) in
           let left-over : drop (length first) (drop (f .read) input) ≡ drop (r .read) input = rw (is, drop-drop) in
-          let one = served-one f r line out first line′ out′ w outs (f .read) (take written output) (drop written output) (omega arith) in
-          let now : serviceAt (taken-from r) end line′ out′ output′ ≡ servedLine (serviceAt f written line out output) first =
+          let one = served-one f r line out (memory store) first line′ out′ (memory store′) w outs (f .read) (take written output) (drop written output) (omega arith) in
+          let now : serviceAt (taken-from r) end line′ out′ (memory store′) output′ ≡ servedLine (serviceAt f written line out (memory store) output) first =
           rw (is, e, u, take-paste output written out′ (r .present .answered) (omega arith) (omega arith), drop-paste output written out′ (r .present .answered) (omega arith) (omega arith), ← drop-drop (r .present .answered) written output)
           (sym one) in
           record {
             fits = record { filled = w .fits .filled; waiting = zero-le; queued = w .fits .queued; few = w .fits .few };
+            sized = kept ∙ g .sized;
             outputs = rw u (long ∙ g .outputs);
             read-in = omega arith;
             wrote = rw (u, long) (omega arith);
             left =
                 rw now
-                (sym (serves-on (serviceAt f written line out output) _ (linesOf (drop (r .read) input)) (omega arith)) ∙ (rw (rest, left-over) at (g .left)));
+                (sym (serves-on (serviceAt f written line out (memory store) output) _ (linesOf (drop (r .read) input)) (omega arith)) ∙ (rw (rest, left-over) at (g .left)));
           }
 
-  pub serve-end : (f₀ : Flow) (line₀ out₀ output₀ : Text) → begun ≡ service (flowBox f₀ line₀ out₀) 0 [] output₀
-      → Goes false → FlowServed f₀ line₀ out₀ input output₀ (record { flow = f; written = written }) line out output
+  pub serve-end : (f₀ : Flow) (line₀ out₀ : Text) (m₀ : Memory) (output₀ : Text) → begun ≡ service (flowBox f₀ line₀ out₀ m₀) 0 [] output₀
+      → Goes false → FlowServed f₀ line₀ out₀ m₀ input output₀ (record { flow = f; written = written }) line out (memory store) output
   unfolding linesOf serves
-  serve-end f₀ line₀ out₀ output₀ b stop = record { fits = g .fits; within = g .wrote; service = rw b at (ends (ltb (f .read) (length input)) refl) }
+  serve-end f₀ line₀ out₀ m₀ output₀ b stop = record { fits = g .fits; within = g .wrote; service = rw b at (ends (ltb (f .read) (length input)) refl) }
     where
       here : Service
-      here = serviceAt f written line out output
+      here = serviceAt f written line out (memory store) output
 
       ends : (t : Bool) → ltb (f .read) (length input) ≡ t → here ≡ serves begun (linesOf input)
       ends true e =

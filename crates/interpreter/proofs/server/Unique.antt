@@ -1,27 +1,28 @@
 -- Two results that meet the chunk server's statement are equal, and the two states are the same, places beyond a stored length apart.
-use mathlib.Core.Path.{_≡_, refl, sym, ap, _∙_}
+use mathlib.Core.Path.{_≡_, refl, sym, ap, ap₂, _∙_}
 use mathlib.Core.Bool.{Bool, true, false}
 use mathlib.Core.List.{_++_}
 use Prim.Native.Nat.{ℕ}
 use lib.ListN.{length, take-append-drop}
 use lib.Seq.{length-take-le}
 use Rattle.registers.specs.Text.{Text}
+use Rattle.interpreter.specs.Box.{Memory, rightSize}
 use Rattle.interpreter.specs.State.{boxOf, possibleState}
 use Rattle.interpreter.specs.Server.{Service, Serves}
 use Rattle.interpreter.specs.declared.state.State.{State}
 
-module _ (s t t′ : State) (input output left left′ : Text) (number read written number′ read′ written′ : ℕ) where
+module _ (s t t′ : State) (m n n′ : Memory) (input output left left′ : Text) (number read written number′ read′ written′ : ℕ) where
   abbrev Same : Type 0
   Same =
-      (number ≡ number′) × (read ≡ read′) × (written ≡ written′) × (left ≡ left′) × (boxOf t ≡ boxOf t′) × (possibleState t ≡ possibleState t′)
+      (number ≡ number′) × (read ≡ read′) × (written ≡ written′) × (left ≡ left′) × (boxOf t n ≡ boxOf t′ n′) × (possibleState t ≡ possibleState t′)
 
-  pub serves-unique : Serves s input output number read written t left → Serves s input output number′ read′ written′ t′ left′ → Same
-  serves-unique p q = on (possibleState s) refl
+  pub serves-unique : Serves s m input output number read written t n left → Serves s m input output number′ read′ written′ t′ n′ left′ → Same
+  serves-unique p q = on (rightSize m) refl (possibleState s) refl
     where
-      on : (b : Bool) → possibleState s ≡ b → Same
-      on true h =
-          let x = p .possible h in
-          let y = q .possible h in
+      on : (a : Bool) → rightSize m ≡ a → (b : Bool) → possibleState s ≡ b → Same
+      on true l true h =
+          let x = p .possible l h in
+          let y = q .possible l h in
           let same = x .3 ∙ sym (y .3) in
           let front = ap (λ (v : Service). v .answers) same in (
             x .1 ∙ sym (y .1),
@@ -31,8 +32,13 @@ module _ (s t t′ : State) (input output left left′ : Text) (number read writ
             ap (λ (v : Service). v .box) same,
             x .0 ∙ sym (y .0),
           )
-      on false h =
-          let x = p .impossible h in
-          let y = q .impossible h in
+      on true l false h =
+          let x = p .impossible l h in
+          let y = q .impossible l h in
           let same = x .0 ∙ sym (y .0) in
-          (x .1 ∙ sym (y .1), x .2 ∙ sym (y .2), x .3 ∙ sym (y .3), x .4 ∙ sym (y .4), ap boxOf same, ap possibleState same)
+          (x .1 ∙ sym (y .1), x .2 ∙ sym (y .2), x .3 ∙ sym (y .3), x .4 ∙ sym (y .4), ap₂ boxOf same (x .5 ∙ sym (y .5)), ap possibleState same)
+      on false l b h =
+          let x = p .wrong l in
+          let y = q .wrong l in
+          let same = x .0 ∙ sym (y .0) in
+          (x .1 ∙ sym (y .1), x .2 ∙ sym (y .2), x .3 ∙ sym (y .3), x .4 ∙ sym (y .4), ap₂ boxOf same (x .5 ∙ sym (y .5)), ap possibleState same)

@@ -7,7 +7,7 @@ use Prim.Native.Nat.{ℕ, _≤_, _<_}
 use native.Mathlib.Omega.{arith}
 use lib.Dec.{eqb}
 use lib.ListN.{length, take, drop, length-take}
-use borrow.Author.Tests.{le-leb, lt-leb, ne-eqb}
+use borrow.Author.Tests.{le-leb, lt-leb, eq-eqb, ne-eqb}
 use Rattle.registers.specs.Text.{Text, if_then_else_}
 use Rattle.registers.specs.Group.{widestGroup, possibleGroup}
 use Rattle.registers.specs.Settings.{atReset, count}
@@ -17,10 +17,10 @@ use Rattle.registers.proofs.settings.Possible.{reset-possible}
 use Rattle.registers.proofs.status.Laws.{reported-yes}
 use Rattle.registers.proofs.status.Meaning.{raised-trouble, raised-registers}
 use Rattle.registers.specs.declared.status.RegisterSet.{RegisterSet}
-use Rattle.interpreter.specs.Box.{box}
+use Rattle.interpreter.specs.Box.{Memory, memory, storeSize, rightSize, box}
 use Rattle.interpreter.specs.Line.{newlines}
 use Rattle.interpreter.specs.Events.{Event, received, take as takes, condition, look, Result, result, happened, happens, taken, reported, lent}
-use Rattle.interpreter.specs.State.{boxOf, possibleParts, possibleState, admitted, Happens}
+use Rattle.interpreter.specs.State.{boxOf, possibleParts, possibleState, admitted, rightly, Happens}
 use Rattle.interpreter.specs.StateParts.{Tested, flowOf, stateOf}
 use Rattle.interpreter.specs.FlowParts.{FlowFed}
 use Rattle.interpreter.specs.declared.state.State.{State}
@@ -29,19 +29,54 @@ use Rattle.registers.specs.Queue.{most}
 use Rattle.registers.proofs.Tests.{front-empty}
 use Rattle.interpreter.proofs.state.Records.{Short, short-from, could, could-not, happens-so}
 
--- an event that is no power-up
-module _ (s : State) (e : Event) (call : admitted s e ≡ possibleState s) (t : Bool) (w : Tested s t) where
-  -- a state that couldn't be the box's is handed back
-  pub refused-4 : not t ≡ true → Happens s e (result 4 0 (lent e)) s
-  refused-4 h = record { possible = λ p. absurd (false≢true (sym (call ∙ could-not s t w h) ∙ p)); impossible = λ _. (refl, refl) }
+-- what the length of the lent store says of its size
+module _ (store : Text) where
+  pub size-right : length store ≡ storeSize → rightSize (memory store) ≡ true
+  unfolding rightSize
+  size-right e = eq-eqb (length store) storeSize e
 
-  pub happens-on : not t ≡ false → (r : Result) (u : State) → (Short s → Short u) → happened r (boxOf u) ≡ happens (boxOf s) e → Happens s e r u
-  happens-on h r u k is =
-      let p = could s t w h in
+  pub size-wrong : (length store ≡ storeSize → ⊥) → rightSize (memory store) ≡ false
+  unfolding rightSize
+  size-wrong e = ne-eqb (length store) storeSize e
+
+-- an event that is no power-up
+module _ (s : State) (store : Text) (e : Event) (lends : rightly (memory store) e ≡ rightSize (memory store)) where
+  -- a store of the wrong length
+  pub refused-5 : (length store ≡ storeSize → ⊥) → Happens s (memory store) e (result 5 0 (lent e)) s (memory store)
+  refused-5 h =
+      let no = lends ∙ size-wrong store h in
       record {
-        possible = λ _. happens-so s e r u (w .values) (λ _. (k (short-from s p), is)) p;
-        impossible = λ n. absurd (false≢true (sym n ∙ call ∙ p));
+        possible = λ q _. absurd (false≢true (sym no ∙ q));
+        impossible = λ q _. absurd (false≢true (sym no ∙ q));
+        wrong = λ _. (refl, refl, refl);
       }
+
+  module _ (long : length store ≡ storeSize) (call : admitted s e ≡ possibleState s) (t : Bool) (w : Tested s t) where
+    sized : rightly (memory store) e ≡ true
+    sized = lends ∙ size-right store long
+
+    -- a state that couldn't be the box's is handed back
+    pub refused-4 : not t ≡ true → Happens s (memory store) e (result 4 0 (lent e)) s (memory store)
+    refused-4 h =
+        record {
+          possible = λ _ p. absurd (false≢true (sym (call ∙ could-not s t w h) ∙ p));
+          impossible = λ _ _. (refl, refl, refl);
+          wrong = λ n. absurd (false≢true (sym n ∙ sized));
+        }
+
+    pub happens-on : not t ≡ false → (r : Result) (u : State) (left : Text) → (Short s → Short u) → length left ≡ length store
+        → happened r (boxOf u (memory left)) ≡ happens (boxOf s (memory store)) e → Happens s (memory store) e r u (memory left)
+    happens-on h r u left k kept is =
+        let p = could s t w h in
+        record {
+          possible = λ _ _. (
+            happens-so s (memory store) e r u (memory left) (w .values) (k (short-from s p)) is p,
+            is,
+            size-right left (kept ∙ long) ∙ sym (size-right store long),
+          );
+          impossible = λ _ n. absurd (false≢true (sym n ∙ call ∙ p));
+          wrong = λ n. absurd (false≢true (sym n ∙ sized));
+        }
 
 -- ---- other status in the same record
 
@@ -53,24 +88,24 @@ abbrev pub withoutAnswer : State → State
 withoutAnswer s =
     record { settings = s .settings; status = s .status; line = s .line; filled = s .filled; overlong = s .overlong; answer = s .answer; waiting = 0 }
 
-module _ (s : State) (room : 0 < length (s .answer)) where
+module _ (s : State) (m : Memory) (room : 0 < length (s .answer)) where
   -- ---- take
 
   pub take-none : (buffer : Text) (t : Status) → length (s .status .errors) ≡ most → t ≡ raisedIn 420 (s .status) → s .waiting ≡ 0
-      → happened (result 2 0 buffer) (boxOf (withStatus t s)) ≡ happens (boxOf s) (takes buffer)
+      → happened (result 2 0 buffer) (boxOf (withStatus t s) m) ≡ happens (boxOf s m) (takes buffer)
   unfolding happens taken if_then_else_
   take-none buffer t long is e =
       rw (front-empty (s .answer) (s .waiting) room, e, is, raised-trouble 420 (s .status) long, raised-registers 420 (s .status) long)
 
   pub take-short : (buffer : Text) → (s .waiting ≡ 0 → ⊥) → s .waiting ≤ length (s .answer) → length buffer < s .waiting
-      → happened (result 1 (s .waiting) buffer) (boxOf s) ≡ happens (boxOf s) (takes buffer)
+      → happened (result 1 (s .waiting) buffer) (boxOf s m) ≡ happens (boxOf s m) (takes buffer)
   unfolding happens taken if_then_else_
   take-short buffer ne w h =
       let n : length (take (s .waiting) (s .answer)) ≡ s .waiting = rw length-take (omega arith) in
       rw (front-empty (s .answer) (s .waiting) room, ne-eqb (s .waiting) 0 ne, n, lt-leb (s .waiting) (length buffer) h)
 
   pub take-all : (buffer : Text) → (s .waiting ≡ 0 → ⊥) → s .waiting ≤ length (s .answer) → s .waiting ≤ length buffer
-      → happened (result 0 (s .waiting) (take (s .waiting) (s .answer) ++ drop (s .waiting) buffer)) (boxOf (withoutAnswer s)) ≡ happens (boxOf s) (takes buffer)
+      → happened (result 0 (s .waiting) (take (s .waiting) (s .answer) ++ drop (s .waiting) buffer)) (boxOf (withoutAnswer s) m) ≡ happens (boxOf s m) (takes buffer)
   unfolding happens taken if_then_else_
   take-all buffer ne w h =
       let n : length (take (s .waiting) (s .answer)) ≡ s .waiting = rw length-take (omega arith) in
@@ -79,19 +114,19 @@ module _ (s : State) (room : 0 < length (s .answer)) where
   -- ---- look
 
   pub look-byte : (n : ℕ) → n ≡ statusByte (registersOf (s .status)) (troubleOf (s .status)) (not (eqb (s .waiting) 0))
-      → happened (result 0 n []) (boxOf s) ≡ happens (boxOf s) look
+      → happened (result 0 n []) (boxOf s m) ≡ happens (boxOf s m) look
   unfolding happens
   look-byte n is = rw (is, front-empty (s .answer) (s .waiting) room)
 
 -- ---- condition
 
-module _ (s : State) (x : RegisterSet) (v : ℕ) where
-  pub condition-wide : widestGroup < v → happened (result 3 0 []) (boxOf s) ≡ happens (boxOf s) (condition x v)
+module _ (s : State) (m : Memory) (x : RegisterSet) (v : ℕ) where
+  pub condition-wide : widestGroup < v → happened (result 3 0 []) (boxOf s m) ≡ happens (boxOf s m) (condition x v)
   unfolding happens reported if_then_else_
   condition-wide h = rw (lt-leb v widestGroup h)
 
   pub condition-on : (t : Status) → t ≡ reportedIn x v (s .status) → v ≤ widestGroup
-      → happened (result 0 0 []) (boxOf (withStatus t s)) ≡ happens (boxOf s) (condition x v)
+      → happened (result 0 0 []) (boxOf (withStatus t s) m) ≡ happens (boxOf s m) (condition x v)
   unfolding happens reported if_then_else_
   condition-on t is h = rw (le-leb v widestGroup h, is, reported-yes (s .status) v x h)
 
@@ -106,7 +141,8 @@ start-possible = rw reset-possible
 
 -- ---- a piece
 
-pub piece-on : (s : State) (bytes : Text) (r : Flow) (lines left : Text) → FlowFed (flowOf s) (s .line) (s .answer) bytes r lines left
-    → happened (result 0 (r .count) []) (boxOf (stateOf r lines left)) ≡ happens (boxOf s) (received bytes)
+pub piece-on : (s : State) (m : Memory) (bytes : Text) (r : Flow) (lines left : Text) (n : Memory)
+    → FlowFed (flowOf s) (s .line) (s .answer) m bytes r lines left n
+    → happened (result 0 (r .count) []) (boxOf (stateOf r lines left) n) ≡ happens (boxOf s m) (received bytes)
 unfolding happens
-piece-on s bytes r lines left w = let n : r .count ≡ newlines bytes = let c = w .count in omega arith in rw (n, w .box)
+piece-on s m bytes r lines left k w = let n : r .count ≡ newlines bytes = let c = w .count in omega arith in rw (n, w .box)

@@ -6,11 +6,11 @@ use lib.Dec.{leb}
 use lib.ListN.{length}
 use borrow.Author.Tests.{leb-true, le-leb, not-true, not-false}
 use Rattle.registers.specs.Text.{Text}
-use Rattle.registers.specs.Settings.{possibleSettings, count}
+use Rattle.registers.specs.Settings.{possibleSettings, AsLong}
 use Rattle.registers.specs.Status.{registersOf, troubleOf, possibleStatus, possibleRegisters, possibleTrouble}
 use Rattle.registers.specs.Queue.{most}
 use Rattle.registers.proofs.Tests.{and-both, front-within}
-use Rattle.interpreter.specs.Box.{mostLine, mostAnswer}
+use Rattle.interpreter.specs.Box.{Memory, mostLine, mostAnswer}
 use Rattle.interpreter.specs.Events.{Event, possible, possibleCore, happened, Result, happens}
 use Rattle.interpreter.specs.State.{boxOf, possibleParts, possibleState}
 use Rattle.interpreter.specs.StateParts.{Tested, flowOf, stateOf}
@@ -39,9 +39,9 @@ module _ (s : State) where
         waiting = leb-true (s .waiting) mostAnswer (a .1);
       }
 
-  pub box-from : possibleState s ≡ true → possible (boxOf s) ≡ true
+  pub box-from : (m : Memory) → possibleState s ≡ true → possible (boxOf s m) ≡ true
   unfolding possibleParts possibleStatus possible possibleCore
-  box-from e =
+  box-from m e =
       let w = short-from e in
       let a = and-both _ (leb (s .waiting) mostAnswer) e in
       let b = and-both _ (leb (s .filled) mostLine) (a .0) in
@@ -50,9 +50,9 @@ module _ (s : State) where
       let f = and-both (possibleRegisters (registersOf (s .status))) _ (d .1) in
       rw (c .0, f .0, f .1, front-within (s .line) (s .filled) mostLine (w .filled), front-within (s .answer) (s .waiting) mostAnswer (w .waiting))
 
-  pub state-from : Short s → possible (boxOf s) ≡ true → possibleState s ≡ true
+  pub state-from : (m : Memory) → Short s → possible (boxOf s m) ≡ true → possibleState s ≡ true
   unfolding possibleParts possibleStatus possible possibleCore
-  state-from w e =
+  state-from m w e =
       let a = and-both _ (possibleTrouble (troubleOf (s .status))) e in
       let b = and-both (possibleSettings (s .settings)) _ (a .0) in
       let c = and-both (possibleRegisters (registersOf (s .status))) _ (b .1) in
@@ -73,11 +73,9 @@ module _ (s : State) (r : Bool) (w : Tested s r) where
 pub short-of : (f : Flow) (line answer : Text) → FlowFits f → Short (stateOf f line answer)
 short-of f line answer w = record { queued = w .queued; filled = w .filled; waiting = w .waiting }
 
--- what an event says of its result, from what happened to the box and from the new record's lengths
-pub happens-so : (s : State) (e : Event) (r : Result) (t : State) → length (s .settings .values) ≡ count
-    → (possibleState s ≡ true → Short t × (happened r (boxOf t) ≡ happens (boxOf s) e))
-    → possibleState s ≡ true → (possibleState t ≡ true) × (happened r (boxOf t) ≡ happens (boxOf s) e)
-happens-so s e r t long f p =
-    let g = f p in
-    let still = still-possible (boxOf s) e long (box-from s p) in
-    (state-from t (g .0) (rw (← g .1) at still), g .1)
+-- what an event leaves could again be the box's, from what happened to the box and from the new record's lengths
+pub happens-so : (s : State) (m : Memory) (e : Event) (r : Result) (t : State) (n : Memory) → AsLong (s .settings) → Short t
+    → happened r (boxOf t n) ≡ happens (boxOf s m) e → possibleState s ≡ true → possibleState t ≡ true
+happens-so s m e r t n long short is p =
+    let still = still-possible (boxOf s m) e long (box-from s m p) in
+    state-from t n short (rw (← is) at still)

@@ -1,5 +1,5 @@
 -- Two results that meet the statement of an event are equal, and the two states are the same, places beyond a stored length apart.
-use mathlib.Core.Path.{_≡_, refl, sym, ap, _∙_}
+use mathlib.Core.Path.{_≡_, refl, sym, ap, ap₂, _∙_}
 use mathlib.Core.Bool.{Bool, true, false}
 use mathlib.Core.List.{List}
 use Prim.Native.Nat.{ℕ, _≤_}
@@ -9,12 +9,12 @@ use lib.ListN.{length, take}
 use lib.Seq.{length-take-le}
 use Rattle.registers.specs.Text.{if_then_else_}
 use Rattle.registers.specs.Queue.{most}
-use Rattle.interpreter.specs.Box.{Box, mostLine, mostAnswer}
+use Rattle.interpreter.specs.Box.{Memory, Box, mostLine, mostAnswer}
 use Rattle.interpreter.specs.Events.{Event, Result, Happened}
-use Rattle.interpreter.specs.State.{numberOf, boxOf, possibleState, admitted, Happens, Started}
+use Rattle.interpreter.specs.State.{numberOf, boxOf, possibleState, admitted, rightly, Happens, Started}
 use Rattle.interpreter.specs.declared.state.State.{State}
 use Rattle.interpreter.specs.declared.state.Outcome.{Outcome}
-use Rattle.interpreter.specs.declared.state.Outcome.the-variants.{Done, BufferTooShort, NoAnswer, ConditionTooWide, ImpossibleState}
+use Rattle.interpreter.specs.declared.state.Outcome.the-variants.{Done, BufferTooShort, NoAnswer, ConditionTooWide, ImpossibleState, WrongStore}
 use Rattle.interpreter.proofs.state.Records.{short-from}
 
 -- no two outcomes have the same number
@@ -23,7 +23,8 @@ outcomeOf n =
     if eqb n 0 then Done
     else (if eqb n 1 then BufferTooShort
     else (if eqb n 2 then NoAnswer
-    else (if eqb n 3 then ConditionTooWide else ImpossibleState)))
+    else (if eqb n 3 then ConditionTooWide
+    else (if eqb n 4 then ImpossibleState else WrongStore))))
 
 outcome-back : (o : Outcome) → outcomeOf (numberOf o) ≡ o
 unfolding outcomeOf if_then_else_
@@ -32,25 +33,33 @@ outcome-back BufferTooShort = refl
 outcome-back NoAnswer = refl
 outcome-back ConditionTooWide = refl
 outcome-back ImpossibleState = refl
+outcome-back WrongStore = refl
 
 pub outcome-unique : (o o′ : Outcome) → numberOf o ≡ numberOf o′ → o ≡ o′
 outcome-unique o o′ e = sym (outcome-back o) ∙ ap outcomeOf e ∙ outcome-back o′
 
 -- an event's result, its state's meaning, and that both states could be the box's or neither
-pub happens-unique : (s : State) (e : Event) (r r′ : Result) (t t′ : State) → Happens s e r t → Happens s e r′ t′
-    → (r ≡ r′) × (boxOf t ≡ boxOf t′) × (possibleState t ≡ possibleState t′)
-happens-unique s e r r′ t t′ p q = on (admitted s e) refl
+pub happens-unique : (s : State) (m : Memory) (e : Event) (r r′ : Result) (t t′ : State) (n n′ : Memory) → Happens s m e r t n → Happens s m e r′ t′ n′
+    → (r ≡ r′) × (boxOf t n ≡ boxOf t′ n′) × (possibleState t ≡ possibleState t′)
+happens-unique s m e r r′ t t′ n n′ p q = on (rightly m e) refl (admitted s e) refl
   where
-    on : (b : Bool) → admitted s e ≡ b → (r ≡ r′) × (boxOf t ≡ boxOf t′) × (possibleState t ≡ possibleState t′)
-    on true h =
-        let same = p .possible h .1 ∙ sym (q .possible h .1) in
-        (ap (λ (x : Happened). x .result) same, ap (λ (x : Happened). x .box) same, p .possible h .0 ∙ sym (q .possible h .0))
-    on false h =
-        let same = p .impossible h .0 ∙ sym (q .impossible h .0) in
-        (p .impossible h .1 ∙ sym (q .impossible h .1), ap boxOf same, ap possibleState same)
+    on : (a : Bool) → rightly m e ≡ a → (b : Bool) → admitted s e ≡ b → (r ≡ r′) × (boxOf t n ≡ boxOf t′ n′) × (possibleState t ≡ possibleState t′)
+    on true l true h =
+        let same = p .possible l h .1 ∙ sym (q .possible l h .1) in
+        (ap (λ (x : Happened). x .result) same, ap (λ (x : Happened). x .box) same, p .possible l h .0 ∙ sym (q .possible l h .0))
+    on true l false h =
+        let x = p .impossible l h in
+        let y = q .impossible l h in
+        let same = x .0 ∙ sym (y .0) in
+        (x .1 ∙ sym (y .1), ap₂ boxOf same (x .2 ∙ sym (y .2)), ap possibleState same)
+    on false l b h =
+        let x = p .wrong l in
+        let y = q .wrong l in
+        let same = x .0 ∙ sym (y .0) in
+        (x .1 ∙ sym (y .1), ap₂ boxOf same (x .2 ∙ sym (y .2)), ap possibleState same)
 
-pub started-unique : (t t′ : State) → Started t → Started t′ → boxOf t ≡ boxOf t′
-started-unique t t′ p q = p .first ∙ sym (q .first)
+pub started-unique : (t t′ : State) → Started t → Started t′ → (m : Memory) → boxOf t m ≡ boxOf t′ m
+started-unique t t′ p q m = p .first m ∙ sym (q .first m)
 
 -- the arrays of a state are as long as the code makes them
 pub record Arrays (s : State) : Type 0 where
@@ -62,9 +71,9 @@ front-long : (l : List ℕ) (n k : ℕ) → length l ≡ k → n ≤ k → lengt
 front-long l n k e h = length-take-le n l (omega (arith, e, h))
 
 -- two states that could be the box's and mean the same have the same stored lengths, so that they differ only beyond them
-pub lengths-unique : (s t : State) → Arrays s → Arrays t → possibleState s ≡ true → possibleState t ≡ true → boxOf s ≡ boxOf t
+pub lengths-unique : (s t : State) (m n : Memory) → Arrays s → Arrays t → possibleState s ≡ true → possibleState t ≡ true → boxOf s m ≡ boxOf t n
     → (s .filled ≡ t .filled) × (s .waiting ≡ t .waiting) × (s .status .queued ≡ t .status .queued)
-lengths-unique s t a b p q e =
+lengths-unique s t m n a b p q e =
     let w = short-from s p in
     let x = short-from t q in (
       sym (front-long (s .line) (s .filled) mostLine (a .line) (w .filled))

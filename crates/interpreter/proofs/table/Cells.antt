@@ -8,7 +8,7 @@ use lib.ListN.{length, getD, drop, List·getD-append}
 use lib.Seq.{drop-append-le, drop-append-add, drop-drop, getD-append-add, getD-drop}
 use Rattle.registers.specs.Text.{Text, if_then_else_}
 use Rattle.registers.specs.Words.{shortForm, longForm}
-use Rattle.interpreter.specs.NameParts.{codeOf, keyOf}
+use Rattle.interpreter.specs.NameParts.{codeOf, wordKey}
 use Rattle.interpreter.specs.WordsParts.{wordBytes, wordCount, wordTable, wordCell, wordSize}
 use Rattle.interpreter.specs.DeedParts.{rowCount}
 use Rattle.interpreter.specs.TableParts.{keyBytes, firstKey, firstCode, firstStart, nodeCount, nodeList, nodeAt, rowTable, eight, keyRow, keyTableOf, keyTable, listFrom, codeTable, startOf, startTable, searchTable, commandTable, rowSize, keysSize, byteCount, markCount}
@@ -111,7 +111,7 @@ module _ (w : ℕ) (h : w < nodeCount) where
   abbrev more : Text
   more = keyTableOf (drop (suc w) nodeList) ++ lists
 
-  word-keys : drop (firstKey + w * keysSize) commandTable ≡ eight (keyOf (shortForm (nodeAt w))) ++ (eight (keyOf (longForm (nodeAt w))) ++ more)
+  word-keys : drop (firstKey + w * keysSize) commandTable ≡ eight (wordKey (shortForm (nodeAt w))) ++ (eight (wordKey (longForm (nodeAt w))) ++ more)
   unfolding keyTable keyTableOf keyRow nodeAt
   word-keys =
       let n = nodes-many in
@@ -121,9 +121,9 @@ module _ (w : ℕ) (h : w < nodeCount) where
   unfolding keyCell if_then_else_
   key-read zero k =
       let e : firstKey + w * keysSize + 0 * 8 ≡ firstKey + w * keysSize = omega arith in
-      rw e (from-drop commandTable (firstKey + w * keysSize) ∙ rw word-keys (eight-is (keyOf (shortForm (nodeAt w))) (eight (keyOf (longForm (nodeAt w))) ++ more)))
+      rw e (from-drop commandTable (firstKey + w * keysSize) ∙ rw word-keys (eight-is (wordKey (shortForm (nodeAt w))) (eight (wordKey (longForm (nodeAt w))) ++ more)))
   key-read (suc zero) k =
-      let d : drop (firstKey + w * keysSize + 8) commandTable ≡ eight (keyOf (longForm (nodeAt w))) ++ more =
+      let d : drop (firstKey + w * keysSize + 8) commandTable ≡ eight (wordKey (longForm (nodeAt w))) ++ more =
       sym (drop-drop 8 (firstKey + w * keysSize) commandTable) ∙ ap (drop 8) word-keys in
-      from-drop commandTable (firstKey + w * keysSize + 8) ∙ rw d (eight-is (keyOf (longForm (nodeAt w))) more)
+      from-drop commandTable (firstKey + w * keysSize + 8) ∙ rw d (eight-is (wordKey (longForm (nodeAt w))) more)
   key-read (suc (suc i)) k = absurd (omega arith)

@@ -1,14 +1,15 @@
--- Laws of a byte's code in a name: a letter's is its five lowest bits, the same in either case, that of a digit or an underscore is 31, and
+-- Laws of a byte's code in a name: a letter's is its five lowest bits, the same in either case, that of an underscore is 31, and
 -- that of any other byte 0. So a code tells a letter apart from all other bytes.
 use mathlib.Core.Path.{_≡_, refl, sym, _∙_}
-use mathlib.Core.Bool.{Bool, true, false, _||_, false≢true}
+use mathlib.Core.Bool.{Bool, true, false, not, _&&_, _||_, false≢true}
 use Prim.Native.Nat.{ℕ, _+_, _-_, _%_, _≤_, _<_}
 use native.Mathlib.Omega.{arith}
-use lib.Dec.{leb}
-use borrow.Author.Tests.{leb-true, le-leb}
-use Rattle.registers.specs.Text.{if_then_else_, between, letter, small, wordByte, capital}
+use Prim.Native.Char.{code}
+use lib.Dec.{leb, eqb}
+use borrow.Author.Tests.{leb-true, le-leb, eqb-true}
+use Rattle.registers.specs.Text.{if_then_else_, between, letter, small, digit, wordByte, capital}
 use Rattle.registers.proofs.Tests.{and-both}
-use Rattle.interpreter.specs.NameParts.{codeOf, codeCount}
+use Rattle.interpreter.specs.NameParts.{codeOf, codeCount, stemByte}
 
 -- a capital letter
 abbrev pub upper : ℕ → Bool
@@ -29,7 +30,7 @@ code-letter : (b : ℕ) → letter b ≡ true → codeOf b ≡ b % codeCount
 unfolding codeOf if_then_else_
 code-letter b e = rw e
 
-code-other : (b : ℕ) → letter b ≡ false → wordByte b ≡ true → codeOf b ≡ codeCount - 1
+code-other : (b : ℕ) → letter b ≡ false → eqb b (code "_") ≡ true → codeOf b ≡ codeCount - 1
 unfolding codeOf if_then_else_
 code-other b e f = rw (e, f)
 
@@ -37,13 +38,17 @@ pub letter-word : (b : ℕ) → letter b ≡ true → wordByte b ≡ true
 unfolding wordByte
 letter-word b e = rw e
 
-pub code-none : (b : ℕ) → wordByte b ≡ false → codeOf b ≡ 0
+pub letter-stem : (b : ℕ) → letter b ≡ true → stemByte b ≡ true
+letter-stem b e = rw e
+
+pub code-none : (b : ℕ) → stemByte b ≡ false → codeOf b ≡ 0
 unfolding codeOf if_then_else_
-code-none b e = go (letter b) refl
+code-none b e = go (letter b) (eqb b (code "_")) e
   where
-    go : (l : Bool) → letter b ≡ l → (if l then b % codeCount else (if wordByte b then codeCount - 1 else 0)) ≡ 0
-    go true q = absurd (false≢true (sym e ∙ letter-word b q))
-    go false q = rw e
+    go : (l u : Bool) → (l || u) ≡ false → (if l then b % codeCount else (if u then codeCount - 1 else 0)) ≡ 0
+    go true u q = absurd (false≢true (sym q))
+    go false true q = absurd (false≢true (sym q))
+    go false false q = refl
 
 -- a letter's code by its capital
 capital-code : (b : ℕ) → letter b ≡ true → capital b ≡ codeOf b + 64
@@ -69,25 +74,25 @@ upper-code x e = let h = bounds 65 90 x e in rw (code-letter x (upper-letter x e
 
 pub code-small : (b : ℕ) → codeOf b < codeCount
 unfolding codeOf if_then_else_
-code-small b = go (letter b) (wordByte b)
+code-small b = go (letter b) (eqb b (code "_"))
   where
     go : (l w : Bool) → (if l then b % codeCount else (if w then codeCount - 1 else 0)) < codeCount
     go true w = omega arith
     go false true = omega arith
     go false false = omega arith
 
-pub code-some : (b : ℕ) → wordByte b ≡ true → 0 < codeOf b
+pub code-some : (b : ℕ) → stemByte b ≡ true → 0 < codeOf b
 unfolding letter
-code-some b e = go (letter b) refl
+code-some b e = go (letter b) refl e
   where
-    go : (l : Bool) → letter b ≡ l → 0 < codeOf b
-    go true q = rw (code-letter b q) (up (upper b) refl (small b) refl q)
+    go : (l : Bool) → letter b ≡ l → (l || eqb b (code "_")) ≡ true → 0 < codeOf b
+    go true q k = rw (code-letter b q) (up (upper b) refl (small b) refl q)
       where
         up : (u : Bool) → upper b ≡ u → (s : Bool) → small b ≡ s → letter b ≡ true → 0 < b % codeCount
         up true r s p k = let h = bounds 65 90 b r in omega arith
         up false r true p k = let h = small-bounds b p in omega arith
         up false r false p k = absurd (false≢true (rw (r, p) at k))
-    go false q = rw (code-other b q e) (omega arith)
+    go false q k = rw (code-other b q k) (omega arith)
 
 -- a byte with the code of a capital letter is that letter, in either case
 pub same-letter : (b x : ℕ) → upper x ≡ true → codeOf b ≡ codeOf x → capital b ≡ x
@@ -95,11 +100,11 @@ same-letter b x e q = go (letter b) refl
   where
     go : (l : Bool) → letter b ≡ l → capital b ≡ x
     go true k = capital-code b k ∙ rw q (sym (upper-code x e))
-    go false k = absurd (other (wordByte b) refl)
+    go false k = absurd (other (eqb b (code "_")) refl)
       where
-        other : (w : Bool) → wordByte b ≡ w → ⊥
+        other : (u : Bool) → eqb b (code "_") ≡ u → ⊥
         other true r = let h = bounds 65 90 x e in let c = upper-code x e in let z = code-other b k r in omega arith
-        other false r = let h = bounds 65 90 x e in let c = upper-code x e in let z = code-none b r in omega arith
+        other false r = let h = bounds 65 90 x e in let c = upper-code x e in let z = code-none b (rw (k, r)) in omega arith
 
 pub capital-same : (b : ℕ) → codeOf (capital b) ≡ codeOf b
 unfolding capital letter if_then_else_
@@ -116,3 +121,32 @@ capital-same b = go (small b) refl
         two true s k = refl
         two false s k = k
     go false q = refl
+
+-- ---- a name's bytes before its first digit
+
+pub digit-alone : (b : ℕ) → digit b ≡ true → (letter b ≡ false) × (eqb b (code "_") ≡ false)
+unfolding digit letter
+digit-alone b e =
+    let h = bounds 48 57 b e in
+    (up (upper b) refl (small b) refl h, under (eqb b (code "_")) refl h)
+  where
+    up : (u : Bool) → upper b ≡ u → (s : Bool) → small b ≡ s → (48 ≤ b) × (b ≤ 57) → (upper b || small b) ≡ false
+    up true r s p h = absurd (let k = bounds 65 90 b r in omega arith)
+    up false r true p h = absurd (let k = small-bounds b p in omega arith)
+    up false r false p h = rw (r, p)
+
+    under : (u : Bool) → eqb b (code "_") ≡ u → (48 ≤ b) × (b ≤ 57) → eqb b (code "_") ≡ false
+    under true r h = absurd (let k = eqb-true b (code "_") r in omega arith)
+    under false r h = r
+
+pub stem-is : (b : ℕ) → stemByte b ≡ (wordByte b && not (digit b))
+unfolding wordByte
+stem-is b = go (letter b) refl (digit b) refl (eqb b (code "_")) refl
+  where
+    go : (l : Bool) → letter b ≡ l → (d : Bool) → digit b ≡ d → (u : Bool) → eqb b (code "_") ≡ u → (l || u) ≡ ((l || d || u) && not d)
+    go true p true q u r = absurd (false≢true (sym (digit-alone b q .0) ∙ p))
+    go true p false q u r = refl
+    go false p true q true r = absurd (false≢true (sym (digit-alone b q .1) ∙ r))
+    go false p true q false r = refl
+    go false p false q true r = refl
+    go false p false q false r = refl

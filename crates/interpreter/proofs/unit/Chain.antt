@@ -5,22 +5,24 @@ use mathlib.Core.Bool.{Bool, true, false}
 use mathlib.Core.List.{List}
 use Prim.Native.Nat.{ℕ, _+_, _-_, _≤_, _<_}
 use native.Mathlib.Omega.{arith}
-use lib.Dec.{leb, ltb}
+use lib.Dec.{leb, ltb, eqb}
 use lib.ListN.{length, take, drop}
 use borrow.Author.Tests.{ltb-true}
 use Rattle.registers.specs.Text.{Text, if_then_else_, white, visible, every, start, after}
 use Rattle.registers.specs.Check.{Checked, refused, passed, check, _>>=_, _>>_}
+use Rattle.registers.specs.Label.{textIn}
 use Rattle.registers.specs.declared.settings.Settings.{Settings}
 use Rattle.registers.proofs.text.Laws.{end-drop, end-within}
 use Rattle.interpreter.specs.Cuts.{trim}
 use Rattle.interpreter.specs.Header.{Header, header, isCommon, fullNames, pathAfter}
 use Rattle.interpreter.specs.HeaderParts.{Holds, FoundRow, LookedUp}
-use Rattle.interpreter.specs.Rows.{rows, findRow}
-use Rattle.interpreter.specs.DeedParts.{rowCount}
+use Rattle.interpreter.specs.Rows.{findRole}
+use Rattle.interpreter.specs.DeedParts.{placeCount, nowhere, noChannel}
 use Rattle.interpreter.specs.Parameter.{parameters, noneEmpty, least, greatest, deedOf}
 use Rattle.interpreter.specs.Unit.{allowed, Read, headerText, parameterText, readUnit}
 use Rattle.interpreter.specs.ParameterParts.{meantDeed}
-use Rattle.interpreter.specs.UnitParts.{roleFound, decided, decidedText, headerRefusal, UnitRead}
+use Rattle.interpreter.specs.UnitParts.{roleFound, decided, decidedText, headerRefusal, partOf, SpanOf, UnitRead}
+use Rattle.interpreter.specs.declared.unit.Span.{Span}
 use Rattle.interpreter.specs.declared.deed.Deed.{Deed}
 use Rattle.interpreter.specs.declared.deed.Role.{Role}
 use Rattle.interpreter.specs.declared.deed.Heading.{Heading}
@@ -33,6 +35,7 @@ use Rattle.interpreter.proofs.header.Laws.{found-most}
 use Rattle.interpreter.proofs.Checks.{apart, first-check}
 use Rattle.interpreter.proofs.unit.HeaderAllowed.{allowed-after}
 use Rattle.interpreter.proofs.unit.Found.{role-found}
+use Rattle.interpreter.proofs.deed.Laws.{place-most}
 
 -- ---- the header starts at s, and the parameters' text comes after it
 
@@ -59,8 +62,8 @@ module _ {u : Text} {s : ℕ} (r : Runs u s) (e : ℕ) (is : e ≡ length (start
   ends-within : s + e ≤ length u
   ends-within = end-within visible u s (s + e) to (r .within)
 
-  parameters-after : trim (lentFrom u (s + e)) ≡ parameterText u
-  parameters-after = ap trim (rest-is u (s + e) ends-within ∙ end-drop visible u s (s + e) to ∙ ap (after visible) from)
+  parameters-after : trim (drop (s + e) u) ≡ parameterText u
+  parameters-after = ap trim (end-drop visible u s (s + e) to ∙ ap (after visible) from)
 
 -- ---- the checks in order
 
@@ -100,23 +103,23 @@ decided-then s row asked t k =
 
 -- what the checks after the header leave of a unit
 pub record Headed (s : Settings) (path : List Text) (u : Text) (st row used : ℕ) (asked : Bool) (end : ℕ) (keys : List ℕ) : Type 0 where
-  pub within : row ≤ rowCount
+  pub within : row ≤ noChannel
   pub left : List Text
-  pub is : readUnit s path u ≡ (decidedText s row asked (parameterText u) >>= λ d. passed (record { deed = d; path = left }))
-  pub holds : row < rowCount → Holds left keys used
+  pub is : readUnit s path u ≡ (decidedText s row asked (parameterText u) >>= λ d. passed (record { deed = d; text = textIn (parameterText u); path = left }))
+  pub holds : row < placeCount → Holds left keys used
   pub ends : st + end ≤ length u
-  pub text : trim (lentFrom u (st + end)) ≡ parameterText u
+  pub text : trim (drop (st + end) u) ≡ parameterText u
 
 module _ (s : Settings) (path : List Text) (u : Text) where
   -- what is left once the header's row is found
   good-header : (h : Header) → header (headerText u) ≡ passed h
       → {t : Text} {row used end : ℕ} {asked : Bool} {keys : List ℕ} → FoundRow path t h row used asked end keys
       → readUnit s path u
-      ≡ (decidedText s row asked (parameterText u) >>= λ d. passed (record { deed = d; path = pathAfter (h .place) path (h .names) }))
+      ≡ (decidedText s row asked (parameterText u) >>= λ d. passed (record { deed = d; text = textIn (parameterText u); path = pathAfter (h .place) path (h .names) }))
   unfolding readUnit decidedText _>>=_
   good-header h is {row = row} {asked = asked} f =
       let t = parameterText u in
-      let k : Deed → Checked Read = λ d. passed (record { deed = d; path = pathAfter (h .place) path (h .names) }) in
+      let k : Deed → Checked Read = λ d. passed (record { deed = d; text = textIn (parameterText u); path = pathAfter (h .place) path (h .names) }) in
       let role = role-found (isCommon (h .place)) (fullNames (h .place) path (h .names)) (h .query) in
       let e : readUnit s path u ≡ (check 101 (every allowed t) >> checksWith s asked (parameters t) (roleFound row) k) =
       rw (allowed-after u h is, is, f .query, f .at, role) in
@@ -129,18 +132,18 @@ module _ (s : Settings) (path : List Text) (u : Text) where
     bad-header q n e = rw e (go (every allowed u) (ap (λ (t : Text). header (start visible t)) (sym (at .is)) ∙ rw q at k))
       where
         go : (ok : Bool) → header (headerText u) ≡ refused 102
-            → (check 101 ok >> header (headerText u) >>= λ h. checksWith s (h .query) (parameters (parameterText u)) (findRow (isCommon (h .place)) (fullNames (h .place) path (h .names)) (h .query) rows) (λ d. passed (record { deed = d; path = pathAfter (h .place) path (h .names) })))
+            → (check 101 ok >> header (headerText u) >>= λ h. checksWith s (h .query) (parameters (parameterText u)) (findRole (isCommon (h .place)) (fullNames (h .place) path (h .names)) (h .query)) (λ d. passed (record { deed = d; text = textIn (parameterText u); path = pathAfter (h .place) path (h .names) })))
             ≡ refused (if ok then 102 else 101)
         go true i = rw i
         go false i = refl
 
-    pub headed : {x : Heading} {used end : ℕ} → r ≡ At x used end → Headed s path u st (x .row) used (x .asked) end keys
+    pub headed : {x : Heading} {used end : ℕ} → r ≡ At x used end → Headed s path u st (x .place) used (x .asked) end keys
     headed q =
         let g = rw q at k in
         let h = g .0 in
         let f = g .2 in
         record {
-          within = rw (f .at) (found-most (isCommon (h .place)) (fullNames (h .place) path (h .names)) (h .query));
+          within = rw (f .at) (place-most _ _ (found-most (isCommon (h .place)) (fullNames (h .place) path (h .names)) (h .query)));
           left = pathAfter (h .place) path (h .names);
           is = good-header h (ap (λ (t : Text). header (start visible t)) (sym (at .is)) ∙ g .1) f;
           holds = f .left;
@@ -159,17 +162,27 @@ unfolding _>>_
 second-passes (refused n) m a e = absurd (apart n a e)
 second-passes (passed _) m a e = e
 
-found-deed : (s : Settings) (row : ℕ) (asked : Bool) (t : Text) (d : Deed) → decidedText s row asked t ≡ passed d → row < rowCount
+found-deed : (s : Settings) (row : ℕ) (asked : Bool) (t : Text) (d : Deed) → decidedText s row asked t ≡ passed d → row < placeCount
 unfolding decidedText decided roleFound if_then_else_
-found-deed s row asked t d e = go (ltb row rowCount) refl (second-passes (check 101 (every allowed t)) _ d e)
+found-deed s row asked t d e = go (ltb row placeCount) refl (second-passes (check 101 (every allowed t)) _ d e)
   where
-    go : (b : Bool) → ltb row rowCount ≡ b → decided s row asked t ≡ passed d → row < rowCount
-    go true q k = ltb-true row rowCount q
-    go false q k = absurd (none-passes (full s asked (parameters t)) 113 _ d (rw q at k))
+    go : (b : Bool) → ltb row placeCount ≡ b → decided s row asked t ≡ passed d → row < placeCount
+    go true q k = ltb-true row placeCount q
+    go false q k = absurd (none-passes (full s asked (parameters t)) (if eqb row nowhere then 113 else 114) _ d (rw q at k))
 
 module _ (s : Settings) (path : List Text) (u : Text) {st row used end : ℕ} {asked : Bool} {keys : List ℕ} where
-  pub read-to : Headed s path u st row used asked end keys → (d : Decision) → meantDeed d ≡ decidedText s row asked (parameterText u)
-      → UnitRead s path u d used keys
+  pub read-to : Headed s path u st row used asked end keys → (g : Span) → SpanOf u (st + end) g
+      → (d : Decision) → meantDeed d ≡ decidedText s row asked (partOf (g .from) (g .to) u) → UnitRead s path u d g used keys
   unfolding _>>=_
-  read-to h (noDeed e) is = h .is ∙ rw (sym is)
-  read-to h (someDeed d) is = (h .left, h .is ∙ rw (sym is), h .holds (found-deed s row asked (parameterText u) d (sym is)))
+  read-to h g w d says = go d (rw (w .is ∙ h .text) at says)
+    where
+      go : (d : Decision) → meantDeed d ≡ decidedText s row asked (parameterText u) → UnitRead s path u d g used keys
+      go (noDeed e) is = h .is ∙ rw (sym is)
+      go (someDeed d) is =
+          record {
+            left = h .left;
+            is = rw (w .is ∙ h .text) (h .is ∙ rw (sym is));
+            holds = h .holds (found-deed s row asked (parameterText u) d (sym is));
+            within = w .within;
+            ends = w .ends;
+          }

@@ -5,13 +5,13 @@ use mathlib.Core.List.{List}
 use Prim.Native.Nat.{ℕ, _<_}
 use native.Mathlib.Omega.{arith}
 use lib.Dec.{leb}
-use borrow.Author.Tests.{lt-ltb, le-ltb}
+use borrow.Author.Tests.{lt-ltb}
 use Rattle.registers.specs.Text.{Text, if_then_else_}
 use Rattle.registers.specs.Check.{Checked, refused, check, _>>=_, _>>_}
 use Rattle.registers.specs.declared.settings.Settings.{Settings}
 use Rattle.interpreter.specs.Parameter.{parameters, least, greatest, deedOf}
 use Rattle.interpreter.specs.ParameterParts.{CountedIn}
-use Rattle.interpreter.specs.DeedParts.{rowCount, roleAt}
+use Rattle.interpreter.specs.DeedParts.{placeCount, nowhere, noChannel, roleAt}
 use Rattle.interpreter.specs.UnitParts.{roleFound, decided}
 use Rattle.interpreter.specs.declared.deed.Deed.{Deed}
 use Rattle.interpreter.specs.declared.deed.Role.{Role}
@@ -26,11 +26,15 @@ module _ (s : Settings) (row : ℕ) (asked : Bool) (t : Text) (n : Counted) (is 
   unfolding decided check _>>_
   has-empty e = rw (sym (is .full) ∙ e)
 
-  pub not-found : n .full ≡ true → row ≡ rowCount → decided s row asked t ≡ refused 113
+  pub not-found : n .full ≡ true → row ≡ nowhere → decided s row asked t ≡ refused 113
   unfolding decided roleFound check _>>_ _>>=_ if_then_else_
-  not-found e h = rw (sym (is .full) ∙ e, le-ltb row rowCount (omega arith))
+  not-found e h = rw (sym (is .full) ∙ e, h)
 
-  pub found : n .full ≡ true → row < rowCount → (r : Role) → r ≡ roleAt row
+  pub no-channel : n .full ≡ true → row ≡ noChannel → decided s row asked t ≡ refused 114
+  unfolding decided roleFound check _>>_ _>>=_ if_then_else_
+  no-channel e h = rw (sym (is .full) ∙ e, h)
+
+  pub found : n .full ≡ true → row < placeCount → (r : Role) → r ≡ roleAt row
       → decided s row asked t ≡ checked s r asked (n .parts) (parameters t)
   unfolding decided roleFound check _>>_ _>>=_ if_then_else_
-  found e h r at = rw (sym (is .full) ∙ e, lt-ltb row rowCount h, is .parts, at)
+  found e h r at = rw (sym (is .full) ∙ e, lt-ltb row placeCount h, is .parts, at)

@@ -14,7 +14,7 @@ use lib.Seq.{getD-drop, getD-take}
 use borrow.Author.Tests.{le-ltb, leb-true, leb-false}
 use Rattle.registers.specs.Text.{if_then_else_, bytes, same}
 use Rattle.registers.specs.Words.{shortForm}
-use Rattle.registers.specs.Settings.{count, table, settingAt, kindOf, wordText}
+use Rattle.registers.specs.Settings.{count, table, settingAt, kindOf, wordText, slots}
 use Rattle.interpreter.specs.Parameter.{wordsOf, takesNumbers}
 use Rattle.interpreter.specs.WordsParts.{wordCount, wordList, wordAt, placeIn, firstWords, wordCounts, wordsIn, withNumbers, TakenOf}
 use Rattle.interpreter.specs.declared.words.Words.{Words}
@@ -26,7 +26,7 @@ abbrev at-row : ℕ → Words
 at-row i = record { first = getD firstWords i 0; count = getD wordCounts i 0 }
 
 pub taken-of : (i : ℕ) → i < count → TakenOf (wordsOf (kindOf i)) (takesNumbers (kindOf i)) (at-row i)
-unfolding listed firstWords wordCounts placeIn wordList settingAt table same bytes if_then_else_
+unfolding listed firstWords wordCounts placeIn wordList settingAt slots table same bytes if_then_else_
 taken-of i h =
     record {
       words = agree count (λ k. wordsIn (at-row k)) (λ k. wordsOf (kindOf k)) refl i h;

@@ -1,4 +1,4 @@
--- The loop over the reads. Invariant: the three buffers keep their lengths. Measure: the turns left.
+-- The loop over the reads. Invariant: the store and the three buffers keep their lengths. Measure: the turns left.
 use mathlib.Core.Path.{_≡_}
 use lib.ListN.{length}
 use borrow.Author.Needs.{needs}
@@ -6,11 +6,11 @@ use Rattle.player.proofs.play_all.Statement.{statement}
 use Rattle.player.proofs.play_all.Tie as tie
 
 abbrev Inv-loop : tie.InvT-loop
-Inv-loop chunk₀ line₀ out₀ player₀ turns₀ chunk line out player turns =
-    (length chunk ≡ length chunk₀) × (length line ≡ length line₀) × (length out ≡ length out₀)
+Inv-loop store₀ chunk₀ line₀ out₀ player₀ turns₀ store chunk line out player turns =
+    (length store ≡ length store₀) × (length chunk ≡ length chunk₀) × (length line ≡ length line₀) × (length out ≡ length out₀)
 
 abbrev μ-loop : tie.MeasureT-loop
-μ-loop chunk₀ line₀ out₀ player₀ turns₀ chunk line out player turns = turns
+μ-loop store₀ chunk₀ line₀ out₀ player₀ turns₀ store chunk line out player turns = turns
 
 pub play-all-spec : {M : Type 1} → statement M
 play-all-spec =
@@ -21,4 +21,4 @@ play-all-spec =
     (λ c. search needs) (λ c. search needs) (λ c κs. search needs) (λ c. search needs)
     (λ c. search needs) (λ c. search needs) (λ c. search needs) (λ c. search needs)
     (λ c. search needs) (λ c. search needs) (λ c. search needs) (λ c. search needs)
-    (λ c. search needs))
+    (λ c. search needs) (λ c. search needs) (λ c. search needs))

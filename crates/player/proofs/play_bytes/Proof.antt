@@ -7,10 +7,10 @@ use Rattle.player.proofs.play_bytes.Statement.{statement}
 use Rattle.player.proofs.play_bytes.Tie as tie
 
 abbrev Inv-loop : tie.InvT-loop
-Inv-loop line₀ out₀ bytes player₀ i₀ line out player i = (length line ≡ length line₀) × (length out ≡ length out₀)
+Inv-loop store₀ line₀ out₀ bytes player₀ i₀ store line out player i = (length store ≡ length store₀) × (length line ≡ length line₀) × (length out ≡ length out₀)
 
 abbrev μ-loop : tie.MeasureT-loop
-μ-loop line₀ out₀ bytes player₀ i₀ line out player i = length bytes - i
+μ-loop store₀ line₀ out₀ bytes player₀ i₀ store line out player i = length bytes - i
 
 pub play-bytes-spec : {M : Type 1} → statement M
 play-bytes-spec =
@@ -21,4 +21,4 @@ play-bytes-spec =
     (λ c. search needs) (λ c. search needs) (λ c. search needs) (λ c κs. search needs)
     (λ c. search needs) (λ c. search needs) (λ c. search needs) (λ c. search needs)
     (λ c. search needs) (λ c. search needs) (λ c. search needs) (λ c. search needs)
-    (λ c. search needs) (λ c. search needs) (λ c. search needs))
+    (λ c. search needs) (λ c. search needs) (λ c. search needs) (λ c. search needs))

@@ -6,7 +6,7 @@ use lib.Dec.{eqb}
 use Rattle.registers.specs.Text.{if_then_else_}
 use Rattle.registers.specs.Error.{numberOf}
 use Rattle.registers.specs.declared.error.Error.{Error}
-use Rattle.registers.specs.declared.error.Error.the-variants.{InvalidCharacter, Syntax, DataType, ParameterNotAllowed, MissingParameter, UndefinedHeader, InvalidCharacterInNumber, ExponentTooLarge, TooManyDigits, InvalidSuffix, SuffixNotAllowed, InvalidCharacterData, SettingsConflict, DataOutOfRange, InputBufferOverrun, QueryInterrupted, QueryUnterminated, QueryDeadlocked}
+use Rattle.registers.specs.declared.error.Error.the-variants.{InvalidCharacter, Syntax, DataType, ParameterNotAllowed, MissingParameter, UndefinedHeader, HeaderSuffix, InvalidCharacterInNumber, ExponentTooLarge, TooManyDigits, InvalidSuffix, SuffixNotAllowed, InvalidCharacterData, StringDataError, InvalidStringData, SettingsConflict, DataOutOfRange, TooMuchData, SaveRecallMemoryLost, InputBufferOverrun, QueryInterrupted, QueryUnterminated, QueryDeadlocked}
 
 errors : List Error
 errors =
@@ -16,14 +16,19 @@ errors =
     ∷ ParameterNotAllowed
     ∷ MissingParameter
     ∷ UndefinedHeader
+    ∷ HeaderSuffix
     ∷ InvalidCharacterInNumber
     ∷ ExponentTooLarge
     ∷ TooManyDigits
     ∷ InvalidSuffix
     ∷ SuffixNotAllowed
     ∷ InvalidCharacterData
+    ∷ StringDataError
+    ∷ InvalidStringData
     ∷ SettingsConflict
     ∷ DataOutOfRange
+    ∷ TooMuchData
+    ∷ SaveRecallMemoryLost
     ∷ InputBufferOverrun
     ∷ QueryInterrupted
     ∷ QueryUnterminated
@@ -44,14 +49,19 @@ back DataType = refl
 back ParameterNotAllowed = refl
 back MissingParameter = refl
 back UndefinedHeader = refl
+back HeaderSuffix = refl
 back InvalidCharacterInNumber = refl
 back ExponentTooLarge = refl
 back TooManyDigits = refl
 back InvalidSuffix = refl
 back SuffixNotAllowed = refl
 back InvalidCharacterData = refl
+back StringDataError = refl
+back InvalidStringData = refl
 back SettingsConflict = refl
 back DataOutOfRange = refl
+back TooMuchData = refl
+back SaveRecallMemoryLost = refl
 back InputBufferOverrun = refl
 back QueryInterrupted = refl
 back QueryUnterminated = refl

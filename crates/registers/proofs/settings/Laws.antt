@@ -1,7 +1,7 @@
 -- The settings: the code's tables are 01's, what a table holds comes back from its 32 bits, and a value stored and refusal 4 by
 -- their cases.
 use mathlib.Core.Path.{_≡_, refl, sym, _∙_, ap, subst}
-use mathlib.Core.Bool.{Bool, true, false, not, _&&_}
+use mathlib.Core.Bool.{Bool, true, false, not, _&&_, _||_}
 use mathlib.Core.List.{List, [], _∷_}
 use Prim.Native.Nat.{ℕ, zero, suc, _^_, _≤_, _<_}
 use native.Mathlib.Omega.{arith}
@@ -14,17 +14,13 @@ use mir.Val.{SFits, toZ, ofZ}
 use mir.Facts.{toZ-ofZ}
 use borrow.Author.Tests.{ltb-true, ltb-false}
 use Rattle.registers.specs.Text.{if_then_else_, below}
-use Rattle.registers.specs.Settings.{Kind, bool, Setting, table, row, kindOf, quantityOf, settingAt, lowestOf, highestOf, lowest, highest, wideRange, voltage, range, twelveVolts, valueAt, Sort, bools, someWords, numbers, sortOf, meantValues, within, conflict, stored, withValue, count, possibleSettings}
+use Rattle.registers.specs.Settings.{Kind, bool, Setting, table, past, slots, kindOf, quantityOf, settingAt, lowestOf, highestOf, lowest, highest, wideRange, narrow, range, range2, voltage, voltage2, twelveVolts, valueAt, Sort, bools, someWords, numbers, sortOf, meantValues, within, conflict, stored, withValue, count, possibleValues}
 use Rattle.registers.specs.SettingsParts.{lows, highs, kinds, valuesFrom, quantities, quantityFrom}
 use Rattle.registers.specs.declared.settings.Settings.{Settings}
 use Rattle.registers.specs.declared.settings.Values.{Values}
 use Rattle.registers.specs.declared.settings.Values.the-variants.{Bool as BoolValue, Word, Tenths, Whole}
 use Rattle.registers.specs.declared.suffix.Quantity.the-variants.{Nothing}
 use Rattle.registers.proofs.Tests.{and-both, and-fails, below-fails, ltZ-not}
-
--- a row's default is that of a row past the table
-abbrev past : Setting
-past = row [] bool Nothing (pos 0)
 
 pub getD-any : {A : Type 0} (l : List A) (i : ℕ) (d e : A) → i < length l → getD l i d ≡ getD l i e
 getD-any [] i d e h = absurd (omega arith)
@@ -33,18 +29,18 @@ getD-any (x ∷ l) (suc i) d e h = getD-any l i d e (omega arith)
 
 -- the code's tables of limits
 low-at : (i : ℕ) → getD lows i (pos 0) ≡ lowestOf (kindOf i)
-unfolding table settingAt
-low-at i = List·getD-map (λ (x : Setting). lowestOf (x .kind)) table i past
+unfolding slots table settingAt
+low-at i = List·getD-map (λ (x : Setting). lowestOf (x .kind)) slots i past
 
 high-at : (i : ℕ) → i < count → getD highs i (pos 0) ≡ highestOf (kindOf i)
-unfolding table settingAt
-high-at i h = getD-any highs i (pos 0) (pos 1) h ∙ List·getD-map (λ (x : Setting). highestOf (x .kind)) table i past
+unfolding slots table settingAt
+high-at i h = getD-any highs i (pos 0) (pos 1) h ∙ List·getD-map (λ (x : Setting). highestOf (x .kind)) slots i past
 
 -- the code's kinds of values
 pub kind-at : (i : ℕ) → meantValues (valuesFrom (getD kinds i 0)) ≡ sortOf (kindOf i)
-unfolding table settingAt valuesFrom if_then_else_
+unfolding slots table settingAt valuesFrom if_then_else_
 kind-at i =
-    sym (List·getD-map (λ (n : ℕ). meantValues (valuesFrom n)) kinds i 0) ∙ List·getD-map (λ (x : Setting). sortOf (x .kind)) table i past
+    sym (List·getD-map (λ (n : ℕ). meantValues (valuesFrom n)) kinds i 0) ∙ List·getD-map (λ (x : Setting). sortOf (x .kind)) slots i past
 
 -- a name is told by what it means
 abbrev nameOf : Sort → Values
@@ -71,13 +67,13 @@ values-is v k e = named v ∙ ap nameOf e
 
 -- the code's quantities
 pub quantity-at : (i : ℕ) → quantityFrom (getD quantities i 0) ≡ quantityOf i
-unfolding table settingAt quantityFrom if_then_else_
-quantity-at i = sym (List·getD-map quantityFrom quantities i 0) ∙ List·getD-map (λ (x : Setting). x .quantity) table i past
+unfolding slots table settingAt quantityFrom if_then_else_
+quantity-at i = sym (List·getD-map quantityFrom quantities i 0) ∙ List·getD-map (λ (x : Setting). x .quantity) slots i past
 
 -- a row past the table
 past-row : (i : ℕ) → count ≤ i → settingAt i ≡ past
-unfolding table settingAt
-past-row i h = List·getD-eq-default table past h
+unfolding slots table settingAt
+past-row i h = List·getD-eq-default slots past h
 
 pub past-is : (i : ℕ) → count ≤ i → kindOf i ≡ bool
 past-is i h = ap (λ (x : Setting). x .kind) (past-row i h)
@@ -105,11 +101,11 @@ high-past i h = rw (past-is i h)
 -- ---- the limits come back from their bits
 
 low-fits : (i : ℕ) → SFits w32 (lowestOf (kindOf i))
-unfolding table
+unfolding slots table
 low-fits i = subst (λ (x : ℤ). SFits w32 x) (low-at i) (table-fits lows i refl)
 
 high-fits : (i : ℕ) → SFits w32 (highestOf (kindOf i))
-unfolding table
+unfolding slots table
 high-fits i = go (ltb i count) refl
   where
     go : (t : Bool) → ltb i count ≡ t → SFits w32 (highestOf (kindOf i))
@@ -122,7 +118,7 @@ low-back i = toZ-ofZ (low-fits i)
 
 pub high-back : (s : Settings) (i : ℕ) → toZ w32 (ofZ w32 (highest s i)) ≡ highest s i
 unfolding highest if_then_else_
-high-back s i = toZ-ofZ (go (eqb i voltage && not (wideRange s)))
+high-back s i = toZ-ofZ (go (narrow s i))
   where
     go : (t : Bool) → SFits w32 (if t then twelveVolts else highestOf (kindOf i))
     go true = record { sfits = omega arith }
@@ -139,13 +135,16 @@ high-read i h = ap (λ (z : ℤ). toZ w32 (ofZ w32 z)) (high-at i h) ∙ toZ-ofZ
 -- ---- the highest value, by the range
 
 module _ (s : Settings) (i : ℕ) where
-  pub high-narrow : (eqb i voltage && ltZ (valueAt s range) (pos 1)) ≡ true → twelveVolts ≡ highest s i
-  unfolding highest wideRange if_then_else_
-  high-narrow e = rw (← ltZ-not (valueAt s range) (pos 1), e)
+  abbrev narrowRange : Bool
+  narrowRange = (eqb i voltage && ltZ (valueAt s range) (pos 1)) || (eqb i voltage2 && ltZ (valueAt s range2) (pos 1))
 
-  pub high-other : (eqb i voltage && ltZ (valueAt s range) (pos 1)) ≡ false → highestOf (kindOf i) ≡ highest s i
-  unfolding highest wideRange if_then_else_
-  high-other e = rw (← ltZ-not (valueAt s range) (pos 1), e)
+  pub high-narrow : narrowRange ≡ true → twelveVolts ≡ highest s i
+  unfolding highest narrow wideRange if_then_else_
+  high-narrow e = rw (← ltZ-not (valueAt s range) (pos 1), ← ltZ-not (valueAt s range2) (pos 1), e)
+
+  pub high-other : narrowRange ≡ false → highestOf (kindOf i) ≡ highest s i
+  unfolding highest narrow wideRange if_then_else_
+  high-other e = rw (← ltZ-not (valueAt s range) (pos 1), ← ltZ-not (valueAt s range2) (pos 1), e)
 
 -- ---- a value that is stored, by checks 7 and 8
 
@@ -162,12 +161,12 @@ module _ (i : ℕ) (v : ℤ) (s : Settings) where
   unfolding stored if_then_else_
   stored-conflict f = rw (f, and-fails (within s i v) false refl)
 
--- ---- refusal 4 on the settings, row by row
+-- ---- refusal 4 on the settings, slot by slot
 
-pub impossible : (s : Settings) (i : ℕ) → i < count → within s i (valueAt s i) ≡ false → false ≡ possibleSettings s
-unfolding possibleSettings
+pub impossible : (s : Settings) (i : ℕ) → i < count → within s i (valueAt s i) ≡ false → false ≡ possibleValues s
+unfolding possibleValues
 impossible s i h e = sym (below-fails count (λ k. within s k (valueAt s k)) i h e)
 
-pub all-possible : (s : Settings) (i : ℕ) → i ≡ count → below i (λ k. within s k (valueAt s k)) ≡ true → true ≡ possibleSettings s
-unfolding possibleSettings
+pub all-possible : (s : Settings) (i : ℕ) → i ≡ count → below i (λ k. within s k (valueAt s k)) ≡ true → true ≡ possibleValues s
+unfolding possibleValues
 all-possible s i e h = sym (rw e at h)

@@ -8,7 +8,7 @@ use Prim.Native.Char.{code}
 use native.Mathlib.Numerals.{add-one}
 use native.Mathlib.Omega.{arith}
 use lib.Dec.{T, leb, ltb, leb→le, leb·zero, leb·suc-zero, leb·suc-suc}
-use lib.ListN.{length, getD, drop, length-drop, drop-of-length-le, List·getD-eq-default}
+use lib.ListN.{length, getD, take, drop, length-drop, drop-of-length-le, List·getD-eq-default}
 use lib.Seq.{drop-cons, drop-drop}
 use mir.Facts.{and-yes}
 use borrow.Author.Tests.{ltb-true, ltb-false}
@@ -70,6 +70,16 @@ drop-start p (b ∷ bs) = go (p b) (drop-start p bs)
     go : (e : Bool) → drop (length (start p bs)) bs ≡ after p bs
         → drop (length (if e then b ∷ start p bs else [])) (b ∷ bs) ≡ (if e then after p bs else b ∷ bs)
     go true ih = ih
+    go false ih = refl
+
+pub take-start : (p : ℕ → Bool) (t : Text) → take (length (start p t)) t ≡ start p t
+unfolding if_then_else_
+take-start p [] = refl
+take-start p (b ∷ bs) = go (p b) (take-start p bs)
+  where
+    go : (e : Bool) → take (length (start p bs)) bs ≡ start p bs
+        → take (length (if e then b ∷ start p bs else [])) (b ∷ bs) ≡ (if e then b ∷ start p bs else [])
+    go true ih = ap (λ (l : Text). b ∷ l) ih
     go false ih = refl
 
 pub start-short : (p : ℕ → Bool) (t : Text) → length (start p t) ≤ length t

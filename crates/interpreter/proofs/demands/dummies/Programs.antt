@@ -12,9 +12,10 @@ use lib.Seq.{take-at}
 use Rattle.registers.specs.Text.{Text, if_then_else_, empty}
 use Rattle.registers.specs.Number.{number}
 use Rattle.registers.specs.Group.{widestGroup}
-use Rattle.interpreter.specs.Box.{Core, Box, box, powerUp, mostLine}
+use Rattle.interpreter.specs.Box as lent
+use Rattle.interpreter.specs.Box.{Core, Box, box, powerUp, blank, mostLine}
 use Rattle.interpreter.specs.Line.{interrupted, unitsOf, held, byte, piece, newlines}
-use Rattle.interpreter.specs.Events.{Event, started, received, take, condition, look, Happened, taken, reported, happens}
+use Rattle.interpreter.specs.Events.{Event, started, received, take, condition, look, altered, mislent, Happened, taken, reported, happens}
 use Rattle.interpreter.specs.Dummies.{Program, reached, RefusesUnits, refusingByte, refusingPiece, refusing, refuser, AnswersAlike, answering, fixedAnswer, OnlyFirstLine, firstByte, firstPiece, firstLiner, Invents, inventor, AreSo}
 use Rattle.interpreter.proofs.Choices.{if-elim}
 use Rattle.interpreter.proofs.Lists.{is-empty}
@@ -31,9 +32,9 @@ reached-so p P step (e ∷ es) m h = reached-so p P step es (p .keeps m e) (step
 abbrev Answerless : Box → Type 0
 Answerless b = b .core .answer ≡ []
 
-start-answerless : Answerless powerUp
+start-answerless : (m : lent.Memory) → Answerless (powerUp m)
 unfolding powerUp
-start-answerless = refl
+start-answerless m = refl
 
 interrupted-answerless : (b : Box) → Answerless (interrupted b)
 unfolding interrupted
@@ -67,11 +68,13 @@ taken-answerless b buffer h =
 
 refusing-answerless : (b : Box) (e : Event) → Answerless b → Answerless (refusing b e)
 unfolding happens reported
-refusing-answerless b started h = start-answerless
+refusing-answerless b started h = start-answerless (b .core .memory)
 refusing-answerless b (received xs) h = piece-answerless xs b h
 refusing-answerless b (take buffer) h = taken-answerless b buffer h
 refusing-answerless b (condition x n) h = if-elim AnswerlessHappened (leb n widestGroup) (λ _. h) (λ _. h)
 refusing-answerless b look h = h
+refusing-answerless b (altered i x) h = h
+refusing-answerless b (mislent buffer) h = h
 
 none-taken : (b : Box) (buffer : Text) → Answerless b → taken buffer b .result .number ≡ 2
 unfolding taken if_then_else_
@@ -80,7 +83,7 @@ none-taken b buffer h = rw h
 refuser-is : RefusesUnits refuser
 unfolding happens
 refuser-is es buffer =
-    none-taken (reached refuser powerUp es) buffer (reached-so refuser Answerless refusing-answerless es powerUp start-answerless)
+    none-taken (reached refuser (powerUp blank) es) buffer (reached-so refuser Answerless refusing-answerless es (powerUp blank) (start-answerless blank))
 
 -- ---- one answer or none waits in the box with a fixed answer
 
@@ -108,8 +111,8 @@ module _ (a : Text) where
   unfolding happens
   fixed-is es buffer =
       let p = fixedAnswer a in
-      one-alike (reached p powerUp es) buffer
-      (reached-so p One (λ b e _. answering-one (happens b e .box)) es powerUp (nothing (ap empty start-answerless)))
+      one-alike (reached p (powerUp blank) es) buffer
+      (reached-so p One (λ b e _. answering-one (happens b e .box)) es (powerUp blank) (nothing (ap empty (start-answerless blank))))
 
 -- ---- the first-liner obeys the first line, and drops what comes after it
 
@@ -131,8 +134,8 @@ over m (x ∷ l) = over (firstByte m x) l
 first-is : OnlyFirstLine firstLiner
 unfolding reached
 first-is l xs =
-    let m = firstPiece (powerUp, false) (l ++ 10 ∷ []) in
-    let e : m ≡ (m .0, true) = ap (λ (t : Bool). (m .0, t)) (over (powerUp, false) l) in
+    let m = firstPiece ((powerUp blank), false) (l ++ 10 ∷ []) in
+    let e : m ≡ (m .0, true) = ap (λ (t : Bool). (m .0, t)) (over ((powerUp blank), false) l) in
     subst (λ (x : Box × Bool). firstPiece x xs ≡ x) (sym e) (dropped (m .0) xs)
 
 obeyed-first : (l : Text) (b : Box) → newlines l ≡ 0 → firstPiece (b, false) (l ++ 10 ∷ []) ≡ (piece b (l ++ 10 ∷ []), true)
@@ -161,6 +164,6 @@ are-so =
       ignorer = λ es xs. refl;
       fixedAnswer = fixed-is;
       firstLiner = first-is;
-      firstObeyed = λ l h. obeyed-first l powerUp h;
+      firstObeyed = λ l h. obeyed-first l (powerUp blank) h;
       inventor = inventor-is;
     }

@@ -3,11 +3,12 @@
 use mathlib.Core.Path.{_≡_, refl, sym, _∙_, ap, ap₂}
 use mathlib.Core.Bool.{true}
 use mathlib.Core.List.{List, [], _∷_, _++_, head-eq-of-cons-eq}
-use Prim.Native.Nat.{suc}
+use Prim.Native.Nat.{ℕ, suc}
 use Prim.Native.String.{String}
 use native.Mathlib.Omega.{arith}
 use lib.ListN as L
-use lib.ListN.{length, drop, replicate}
+use lib.ListN.{length, drop, replicate, length-replicate}
+use borrow.Author.Tests.{eq-eqb}
 use lib.Seq.{drop-at}
 use Rattle.registers.specs.Text.{Text, if_then_else_, bytes, same, white, printable, digit, letter, wordByte, small, capital}
 use Rattle.registers.specs.Check.{_>>=_, _>>_, check}
@@ -16,22 +17,24 @@ use Rattle.registers.specs.Number.{afterSign, fractionOf, afterFraction, expone
 use Rattle.registers.specs.Suffix.{suffixes, noSuffix, powerIn, remains}
 use Rattle.registers.specs.Rounding.{nearest, sizeIn, rounded, sizeSide, sideIn}
 use Rattle.registers.specs.Answer.{inPlaces, decimal, tenths}
-use Rattle.registers.specs.Settings.{table, settingAt, atReset, wideRange, lowest, highest, within, conflict, examined, accepted, answerOf}
+use Rattle.registers.specs.Settings.{table, settingAt, atReset, wideRange, lowest, highest, within, conflict, examined, accepted, answerOf, slots, narrow}
 use Rattle.registers.specs.Status.{raised, atStart}
-use Rattle.interpreter.specs.Cuts.{cutAt, trimEnd, trim}
-use Rattle.interpreter.specs.Header.{name, placed, header, spells, bodyOf, byFirst}
-use Rattle.interpreter.specs.Rows.{settingRows, otherRows, rows, fitsRow, findRow}
-use Rattle.interpreter.specs.Parameter.{parameters, least, greatest, findWord, parameter, valueGiven, settingDeed, deedOf, readFigure, readWord}
+use Rattle.registers.specs.Label.{mayStand, closes, undoubled, padded}
+use Rattle.interpreter.specs.Cuts.{cutAt, quoteNext, cutOpen, trimEnd, trim}
+use Rattle.interpreter.specs.Header.{name, placed, header, spells, bodyOf, byFirst, numbered, nodeMatches, suffixIn}
+use Rattle.interpreter.specs.Rows.{settingRows, otherRows, rows, fitsRow, findRow, secondOf, onChannel, findRole}
+use Rattle.interpreter.specs.Parameter.{labelDeed, parameters, least, greatest, findWord, parameter, valueGiven, settingDeed, deedOf, readFigure, readWord}
 use Rattle.interpreter.specs.Unit.{readUnit}
-use Rattle.interpreter.specs.Box.{Box, box, powerUp}
+use Rattle.interpreter.specs.Box as lent
+use Rattle.interpreter.specs.Box.{Box, box, powerUp, blank, rightSize, storeSize}
 use Rattle.interpreter.specs.Perform.{permitted, changed, perform}
 use Rattle.interpreter.specs.Reply.{replyTo, joined, fitsAnswer, reply}
 use Rattle.interpreter.specs.Line.{attempt, runUnits, interrupted, finished, unitsOf, runLine, endLine, held, byte, piece}
 use Rattle.interpreter.specs.Events.{Event, received, take, Result, Happened, taken, happens, after, results}
 use Rattle.interpreter.specs.State.{boxOf, possibleState}
 use Rattle.interpreter.specs.declared.state.State.{State}
-use Rattle.interpreter.specs.Dummies.{Program, told, reached, tellsNext, Meets, theBox, Promised, functions, RefusesUnits, IgnoresPieces, AnswersAlike, OnlyFirstLine, Invents, Rejected}
-use Rattle.interpreter.proofs.demands.calls.AsHistory.{admits}
+use Rattle.interpreter.specs.Dummies.{Program, told, reached, tellsNext, Meets, theBox, Promised, functions, Does, RefusesUnits, IgnoresPieces, AnswersAlike, OnlyFirstLine, Invents, Rejected}
+use Rattle.interpreter.proofs.demands.calls.AsHistory.{happens-there}
 
 -- ---- what a program that meets the definition tells of one more event
 
@@ -57,21 +60,26 @@ reached-after b [] = refl
 reached-after b (e ∷ es) = reached-after (happens b e .box) es
 
 pub box-meets : Meets theBox
-box-meets es = definition powerUp es
+box-meets es = definition (powerUp blank) es
 
 -- so are the public functions
-functions-tell : (first : State) (does : State → Event → Result × State) → Promised first does → (s : State) → possibleState s ≡ true
-    → (es : List Event) → told (functions first does) s es ≡ results (boxOf s) es
+functions-tell : (begins : State) (does : Does) → Promised begins does → (s : State) (m : lent.Memory) → possibleState s ≡ true
+    → rightSize m ≡ true → (es : List Event) → told (functions begins does) (s, m) es ≡ results (boxOf s m) es
 unfolding told results
-functions-tell first does h s p [] = refl
-functions-tell first does h s p (e ∷ es) =
-    let one = h .events s e .possible (admits s e p) in
+functions-tell begins does h s m p q [] = refl
+functions-tell begins does h s m p q (e ∷ es) =
+    let d = does s m e in
+    let one = happens-there s (d .1) m (d .2) e (d .0) (h .events s m e) p q in
     ap₂ _∷_ (ap (λ (x : Happened). x .result) (one .1))
-    (functions-tell first does h (does s e .1) (one .0) es ∙ ap (λ (x : Happened). results (x .box) es) (one .1))
+    (functions-tell begins does h (d .1) (d .2) (one .0) (one .2) es ∙ ap (λ (x : Happened). results (x .box) es) (one .1))
 
-functions-meet : (first : State) (does : State → Event → Result × State) → Promised first does → Meets (functions first does)
-functions-meet first does h es =
-    functions-tell first does h first (h .atStart .possible) es ∙ ap (λ (b : Box). results b es) (h .atStart .first)
+blank-size : rightSize blank ≡ true
+unfolding rightSize blank
+blank-size = eq-eqb _ _ (length-replicate {A = ℕ} storeSize 0)
+
+functions-meet : (begins : State) (does : Does) → Promised begins does → Meets (functions begins does)
+functions-meet begins does h es =
+    functions-tell begins does h begins blank (h .atStart .possible) blank-size es ∙ ap (λ (b : Box). results b es) (h .atStart .first blank)
 
 -- the last of what a program tells
 last-told : (p : Program) (es : List Event) (e : Event) → drop (length es) (told p (p .start) (es ++ e ∷ [])) ≡ tellsNext p es e ∷ []
@@ -80,11 +88,11 @@ last-told p es e =
     ap (drop (length es)) (told-append p (p .start) es (e ∷ []))
     ∙ drop-at (told p (p .start) es) (told p (reached p (p .start) es) (e ∷ [])) (length es) (told-length p (p .start) es)
 
-pub next-is : (p : Program) → Meets p → (es : List Event) (e : Event) → tellsNext p es e ≡ happens (after powerUp es) e .result
+pub next-is : (p : Program) → Meets p → (es : List Event) (e : Event) → tellsNext p es e ≡ happens (after (powerUp blank) es) e .result
 next-is p m es e =
     head-eq-of-cons-eq
     (sym (last-told p es e) ∙ ap (drop (length es)) (m (es ++ e ∷ []) ∙ sym (box-meets (es ++ e ∷ []))) ∙ last-told theBox es e)
-    ∙ ap (λ (b : Box). happens b e .result) (reached-after powerUp es)
+    ∙ ap (λ (b : Box). happens b e .result) (reached-after (powerUp blank) es)
 
 -- ---- computed: what the definition tells of a take after these lines
 
@@ -95,7 +103,7 @@ abbrev takes : Event
 takes = take (replicate 8 0)
 
 abbrev taken-after : List Event → Result
-taken-after es = happens (after powerUp es) takes .result
+taken-after es = happens (after (powerUp blank) es) takes .result
 
 record Computed : Type 0 where
   none : taken-after [] .number ≡ 2
@@ -110,8 +118,8 @@ computed : Computed
 unfolding if_then_else_ bytes same white printable digit letter wordByte small capital _>>=_ _>>_ check shortForm longForm matches
     afterSign fractionOf afterFraction exponentOf afterExponent lowering written numeralFrom decimalOf valueOf scaled suffixes noSuffix powerIn remains number
     nearest sizeIn rounded sizeSide sideIn inPlaces decimal tenths
-    table settingAt atReset wideRange lowest highest within conflict examined accepted answerOf raised atStart
-    cutAt trimEnd trim name placed bodyOf byFirst header spells settingRows otherRows rows fitsRow findRow
+    slots table settingAt atReset wideRange lowest highest narrow within conflict examined accepted answerOf raised atStart
+    mayStand closes undoubled padded labelDeed cutAt quoteNext cutOpen trimEnd trim name placed bodyOf byFirst header numbered nodeMatches suffixIn spells settingRows otherRows rows fitsRow findRow secondOf onChannel findRole
     parameters least greatest findWord parameter readWord readFigure valueGiven settingDeed deedOf readUnit powerUp
     permitted changed replyTo joined fitsAnswer reply perform
     attempt runUnits interrupted finished unitsOf runLine endLine held byte piece taken happens after

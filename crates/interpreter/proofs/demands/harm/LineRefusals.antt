@@ -10,7 +10,7 @@ use borrow.Author.Tests.{ne-eqb}
 use Rattle.registers.specs.Text.{Text, if_then_else_, empty}
 use Rattle.registers.specs.Check.{Checked, refused, passed}
 use Rattle.registers.specs.Queue.{mayBeQueued, queueable}
-use Rattle.interpreter.specs.Cuts.{cutAt}
+use Rattle.interpreter.specs.Cuts.{cutOpen}
 use Rattle.interpreter.specs.Box.{Box}
 use Rattle.interpreter.specs.Unit.{raisable}
 use Rattle.interpreter.specs.Line.{atNewline, Obeyed, refuse, attempt, next, runUnits, interrupted, finished, unitsOf, runLine, endLine, byte, piece}
@@ -66,6 +66,6 @@ line-refusals b =
     record {
       overlong = λ o. rw o;
       blank = λ o w. rw (o, w, answer-gone b);
-      units = λ o w. rw (o, w) (ap finished (units-leave (cutAt (code ";") (b .core .line)) [] c));
-      ofUnit = refusal-raisable (cutAt (code ";") (b .core .line)) [] c;
+      units = λ o w. rw (o, w) (ap finished (units-leave (cutOpen (code ";") 0 (b .core .line)) [] c));
+      ofUnit = refusal-raisable (cutOpen (code ";") 0 (b .core .line)) [] c;
     }

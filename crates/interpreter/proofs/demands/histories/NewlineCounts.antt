@@ -13,7 +13,7 @@ use Rattle.registers.specs.Text.{Text, if_then_else_, every}
 use Rattle.registers.proofs.Tests.{and-both}
 use Rattle.interpreter.specs.Box.{Box}
 use Rattle.interpreter.specs.Line.{piece, newlines}
-use Rattle.interpreter.specs.Events.{Event, started, received, take, condition, look, happens}
+use Rattle.interpreter.specs.Events.{Event, started, received, take, condition, look, altered, mislent, happens}
 use Rattle.interpreter.specs.Histories.{single, newline, moments, Recut, resultsOf, summed, counted}
 use Rattle.interpreter.specs.Demand3.{inLine, keep}
 use Rattle.interpreter.proofs.Choices.{if₂}
@@ -27,6 +27,8 @@ ends (received xs ∷ es) = newlines xs + ends es
 ends (take buffer ∷ es) = ends es
 ends (condition x n ∷ es) = ends es
 ends (look ∷ es) = ends es
+ends (altered i x ∷ es) = ends es
+ends (mislent buffer ∷ es) = ends es
 
 counted-ends : (b : Box) (es : List Event) → counted b es ≡ ends es
 unfolding ends summed resultsOf happens if_then_else_
@@ -36,6 +38,8 @@ counted-ends b (received xs ∷ es) = ap (λ (n : ℕ). newlines xs + n) (counte
 counted-ends b (take buffer ∷ es) = counted-ends _ es
 counted-ends b (condition x n ∷ es) = counted-ends _ es
 counted-ends b (look ∷ es) = counted-ends b es
+counted-ends b (altered i x ∷ es) = counted-ends _ es
+counted-ends b (mislent buffer ∷ es) = counted-ends b es
 
 ends-append : (es fs : List Event) → ends (es ++ fs) ≡ ends es + ends fs
 unfolding ends
@@ -45,6 +49,8 @@ ends-append (received xs ∷ es) fs = omega (arith, ends-append es fs)
 ends-append (take buffer ∷ es) fs = ends-append es fs
 ends-append (condition x n ∷ es) fs = ends-append es fs
 ends-append (look ∷ es) fs = ends-append es fs
+ends-append (altered i x ∷ es) fs = ends-append es fs
+ends-append (mislent buffer ∷ es) fs = ends-append es fs
 
 -- ---- in any pieces
 
@@ -61,6 +67,8 @@ ends-moments (received xs ∷ es) = omega (arith, ends-append (map single xs) (m
 ends-moments (take buffer ∷ es) = ends-moments es
 ends-moments (condition x n ∷ es) = ends-moments es
 ends-moments (look ∷ es) = ends-moments es
+ends-moments (altered i x ∷ es) = ends-moments es
+ends-moments (mislent buffer ∷ es) = ends-moments es
 
 recut-ends : (b : Box) (h g : List Event) → Recut h g → counted b h ≡ ends g
 recut-ends b h g e = counted-ends b h ∙ sym (ends-moments h) ∙ ap ends e ∙ ends-moments g
@@ -84,6 +92,8 @@ kept-ends k (received xs ∷ es) = omega (arith, fewer k xs, kept-ends (k - leng
 kept-ends k (take buffer ∷ es) = kept-ends k es
 kept-ends k (condition x n ∷ es) = kept-ends k es
 kept-ends k (look ∷ es) = kept-ends k es
+kept-ends k (altered i x ∷ es) = kept-ends k es
+kept-ends k (mislent buffer ∷ es) = kept-ends k es
 
 plain-none : (xs : Text) → every plain xs ≡ true → newlines xs ≡ 0
 unfolding newlines if_then_else_
@@ -99,6 +109,8 @@ line-ends (received xs ∷ es) t = let p = and-both (every plain xs) (every inLi
 line-ends (take buffer ∷ es) t = line-ends es t
 line-ends (condition x n ∷ es) t = line-ends es t
 line-ends (look ∷ es) t = line-ends es t
+line-ends (altered i x ∷ es) t = line-ends es t
+line-ends (mislent buffer ∷ es) t = line-ends es t
 
 pub cut-counts : (b : Box) (k : ℕ) (before during later h h′ : List Event) → every inLine during ≡ true
     → Recut h ((before ++ during ++ newline ∷ []) ++ later) → Recut h′ ((before ++ keep k during ++ newline ∷ []) ++ later)

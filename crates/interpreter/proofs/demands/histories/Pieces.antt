@@ -6,7 +6,7 @@ use mathlib.Core.List.{List, [], _∷_, _++_, map}
 use Rattle.registers.specs.Text.{Text, if_then_else_}
 use Rattle.interpreter.specs.Box.{Box}
 use Rattle.interpreter.specs.Line.{endLine, byte, piece}
-use Rattle.interpreter.specs.Events.{Event, started, received, take, condition, look, Result, happens, after}
+use Rattle.interpreter.specs.Events.{Event, started, received, take, condition, look, altered, mislent, Result, happens, after}
 use Rattle.interpreter.specs.Histories.{single, newline, moments, Recut, resultsOf}
 
 -- ---- histories, part by part
@@ -33,7 +33,7 @@ newline-after b es = after-append b es (newline ∷ [])
 
 -- ---- bytes one at a time
 
-singles-after : (b : Box) (xs : Text) → after b (map single xs) ≡ piece b xs
+pub singles-after : (b : Box) (xs : Text) → after b (map single xs) ≡ piece b xs
 unfolding after happens piece
 singles-after b [] = refl
 singles-after b (x ∷ xs) = singles-after (byte b x) xs
@@ -47,6 +47,8 @@ after-moments b (received xs ∷ es) =
 after-moments b (take buffer ∷ es) = after-moments _ es
 after-moments b (condition x n ∷ es) = after-moments _ es
 after-moments b (look ∷ es) = after-moments b es
+after-moments b (altered i x ∷ es) = after-moments _ es
+after-moments b (mislent buffer ∷ es) = after-moments b es
 
 -- of results that are no pieces'
 module _ (p : Event → Bool) (silent : (xs : Text) → p (received xs) ≡ false) where
@@ -68,6 +70,8 @@ module _ (p : Event → Bool) (silent : (xs : Text) → p (received xs) ≡ fals
   results-moments b (take buffer ∷ es) = one-more (take buffer) _ (results-moments _ es)
   results-moments b (condition x n ∷ es) = one-more (condition x n) _ (results-moments _ es)
   results-moments b (look ∷ es) = one-more look _ (results-moments b es)
+  results-moments b (altered i x ∷ es) = one-more (altered i x) _ (results-moments _ es)
+  results-moments b (mislent buffer ∷ es) = one-more (mislent buffer) _ (results-moments b es)
 
   pub recut-results : (b : Box) (h g : List Event) → Recut h g → resultsOf p b h ≡ resultsOf p b g
   recut-results b h g e = sym (results-moments b h) ∙ ap (resultsOf p b) e ∙ results-moments b g

@@ -7,7 +7,7 @@ use native.Mathlib.Omega.{arith}
 use lib.ListN.{length}
 use Rattle.registers.specs.Text.{if_then_else_}
 use Rattle.interpreter.specs.Box.{Box}
-use Rattle.interpreter.specs.Events.{Event, started, received, take, condition, look, Result, happens}
+use Rattle.interpreter.specs.Events.{Event, started, received, take, condition, look, altered, mislent, Result, happens}
 use Rattle.interpreter.specs.Histories.{noPiece, howMany, resultsOf}
 use Rattle.interpreter.specs.Demand3.{keep, others}
 
@@ -39,3 +39,5 @@ others-keep k (received xs ∷ es) = others-keep (k - length xs) es
 others-keep k (take buffer ∷ es) = ap suc (others-keep k es)
 others-keep k (condition x n ∷ es) = ap suc (others-keep k es)
 others-keep k (look ∷ es) = ap suc (others-keep k es)
+others-keep k (altered i x ∷ es) = ap suc (others-keep k es)
+others-keep k (mislent buffer ∷ es) = ap suc (others-keep k es)

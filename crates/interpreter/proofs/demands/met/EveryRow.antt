@@ -1,4 +1,4 @@
--- Demand 2's round trip holds of something: its premises for each of the seventeen settings, by its header and its answer at *RST. What
+-- Demand 2's round trip holds of something: its premises for each of the thirty settings, by its header and its answer at *RST. What
 -- they speak of is computed for the whole table at once (`seen`), and each row's premises are read off it.
 use mathlib.Core.Path.{_≡_, refl, sym, _∙_, ap}
 use mathlib.Core.Bool.{Bool, true, false}
@@ -16,15 +16,16 @@ use Rattle.registers.specs.Suffix.{suffixes, noSuffix, powerIn, remains}
 use Rattle.registers.specs.Rounding.{switchedOn, nearest, sizeIn, rounded, sizeSide, sideIn}
 use Rattle.registers.specs.Answer.{inPlaces, decimal, tenths}
 use Rattle.registers.specs.Error.{eventBit}
-use Rattle.registers.specs.Settings.{count, Setting as OneSetting, table, settingAt, atReset, wideRange, lowest, highest, within, conflict, examined, accepted, answerOf}
+use Rattle.registers.specs.Settings.{count, Setting as OneSetting, outputRows, sourceRows, table, settingAt, atReset, wideRange, lowest, highest, within, conflict, examined, accepted, answerOf, slots, narrow}
 use Rattle.registers.specs.Group.{rises, falls, eventsAfter, conditionIs}
 use Rattle.registers.specs.Status.{raised, locked, atStart}
-use Rattle.interpreter.specs.Cuts.{front, cutAt, trimEnd, trim}
-use Rattle.interpreter.specs.Header.{Header, here, name, placed, header, spells, bodyOf, byFirst}
-use Rattle.interpreter.specs.Rows.{settingRows, otherRows, rows, fitsRow, findRow}
-use Rattle.interpreter.specs.Parameter.{parameters, least, greatest, findWord, parameter, valueGiven, settingDeed, deedOf, readFigure, readWord}
+use Rattle.registers.specs.Label.{mayStand, closes, undoubled, padded}
+use Rattle.interpreter.specs.Cuts.{front, cutAt, quoteNext, cutOpen, trimEnd, trim}
+use Rattle.interpreter.specs.Header.{Header, here, name, placed, header, spells, bodyOf, byFirst, numbered as takesNumber, nodeMatches, suffixIn}
+use Rattle.interpreter.specs.Rows.{settingRows, otherRows, rows, fitsRow, findRow, secondOf, onChannel, findRole}
+use Rattle.interpreter.specs.Parameter.{labelDeed, parameters, least, greatest, findWord, parameter, valueGiven, settingDeed, deedOf, readFigure, readWord}
 use Rattle.interpreter.specs.Unit.{Read, readUnit}
-use Rattle.interpreter.specs.Box.{powerUp}
+use Rattle.interpreter.specs.Box.{powerUp, blank}
 use Rattle.interpreter.specs.Perform.{permitted, changed, perform}
 use Rattle.interpreter.specs.Reply.{replyTo, inquiryText, joined, fitsAnswer, reply}
 use Rattle.interpreter.specs.Line.{attempt, refuse, runUnits, interrupted, finished, unitsOf, runLine, endLine, held, byte, piece}
@@ -34,23 +35,26 @@ use Rattle.interpreter.specs.declared.deed.Deed.the-variants.{Query}
 use Rattle.interpreter.specs.declared.deed.Query.the-variants.{Value}
 use Rattle.interpreter.specs.declared.deed.Role.{Role}
 use Rattle.interpreter.specs.declared.deed.Role.the-variants.{Setting}
-use Rattle.interpreter.specs.Demand2.{Premises, queried, sentBack, takenFrom}
+use Rattle.interpreter.specs.Demand2.{tabled, Premises, queried, sentBack, takenFrom}
 use Rattle.interpreter.proofs.Possible.{power-up-own}
 
--- a header in its shortest spelling
-unfoldable pub shortNames : List Node → List Text
-shortNames [] = []
-shortNames (must w ∷ nodes) = shortForm w ∷ shortNames nodes
-shortNames (may w ∷ nodes) = shortNames nodes
+-- a header in its shortest spelling, with a suffix on the node that takes one
+unfoldable pub shortNames : Text → List Node → List Text
+shortNames x [] = []
+shortNames x (must w ∷ nodes) = (if takesNumber w then shortForm w ++ x else shortForm w) ∷ shortNames x nodes
+shortNames x (may w ∷ nodes) = shortNames x nodes
 
 unfoldable pub colonJoined : List Text → Text
 colonJoined [] = []
 colonJoined (x ∷ []) = x
 colonJoined (x ∷ y ∷ names) = x ++ code ":" ∷ colonJoined (y ∷ names)
 
--- each setting's header, and its answer at *RST
+-- each setting's header, and its answer at *RST; then those of channel 2
+abbrev tripOf : Text → OneSetting → Text × Text
+tripOf x s = (colonJoined (shortNames x (s .nodes)), answerOf (s .kind) (s .reset))
+
 unfoldable pub trips : List (Text × Text)
-trips = map (λ (s : OneSetting). (colonJoined (shortNames (s .nodes)), answerOf (s .kind) (s .reset))) table
+trips = map (tripOf []) table ++ map (tripOf (bytes "2")) (outputRows ++ sourceRows)
 
 abbrev pub buffer : Text
 buffer = replicate 8 0
@@ -64,7 +68,7 @@ sending t = received (t .0 ++ bytes " " ++ t .1) ∷ []
 
 -- the premises of demand 2's round trip
 abbrev pub PremisesAt : ℕ → Text × Text → Type 0
-PremisesAt i t = Premises powerUp i (t .1) buffer (takenFrom powerUp (asking t) [] buffer) (asking t) [] (sending t)
+PremisesAt i t = Premises (powerUp blank) (tabled i) (t .1) buffer (takenFrom (powerUp blank) (asking t) [] buffer) (asking t) [] (sending t)
 
 -- what they speak of
 record Seen : Type 0 where
@@ -82,9 +86,9 @@ record Seen : Type 0 where
 
 unfoldable seenAt : Text × Text → Seen
 seenAt t =
-    let b = after powerUp (asking t) in
-    let r = happens (after powerUp (queried (asking t) ++ [])) (take buffer) .result in
-    let c = after powerUp (sentBack (asking t) [] buffer (sending t)) in
+    let b = after (powerUp blank) (asking t) in
+    let r = happens (after (powerUp blank) (queried (asking t) ++ [])) (take buffer) .result in
+    let c = after (powerUp blank) (sentBack (asking t) [] buffer (sending t)) in
     record {
       whole = (b .core .overlong, c .core .overlong);
       inLine = every inLine (sending t);
@@ -96,7 +100,7 @@ seenAt t =
       line = c .core .line;
       locks = locked (c .core .registers);
       heading = header (t .0);
-      row = findRow false (cutAt (code ":") (t .0)) false rows;
+      row = findRole false (cutAt (code ":") (t .0)) false;
     }
 
 unfoldable expectedAt : ℕ → Text × Text → Seen
@@ -106,7 +110,7 @@ expectedAt i t =
       inLine = true;
       asked = t .0 ++ bytes "?";
       units = (t .0 ++ bytes "?") ∷ [];
-      read = passed (record { deed = Query (Value i); path = front (cutAt (code ":") (t .0)) });
+      read = passed (record { deed = Query (Value i); text = []; path = front (cutAt (code ":") (t .0)) });
       number = 0;
       taken = t .1 ++ 10 ∷ [];
       line = t .0 ++ (bytes " " ++ (t .1 ++ []));
@@ -127,8 +131,8 @@ seen : map seenAt trips ≡ numbered 0 trips
 unfolding if_then_else_ bytes same white printable digit letter wordByte small capital _>>=_ _>>_ check shortForm longForm matches
     afterSign fractionOf afterFraction exponentOf afterExponent lowering written numeralFrom decimalOf valueOf scaled suffixes noSuffix powerIn remains number switchedOn
     nearest sizeIn rounded sizeSide sideIn inPlaces decimal tenths eventBit
-    table settingAt atReset wideRange lowest highest within conflict examined accepted answerOf raised rises falls eventsAfter conditionIs atStart
-    cutAt trimEnd trim name placed bodyOf byFirst header spells settingRows otherRows rows fitsRow findRow
+    slots table settingAt atReset wideRange lowest highest narrow within conflict examined accepted answerOf raised rises falls eventsAfter conditionIs atStart
+    mayStand closes undoubled padded labelDeed cutAt quoteNext cutOpen trimEnd trim name placed bodyOf byFirst header takesNumber nodeMatches suffixIn spells settingRows otherRows rows fitsRow findRow secondOf onChannel findRole
     parameters least greatest findWord parameter readWord readFigure valueGiven settingDeed deedOf readUnit powerUp
     permitted changed replyTo inquiryText joined fitsAnswer reply perform
     attempt refuse runUnits interrupted finished unitsOf runLine endLine held byte piece taken reported happens after
@@ -158,13 +162,14 @@ unfolding seenAt expectedAt bytes white
 trip-at i t e =
     record {
       trip = record {
-        own = power-up-own;
+        own = (power-up-own blank);
         first = refl;
         second = ap (λ (x : Seen). x .inLine) e;
         asks = record {
           whole = ap (λ (x : Seen). x .whole .0) e;
           alone = ap (λ (x : Seen). x .units) e ∙ sym (ap (λ (x : Seen). x .asked ∷ []) e);
           path = front (cutAt (code ":") (t .0));
+          text = [];
           asks = ap (λ (x : Seen). x .read) e;
         };
         took = record { number = ap (λ (x : Seen). x .number) e; bytes = ap (λ (x : Seen). x .taken) e };

@@ -14,15 +14,16 @@ use Rattle.registers.specs.Suffix.{suffixes, noSuffix, powerIn, remains}
 use Rattle.registers.specs.Rounding.{switchedOn, nearest, sizeIn, rounded, sizeSide, sideIn}
 use Rattle.registers.specs.Answer.{inPlaces, decimal, tenths}
 use Rattle.registers.specs.Error.{eventBit}
-use Rattle.registers.specs.Settings.{table, settingAt, atReset, wideRange, lowest, highest, within, conflict, examined, accepted, answerOf}
+use Rattle.registers.specs.Settings.{table, settingAt, atReset, wideRange, lowest, highest, within, conflict, examined, accepted, answerOf, slots, narrow}
 use Rattle.registers.specs.Group.{rises, falls, eventsAfter, conditionIs}
 use Rattle.registers.specs.Status.{raised, atStart}
-use Rattle.interpreter.specs.Cuts.{cutAt, trimEnd, trim}
-use Rattle.interpreter.specs.Header.{name, placed, header, spells, bodyOf, byFirst}
-use Rattle.interpreter.specs.Rows.{settingRows, otherRows, rows, fitsRow, findRow}
-use Rattle.interpreter.specs.Parameter.{parameters, least, greatest, findWord, parameter, valueGiven, settingDeed, deedOf, readFigure, readWord}
+use Rattle.registers.specs.Label.{mayStand, closes, undoubled, padded}
+use Rattle.interpreter.specs.Cuts.{cutAt, quoteNext, cutOpen, trimEnd, trim}
+use Rattle.interpreter.specs.Header.{name, placed, header, spells, bodyOf, byFirst, numbered, nodeMatches, suffixIn}
+use Rattle.interpreter.specs.Rows.{settingRows, otherRows, rows, fitsRow, findRow, secondOf, onChannel, findRole}
+use Rattle.interpreter.specs.Parameter.{labelDeed, parameters, least, greatest, findWord, parameter, valueGiven, settingDeed, deedOf, readFigure, readWord}
 use Rattle.interpreter.specs.Unit.{readUnit}
-use Rattle.interpreter.specs.Box.{mostLine, powerUp}
+use Rattle.interpreter.specs.Box.{mostLine, powerUp, blank}
 use Rattle.interpreter.specs.Perform.{permitted, changed, perform}
 use Rattle.interpreter.specs.Reply.{replyTo, inquiryText, joined, fitsAnswer, reply}
 use Rattle.interpreter.specs.Line.{attempt, refuse, runUnits, interrupted, finished, unitsOf, runLine, endLine, held, byte, piece}
@@ -37,9 +38,9 @@ text s = received (bytes s)
 
 -- a line refused by n, and what is left of it
 pub record Cut (before during : List Event) (n : ℕ) (left : Text) : Type 0 where
-  pub line : ALine before during
-  pub refusedBy : lineRefusal (atEnd before during) ≡ n
-  pub cutTo : cutLine (atEnd before during) ≡ left
+  pub line : ALine blank before during
+  pub refusedBy : lineRefusal (atEnd blank before during) ≡ n
+  pub cutTo : cutLine (atEnd blank before during) ≡ left
 
 -- in two pieces with a take between them, refused at its second unit
 abbrev during : List Event
@@ -61,23 +62,23 @@ later = text "*CLS\nVOLT?\n" ∷ take [] ∷ []
 
 -- what comes first afterwards
 unfoldable pub watched : String → Watch
-watched s = watch (after powerUp (asSent [] during)) (text s ∷ [])
+watched s = watch (after (powerUp blank) (asSent [] during)) (text s ∷ [])
 
 pub record Met3 : Type 0 where
   pub second : Cut [] during 113 (bytes "VOLT 5")
   pub third : Cut earlier atThird 222 (bytes "VOLT 5;VOLT?")
-  pub thirdAnswers : after powerUp (asSent earlier atThird) .core .answer ≡ bytes "5.0\n"
+  pub thirdAnswers : after (powerUp blank) (asSent earlier atThird) .core .answer ≡ bytes "5.0\n"
   pub overlong : Cut [] tooLong 363 []
   pub comesFirst : map watched ("VOLT?\n" ∷ "VOLT 1;*CLS;*ESR?\n" ∷ "SYST:ERR?;*CLS\n" ∷ []) ≡ neither ∷ cleared ∷ asked ∷ []
   -- the history, and the one with the line cut, each in pieces of its own that go on past the line's end
   pub inPieces : Recut (text "VOLT 5;VO" ∷ take [] ∷ text "LTA 6\n*C" ∷ text "LS\nVOLT?\n" ∷ take [] ∷ []) (asSent [] during ++ later)
-  pub cutInPieces : Recut (text "VOL" ∷ text "T 5" ∷ take [] ∷ text "\n*CLS\nVOLT?\n" ∷ take [] ∷ []) (asCut [] during ++ later)
+  pub cutInPieces : Recut (text "VOL" ∷ text "T 5" ∷ take [] ∷ text "\n*CLS\nVOLT?\n" ∷ take [] ∷ []) (asCut blank [] during ++ later)
 
 too-long : Cut [] tooLong 363 []
 unfolding lineRefusal cutLine powerUp after if_then_else_
 too-long =
     let long = overlong-is (mostLine + 1) in
-    let refused : lineRefusal (atEnd [] tooLong) ≡ 363 = rw long in
+    let refused : lineRefusal (atEnd blank [] tooLong) ≡ 363 = rw long in
     record {
       line = record { begins = (refl, refl); underWay = under-way (mostLine + 1); other = λ e. absurd (omega (arith, sym refused ∙ e)) };
       refusedBy = refused;
@@ -88,15 +89,15 @@ pub met3 : Met3
 unfolding if_then_else_ bytes same white printable digit letter wordByte small capital _>>=_ _>>_ check shortForm longForm matches
     afterSign fractionOf afterFraction exponentOf afterExponent lowering written numeralFrom decimalOf valueOf scaled suffixes noSuffix powerIn remains number switchedOn
     nearest sizeIn rounded sizeSide sideIn inPlaces decimal tenths eventBit
-    table settingAt atReset wideRange lowest highest within conflict examined accepted answerOf raised rises falls eventsAfter conditionIs atStart
-    cutAt trimEnd trim name placed bodyOf byFirst header spells settingRows otherRows rows fitsRow findRow
+    slots table settingAt atReset wideRange lowest highest narrow within conflict examined accepted answerOf raised rises falls eventsAfter conditionIs atStart
+    mayStand closes undoubled padded labelDeed cutAt quoteNext cutOpen trimEnd trim name placed bodyOf byFirst header numbered nodeMatches suffixIn spells settingRows otherRows rows fitsRow findRow secondOf onChannel findRole
     parameters least greatest findWord parameter readWord readFigure valueGiven settingDeed deedOf readUnit powerUp
     permitted changed replyTo inquiryText joined fitsAnswer reply perform
     attempt refuse runUnits interrupted finished unitsOf runLine endLine held byte piece taken reported happens after resultsOf moments
     inLine obeyed refusal joinUnits cutLine lineRefusal keep watchUnits watchLine watchByte watchPiece watchEvent watch watched
 met3 =
-    let two : lineRefusal (atEnd [] during) ≡ 113 = refl in
-    let three : lineRefusal (atEnd earlier atThird) ≡ 222 = refl in
+    let two : lineRefusal (atEnd blank [] during) ≡ 113 = refl in
+    let three : lineRefusal (atEnd blank earlier atThird) ≡ 222 = refl in
     record {
       second = record {
         line = record { begins = (refl, refl); underWay = refl; other = λ e. absurd (omega (arith, sym two ∙ e)) };

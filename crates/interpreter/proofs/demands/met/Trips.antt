@@ -13,23 +13,24 @@ use Rattle.registers.specs.Rounding.{switchedOn, nearest, sizeIn, rounded, size
 use Rattle.registers.specs.Answer.{inPlaces, decimal, tenths}
 use Rattle.registers.specs.Error.{eventBit}
 use Rattle.registers.specs.Queue.{mayBeQueued, queueable}
-use Rattle.registers.specs.Settings.{count, voltage, table, settingAt, atReset, wideRange, lowest, highest, within, conflict, examined, accepted, answerOf}
+use Rattle.registers.specs.Settings.{count, voltage, table, settingAt, atReset, wideRange, lowest, highest, within, conflict, examined, accepted, answerOf, slots, narrow}
 use Rattle.registers.specs.Group.{rises, falls, eventsAfter, conditionIs, possibleGroup}
 use Rattle.registers.specs.Status.{raised, locked, atStart, registersOf, possibleRegisters, possibleTrouble}
 use Rattle.registers.specs.declared.status.RegisterSet.the-variants.{Lock}
 use Rattle.registers.proofs.settings.Possible.{reset-possible}
-use Rattle.interpreter.specs.Cuts.{cutAt, trimEnd, trim}
-use Rattle.interpreter.specs.Header.{name, placed, header, spells, bodyOf, byFirst}
-use Rattle.interpreter.specs.Rows.{settingRows, otherRows, rows, fitsRow, findRow}
-use Rattle.interpreter.specs.Parameter.{parameters, least, greatest, findWord, parameter, valueGiven, settingDeed, deedOf, readFigure, readWord}
+use Rattle.registers.specs.Label.{mayStand, closes, undoubled, padded}
+use Rattle.interpreter.specs.Cuts.{cutAt, quoteNext, cutOpen, trimEnd, trim}
+use Rattle.interpreter.specs.Header.{name, placed, header, spells, bodyOf, byFirst, numbered, nodeMatches, suffixIn}
+use Rattle.interpreter.specs.Rows.{settingRows, otherRows, rows, fitsRow, findRow, secondOf, onChannel, findRole}
+use Rattle.interpreter.specs.Parameter.{labelDeed, parameters, least, greatest, findWord, parameter, valueGiven, settingDeed, deedOf, readFigure, readWord}
 use Rattle.interpreter.specs.Unit.{readUnit}
-use Rattle.interpreter.specs.Box.{Box, box, powerUp}
+use Rattle.interpreter.specs.Box.{Box, box, powerUp, blank}
 use Rattle.interpreter.specs.Perform.{permitted, changed, perform}
 use Rattle.interpreter.specs.Reply.{replyTo, inquiryText, joined, fitsAnswer, reply}
 use Rattle.interpreter.specs.Line.{attempt, refuse, runUnits, interrupted, finished, unitsOf, runLine, endLine, held, byte, piece}
 use Rattle.interpreter.specs.Events.{Event, take, condition, taken, reported, happens, possibleCore, possible, Own, after}
 use Rattle.interpreter.specs.Demand3.{refusal, lineRefusal, inLine}
-use Rattle.interpreter.specs.Demand2.{Spelling, Sends, Trip, Premises, sentBack, takenFrom}
+use Rattle.interpreter.specs.Demand2.{tabled, display, Spelling, Sends, Trip, Premises, sentBack, takenFrom}
 use Rattle.interpreter.proofs.Possible.{power-up-own}
 use Rattle.interpreter.proofs.demands.met.RefusedLines.{text}
 use Rattle.interpreter.proofs.demands.met.EveryRow.{trips, buffer, tripAt, PremisesAt, every-row}
@@ -53,7 +54,7 @@ sentInExam = text "VOLT 5.1" ∷ []
 
 -- and of one from a hand-made state: half a line, an answer without its newline, every event bit, and -350 twice
 abbrev other : Box
-other = box (record { settings = atReset; registers = registersOf atStart; line = bytes "VO"; overlong = false; answer = bytes "X" }) (record { events = 255; queue = 350 ∷ 350 ∷ [] })
+other = box (record { settings = atReset; registers = registersOf atStart; line = bytes "VO"; overlong = false; answer = bytes "X"; memory = blank }) (record { events = 255; queue = 350 ∷ 350 ∷ [] })
 
 abbrev restOfLine : List Event
 restOfLine = text "LT?" ∷ []
@@ -63,7 +64,14 @@ sentOther = text "VOLT 0.0" ∷ []
 
 other-own : Own other
 unfolding possible possibleCore possibleRegisters possibleTrouble possibleGroup mayBeQueued queueable powerUp atStart bytes
-other-own = record { could = rw reset-possible; values = power-up-own .values }
+other-own = record { could = rw reset-possible; values = (power-up-own blank) .values }
+
+-- of the display's text, which has a separator and a blank in it
+abbrev showing : List Event
+showing = text "DISP:TEXT 'a; b'\n:DISP:TEXT?" ∷ []
+
+abbrev sentText : List Event
+sentText = text "DISP:TEXT \"a; b\"" ∷ []
 
 -- and of one that lacks the lock's premise alone, and is refused for it
 abbrev unlocked : List Event
@@ -73,31 +81,32 @@ abbrev sentLocked : List Event
 sentLocked = condition Lock 1 ∷ text "VOLT 0.0" ∷ []
 
 pub record LockMatters : Type 0 where
-  pub trip : Trip powerUp voltage (bytes "0.0") buffer (takenFrom powerUp unlocked [] buffer) unlocked [] sentLocked
-  pub locks : locked (after powerUp (sentBack unlocked [] buffer sentLocked) .core .registers) ≡ true
-  pub refusedBy : lineRefusal (after powerUp (sentBack unlocked [] buffer sentLocked)) ≡ 221
+  pub trip : Trip (powerUp blank) (tabled voltage) (bytes "0.0") buffer (takenFrom (powerUp blank) unlocked [] buffer) unlocked [] sentLocked
+  pub locks : locked (after (powerUp blank) (sentBack unlocked [] buffer sentLocked) .core .registers) ≡ true
+  pub refusedBy : lineRefusal (after (powerUp blank) (sentBack unlocked [] buffer sentLocked)) ≡ 221
 
 pub record Met2 : Type 0 where
   pub everyRow : (i : ℕ) → i < count → PremisesAt i (tripAt trips i)
-  pub oneMore : Premises powerUp voltage (bytes "0.0") buffer (takenFrom powerUp before early buffer) before early late
-  pub examOn : examined (after powerUp inExam .core .settings) ≡ true
-  pub examTrip : Premises powerUp voltage (bytes "5.1") buffer (takenFrom powerUp inExam [] buffer) inExam [] sentInExam
-  pub otherTrip : Premises other voltage (bytes "0.0") buffer (takenFrom other restOfLine [] buffer) restOfLine [] sentOther
+  pub oneMore : Premises (powerUp blank) (tabled voltage) (bytes "0.0") buffer (takenFrom (powerUp blank) before early buffer) before early late
+  pub examOn : examined (after (powerUp blank) inExam .core .settings) ≡ true
+  pub examTrip : Premises (powerUp blank) (tabled voltage) (bytes "5.1") buffer (takenFrom (powerUp blank) inExam [] buffer) inExam [] sentInExam
+  pub otherTrip : Premises other (tabled voltage) (bytes "0.0") buffer (takenFrom other restOfLine [] buffer) restOfLine [] sentOther
+  pub textTrip : Premises (powerUp blank) display (bytes "\"a; b\"") buffer (takenFrom (powerUp blank) showing [] buffer) showing [] sentText
   pub lockMatters : LockMatters
 
 pub met2 : Met2
 unfolding if_then_else_ bytes same white printable digit letter wordByte small capital _>>=_ _>>_ check shortForm longForm matches
     afterSign fractionOf afterFraction exponentOf afterExponent lowering written numeralFrom decimalOf valueOf scaled suffixes noSuffix powerIn remains number switchedOn
     nearest sizeIn rounded sizeSide sideIn inPlaces decimal tenths eventBit
-    table settingAt atReset wideRange lowest highest within conflict examined accepted answerOf raised rises falls eventsAfter conditionIs atStart
-    cutAt trimEnd trim name placed bodyOf byFirst header spells settingRows otherRows rows fitsRow findRow
+    slots table settingAt atReset wideRange lowest highest narrow within conflict examined accepted answerOf raised rises falls eventsAfter conditionIs atStart
+    mayStand closes undoubled padded labelDeed cutAt quoteNext cutOpen trimEnd trim name placed bodyOf byFirst header numbered nodeMatches suffixIn spells settingRows otherRows rows fitsRow findRow secondOf onChannel findRole
     parameters least greatest findWord parameter readWord readFigure valueGiven settingDeed deedOf readUnit powerUp
     permitted changed replyTo inquiryText joined fitsAnswer reply perform
     attempt refuse runUnits interrupted finished unitsOf runLine endLine held byte piece taken reported happens after
     inLine refusal lineRefusal
 met2 =
-    let spelled : Spelling voltage (bytes "VOLT") = record { read = _; reads = refl; sets = refl; row = refl } in
-    let sent : (b : Box) (a : Text) → b .core .overlong ≡ false → b .core .line ≡ bytes "VOLT" ++ (bytes " " ++ (a ++ [])) → Sends voltage a b =
+    let spelled : Spelling (tabled voltage) (bytes "VOLT") = record { read = _; reads = refl; sets = refl; row = refl } in
+    let sent : (b : Box) (a : Text) → b .core .overlong ≡ false → b .core .line ≡ bytes "VOLT" ++ (bytes " " ++ (a ++ [])) → Sends (tabled voltage) a b =
     λ b a w l. record {
       whole = w;
       left = [];
@@ -115,10 +124,10 @@ met2 =
       everyRow = every-row;
       oneMore = record {
         trip = record {
-          own = power-up-own;
+          own = (power-up-own blank);
           first = refl;
           second = refl;
-          asks = record { whole = refl; alone = refl; path = _; asks = refl };
+          asks = record { whole = refl; alone = refl; path = _; text = _; asks = refl };
           took = record { number = refl; bytes = refl };
           sends = record {
             whole = refl;
@@ -139,10 +148,10 @@ met2 =
       examOn = refl;
       examTrip = record {
         trip = record {
-          own = power-up-own;
+          own = (power-up-own blank);
           first = refl;
           second = refl;
-          asks = record { whole = refl; alone = refl; path = _; asks = refl };
+          asks = record { whole = refl; alone = refl; path = _; text = _; asks = refl };
           took = record { number = refl; bytes = refl };
           sends = sent _ (bytes "5.1") refl refl;
         };
@@ -153,18 +162,41 @@ met2 =
           own = other-own;
           first = refl;
           second = refl;
-          asks = record { whole = refl; alone = refl; path = _; asks = refl };
+          asks = record { whole = refl; alone = refl; path = _; text = _; asks = refl };
           took = record { number = refl; bytes = refl };
           sends = sent _ (bytes "0.0") refl refl;
         };
         free = refl;
       };
-      lockMatters = record {
+      textTrip = record {
         trip = record {
-          own = power-up-own;
+          own = (power-up-own blank);
           first = refl;
           second = refl;
-          asks = record { whole = refl; alone = refl; path = _; asks = refl };
+          asks = record { whole = refl; alone = refl; path = _; text = _; asks = refl };
+          took = record { number = refl; bytes = refl };
+          sends = record {
+            whole = refl;
+            left = [];
+            header = bytes "DISP:TEXT";
+            gap = bytes " ";
+            right = [];
+            line = refl;
+            spelling = record { read = _; reads = refl; sets = refl; row = refl };
+            leftWhite = refl;
+            gapWhite = refl;
+            gapThere = refl;
+            rightWhite = refl;
+          };
+        };
+        free = refl;
+      };
+      lockMatters = record {
+        trip = record {
+          own = (power-up-own blank);
+          first = refl;
+          second = refl;
+          asks = record { whole = refl; alone = refl; path = _; text = _; asks = refl };
           took = record { number = refl; bytes = refl };
           sends = sent _ (bytes "0.0") refl refl;
         };

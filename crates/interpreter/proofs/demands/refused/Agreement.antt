@@ -14,14 +14,14 @@ use Rattle.registers.specs.Status.{Trouble, raised}
 use Rattle.registers.specs.declared.status.RegisterSet.{RegisterSet}
 use Rattle.interpreter.specs.Box.{Core, Box, box, withLine, withAnswer, raise}
 use Rattle.interpreter.specs.Unit.{Read, readUnit}
-use Rattle.interpreter.specs.Perform.{permitted, afterQuery, perform}
+use Rattle.interpreter.specs.Perform.{permitted, afterQuery, setUp, perform}
 use Rattle.interpreter.specs.Reply.{replyTo, reply}
 use Rattle.interpreter.specs.Line.{Obeyed, attempt, refuse, next, runUnits, unitsOf, interrupted, finished, runLine, endLine, atNewline, held, byte, piece}
-use Rattle.interpreter.specs.Events.{Event, started, received, take, condition, look, Happened, Result, taken, reported, happens, after}
+use Rattle.interpreter.specs.Events.{Event, started, received, take, condition, look, altered, mislent, Happened, Result, taken, reported, happens, after}
 use Rattle.interpreter.specs.Histories.{isTake, resultsOf, answers}
 use Rattle.interpreter.specs.Demand3.{Watch, neither, asked, cleared, thenWatch, watchDeed, watchRead, watchNext, watchUnits, watchLine, watchByte, watchPiece, watchEvent, watch, Agree, AgreeAnswers}
 use Rattle.interpreter.specs.declared.deed.Deed.{Deed}
-use Rattle.interpreter.specs.declared.deed.Deed.the-variants.{Change, Complete, Clear, Query, Inquire}
+use Rattle.interpreter.specs.declared.deed.Deed.the-variants.{Change, Complete, Clear, Query, Inquire, Saving}
 use Rattle.interpreter.proofs.Choices.{if₂}
 
 -- what holds of two boxes with one core holds of two whose cores are equal
@@ -46,11 +46,11 @@ Rest run go = (path : List Text) (c : Core) (t t′ : Trouble) → Agree (go pat
 abbrev pub leaving : List Text → Checked Box → Checked Obeyed
 leaving path m = m >>= λ b. passed (record { path = path; box = b })
 
-abbrev pub obeys : Core → Deed → List Text → Trouble → Checked Obeyed
-obeys c d path s = permitted d c >> leaving path (perform d (box c s))
+abbrev pub obeys : Core → Deed → Text → List Text → Trouble → Checked Obeyed
+obeys c d x path s = permitted d c >> leaving path (perform d x (box c s))
 
 abbrev pub attempted : Core → Checked Read → Trouble → Checked Obeyed
-attempted c m s = m >>= λ r. obeys c (r .deed) (r .path) s
+attempted c m s = m >>= λ r. obeys c (r .deed) (r .text) (r .path) s
 
 module _ (run : List Text → Box → Box) (go : List Text → Box → Watch) (ih : Rest run go) (c : Core) (t t′ : Trouble) where
   query-agree : (path : List Text) (r : Checked Core)
@@ -70,22 +70,32 @@ module _ (run : List Text → Box → Box) (go : List Text → Box → Watch) (i
   change-agree (passed u) path d = ih path d t t′
   change-agree (refused n) path d = refuse-core n c t t′
 
-  deed-agree : (d : Deed) (path : List Text)
-      → Agree (thenWatch (watchDeed d) (watchNext go (obeys c d path t)))
-      (next run (box c t) (obeys c d path t)) (next run (box c t′) (obeys c d path t′))
+  -- *SAV or *RCL, or its refusal
+  setup-agree : (m : Checked (Unit {0})) (path : List Text) (r : Checked Core)
+      → Agree (watchNext go (m >> leaving path (r >>= λ d. passed (box d t))))
+      (next run (box c t) (m >> leaving path (r >>= λ d. passed (box d t))))
+      (next run (box c t′) (m >> leaving path (r >>= λ d. passed (box d t′))))
+  unfolding _>>_
+  setup-agree (passed u) path r = query-agree path r
+  setup-agree (refused n) path r = refuse-core n c t t′
+
+  deed-agree : (d : Deed) (x : Text) (path : List Text)
+      → Agree (thenWatch (watchDeed d) (watchNext go (obeys c d x path t)))
+      (next run (box c t) (obeys c d x path t)) (next run (box c t′) (obeys c d x path t′))
   unfolding permitted perform _>>=_ _>>_ check
-  deed-agree (Change x) path = change-agree (permitted (Change x) c) path _
-  deed-agree Complete path = ih path c _ _
-  deed-agree Clear path = refl
-  deed-agree (Query q) path = query-agree path (reply (replyTo q c) (afterQuery q c))
-  deed-agree (Inquire q) path = tt
+  deed-agree (Change y) x path = change-agree (permitted (Change y) c) path _
+  deed-agree Complete x path = ih path c _ _
+  deed-agree Clear x path = refl
+  deed-agree (Query q) x path = query-agree path (reply (replyTo q c) (afterQuery q c))
+  deed-agree (Inquire q) x path = tt
+  deed-agree (Saving y p) x path = setup-agree (permitted (Saving y p) c) path (setUp y p c)
 
   read-agree : (m : Checked Read)
       → Agree (thenWatch (watchRead m) (watchNext go (attempted c m t)))
       (next run (box c t) (attempted c m t)) (next run (box c t′) (attempted c m t′))
   unfolding _>>=_
   read-agree (refused n) = refuse-core n c t t′
-  read-agree (passed r) = deed-agree (r .deed) (r .path)
+  read-agree (passed r) = deed-agree (r .deed) (r .text) (r .path)
 
 units-agree : (us path : List Text) (c : Core) (t t′ : Trouble)
     → Agree (watchUnits us path (box c t)) (runUnits us path (box c t)) (runUnits us path (box c t′))
@@ -163,6 +173,8 @@ event-agree (received xs) c t t′ = piece-agree xs c t t′
 event-agree (take buffer) c t t′ = taken-alike buffer c t t′ .0
 event-agree (condition r n) c t t′ = reported-core r n c t t′
 event-agree look c t t′ = refl
+event-agree (altered i x) c t t′ = refl
+event-agree (mislent buffer) c t t′ = refl
 
 -- ---- histories
 
@@ -195,6 +207,8 @@ answer-more (received xs) w c t t′ x y f = f
 answer-more (take buffer) w c t t′ x y f = one-more w _ _ x y (taken-alike buffer c t t′ .1) f
 answer-more (condition r n) w c t t′ x y f = f
 answer-more look w c t t′ x y f = f
+answer-more (altered i z) w c t t′ x y f = f
+answer-more (mislent buffer) w c t t′ x y f = f
 
 pub history-agree : (es : List Event) (c : Core) (t t′ : Trouble) → AgreeBoth (watch (box c t) es) es (box c t) (box c t′)
 unfolding watch after resultsOf

@@ -12,7 +12,8 @@ use lib.Seq.{take-at}
 use borrow.Author.Tests.{eqb-true}
 use Rattle.registers.specs.Text.{Text, every, white}
 use Rattle.registers.specs.Check.{Checked, refused, passed}
-use Rattle.interpreter.specs.Cuts.{joinFirst, cutAt}
+use Rattle.interpreter.specs.Cuts.{joinFirst, quoteNext, separates, cutOpen}
+use Rattle.registers.proofs.Tests.{and-both}
 use Rattle.interpreter.specs.Box.{Box, box, withLine}
 use Rattle.interpreter.specs.Line.{Obeyed, attempt, unitsOf, atNewline}
 use Rattle.interpreter.specs.Demand3.{obeyedNext, obeyed, joinUnits, cutLine}
@@ -20,7 +21,7 @@ use Rattle.interpreter.proofs.Choices.{if-elim}
 use Rattle.interpreter.proofs.demands.refused.Cutting.{cut}
 use Rattle.interpreter.proofs.demands.refused.Keeping.{cutTo}
 
--- ---- a text cut at every `;` and joined again
+-- ---- a text cut at every `;` outside quotes and joined again
 
 join-first : (b : ℕ) (us : List Text) → joinUnits (joinFirst b us) ≡ b ∷ joinUnits us
 unfolding joinUnits
@@ -32,10 +33,10 @@ join-first b (u ∷ v ∷ us) = refl
 abbrev Some : List Text → Type 0
 Some x = (u : Text) × ((us : List Text) × (x ≡ u ∷ us))
 
-cut-some : (s : ℕ) (t : Text) → Some (cutAt s t)
-unfolding cutAt
-cut-some s [] = ([], ([], refl))
-cut-some s (b ∷ bs) = if-elim Some (eqb b s) (λ _. ([], (cutAt s bs, refl))) (λ _. go (cutAt s bs))
+cut-some : (s mark : ℕ) (t : Text) → Some (cutOpen s mark t)
+unfolding cutOpen
+cut-some s mark [] = ([], ([], refl))
+cut-some s mark (b ∷ bs) = if-elim Some (separates s mark b) (λ _. ([], (cutOpen s 0 bs, refl))) (λ _. go (cutOpen s (quoteNext mark b) bs))
   where
     go : (us : List Text) → Some (joinFirst b us)
     go [] = (b ∷ [], ([], refl))
@@ -45,13 +46,14 @@ join-none : (us : List Text) → Some us → joinUnits ([] ∷ us) ≡ code ";" 
 unfolding joinUnits
 join-none us h = rw (h .1 .1)
 
-join-cut : (t : Text) → joinUnits (cutAt (code ";") t) ≡ t
-unfolding cutAt joinUnits
-join-cut [] = refl
-join-cut (b ∷ bs) =
-    if-elim (λ (x : List Text). joinUnits x ≡ b ∷ bs) (eqb b (code ";"))
-    (λ e. join-none (cutAt (code ";") bs) (cut-some (code ";") bs) ∙ ap₂ _∷_ (sym (eqb-true b (code ";") e)) (join-cut bs))
-    (λ _. join-first b (cutAt (code ";") bs) ∙ ap (λ (y : Text). b ∷ y) (join-cut bs))
+join-cut : (mark : ℕ) (t : Text) → joinUnits (cutOpen (code ";") mark t) ≡ t
+unfolding cutOpen joinUnits
+join-cut mark [] = refl
+join-cut mark (b ∷ bs) =
+    if-elim (λ (x : List Text). joinUnits x ≡ b ∷ bs) (separates (code ";") mark b)
+    (λ e. join-none (cutOpen (code ";") 0 bs) (cut-some (code ";") 0 bs)
+    ∙ ap₂ _∷_ (sym (eqb-true b (code ";") (and-both (eqb mark 0) (eqb b (code ";")) e .1))) (join-cut 0 bs))
+    (λ _. join-first b (cutOpen (code ";") (quoteNext mark b) bs) ∙ ap (λ (y : Text). b ∷ y) (join-cut (quoteNext mark b) bs))
 
 -- ---- the obeyed units are the first ones
 
@@ -81,10 +83,10 @@ units-start : (line : Text) (b : Box) → Starts (joinUnits (obeyed (unitsOf lin
 unfolding unitsOf obeyed joinUnits
 units-start line b =
     if-elim (λ (us : List Text). Starts (joinUnits (obeyed us [] b)) line) (every white line) (λ _. (line, refl)) (λ _.
-    let us = cutAt (code ";") line in
+    let us = cutOpen (code ";") 0 line in
     let o = obeyed-starts us [] b in
     let j = join-starts (obeyed us [] b) (o .0) in
-    (j .0, sym (join-cut line) ∙ ap joinUnits (o .1) ∙ j .1))
+    (j .0, sym (join-cut 0 line) ∙ ap joinUnits (o .1) ∙ j .1))
 
 cut-starts : (b : Box) → Starts (cutLine b) (b .core .line)
 unfolding cutLine

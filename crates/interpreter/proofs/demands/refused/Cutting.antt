@@ -1,5 +1,5 @@
 -- Demand 3, at the newline: a line that is refused by a number other than -430, and the same line cut to the units that were obeyed,
--- leave the same core. The cut line's units are the obeyed ones, since none of them has a `;` and the first is not blank; and the refusal
+-- leave the same core. The cut line's units are the obeyed ones, since none of them has a `;` outside quotes and the first is not blank; and the refusal
 -- changes no core.
 use mathlib.Core.Path.{_≡_, refl, sym, _∙_, ap}
 use mathlib.Core.Bool.{Bool, true, false, not, false≢true}
@@ -12,7 +12,7 @@ use Rattle.registers.specs.Text.{Text, if_then_else_, every, white, empty, afte
 use Rattle.registers.specs.Check.{Checked, refused, passed, _>>=_, _>>_, check}
 use Rattle.registers.specs.declared.settings.Settings.{Settings}
 use Rattle.registers.proofs.Tests.{and-both, and-true}
-use Rattle.interpreter.specs.Cuts.{cutAt}
+use Rattle.interpreter.specs.Cuts.{cutOpen}
 use Rattle.interpreter.specs.Box.{Box, box, withLine}
 use Rattle.interpreter.specs.Unit.{allowed, Read, readUnit}
 use Rattle.interpreter.specs.Line.{Obeyed, attempt, refuse, next, runUnits, unitsOf, interrupted, finished, runLine, endLine, atNewline}
@@ -20,7 +20,7 @@ use Rattle.interpreter.specs.Demand3.{obeyedNext, obeyed, refusalNext, r
 use Rattle.interpreter.proofs.Choices.{if-elim}
 use Rattle.interpreter.proofs.Lists.{is-empty}
 use Rattle.interpreter.proofs.header.Grammar.{header-none}
-use Rattle.interpreter.proofs.Separators.{free, cut-free, cut-more, cut-one}
+use Rattle.interpreter.proofs.cuts.Parts.{Parted, cut-parted, cut-more, cut-one}
 use Rattle.interpreter.proofs.demands.refused.Agreement.{over-cores, finished-core}
 
 -- the same box, its waiting line cut to the units that will be obeyed
@@ -51,12 +51,11 @@ units-cut (u ∷ us) path b h = next-cut u us path b (λ p c k. units-cut us p c
 -- ---- the cut line's units are the units that were obeyed
 
 -- units joined by `;` and cut again
-cut-joined : (u : Text) (us : List Text) → every (free (code ";")) (u ∷ us) ≡ true → cutAt (code ";") (joinUnits (u ∷ us)) ≡ u ∷ us
+cut-joined : (u : Text) (us : List Text) → Parted (code ";") 0 (u ∷ us) → cutOpen (code ";") 0 (joinUnits (u ∷ us)) ≡ u ∷ us
 unfolding joinUnits
-cut-joined u [] t = cut-one (code ";") u (and-both (free (code ";") u) _ t .0)
+cut-joined u [] t = cut-one (code ";") 0 u (t .0)
 cut-joined u (v ∷ us) t =
-    let p = and-both (free (code ";") u) _ t in
-    cut-more (code ";") u (joinUnits (v ∷ us)) (p .0) ∙ ap (λ (x : List Text). u ∷ x) (cut-joined v us (p .1))
+    cut-more (code ";") 0 u (joinUnits (v ∷ us)) (t .0) (t .1 refl) ∙ ap (λ (x : List Text). u ∷ x) (cut-joined v us (t .2))
 
 -- ---- a unit that is obeyed is not blank
 
@@ -94,15 +93,21 @@ visible-first (w ∷ us) path b = go (every white w) refl
     go true q = rw (blank-refused (b .core .settings) path w q .1)
     go false q = visible q (attempt path b w)
 
--- what holds of every unit holds of every unit that is obeyed
-every-obeyed : (p : Text → Bool) (us path : List Text) (b : Box) → every p us ≡ true → every p (obeyed us path b) ≡ true
+-- where units are obeyed there are units
+obeyed-some : (us path : List Text) (b : Box) → empty (obeyed us path b) ≡ false → empty us ≡ false
 unfolding obeyed
-every-obeyed p [] path b t = refl
-every-obeyed p (u ∷ us) path b t = go (attempt path b u) (λ q c. every-obeyed p us q c (and-both (p u) _ t .1))
+obeyed-some [] path b e = e
+obeyed-some (u ∷ us) path b e = refl
+
+-- the units that are obeyed are parted as all units are
+parted-obeyed : (s mark : ℕ) (us path : List Text) (b : Box) → Parted s mark us → Parted s mark (obeyed us path b)
+unfolding obeyed
+parted-obeyed s mark [] path b t = tt
+parted-obeyed s mark (u ∷ us) path b t = go (attempt path b u) (λ q c. parted-obeyed s 0 us q c (t .2))
   where
-    go : (r : Checked Obeyed) → ((q : List Text) (c : Box) → every p (obeyed us q c) ≡ true) → every p (obeyedNext (λ q c. obeyed us q c) u r) ≡ true
-    go (refused n) ih = refl
-    go (passed o) ih = and-true (and-both (p u) _ t .0) (ih (o .path) (o .box))
+    go : (r : Checked Obeyed) → ((q : List Text) (c : Box) → Parted s 0 (obeyed us q c)) → Parted s mark (obeyedNext (λ q c. obeyed us q c) u r)
+    go (refused n) ih = tt
+    go (passed o) ih = (t .0, (λ e. t .1 (obeyed-some us (o .path) (o .box) e)), ih (o .path) (o .box))
 
 -- a start of a blank text is blank
 blank-start : (p : ℕ → Bool) (u v : Text) → every p (u ++ v) ≡ true → every p u ≡ true
@@ -115,17 +120,16 @@ blank-joined u [] t = t
 blank-joined u (v ∷ us) t = blank-start white u (code ";" ∷ joinUnits (v ∷ us)) t
 
 -- units joined, and cut as a line
-units-joined : (us : List Text) → every (free (code ";")) us ≡ true → visibleFirst us ≡ true → unitsOf (joinUnits us) ≡ us
+units-joined : (us : List Text) → Parted (code ";") 0 us → visibleFirst us ≡ true → unitsOf (joinUnits us) ≡ us
 unfolding unitsOf joinUnits if_then_else_
 units-joined [] t h = refl
 units-joined (u ∷ us) t h =
     if-elim (λ (x : List Text). x ≡ u ∷ us) (every white (joinUnits (u ∷ us)))
     (λ q. absurd (false≢true (rw (blank-joined u us q) at h))) (λ _. cut-joined u us t)
 
-units-free : (line : Text) → every (free (code ";")) (unitsOf line) ≡ true
+units-parted : (line : Text) → Parted (code ";") 0 (unitsOf line)
 unfolding unitsOf
-units-free line =
-    if-elim (λ (us : List Text). every (free (code ";")) us ≡ true) (every white line) (λ _. refl) (λ _. cut-free (code ";") line)
+units-parted line = if-elim (Parted (code ";") 0) (every white line) (λ _. tt) (λ _. cut-parted (code ";") 0 line)
 
 -- ---- the line
 
@@ -135,7 +139,7 @@ run-cut : (line : Text) (b : Box) → (refusal (unitsOf line) [] b ≡ 430 → �
 unfolding runLine if_then_else_
 run-cut line b h =
     let us = obeyed (unitsOf line) [] b in
-    let e = units-joined us (every-obeyed (free (code ";")) (unitsOf line) [] b (units-free line)) (visible-first (unitsOf line) [] b) in
+    let e = units-joined us (parted-obeyed (code ";") 0 (unitsOf line) [] b (units-parted line)) (visible-first (unitsOf line) [] b) in
     over-cores (λ x y. finished x .core ≡ finished y .core) finished-core _ _ (units-cut (unitsOf line) [] b h)
     ∙ ap (λ (vs : List Text). finished (runUnits vs [] b) .core) (sym e)
 

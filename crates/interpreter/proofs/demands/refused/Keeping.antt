@@ -18,7 +18,7 @@ use Rattle.registers.proofs.Tests.{and-both}
 use Rattle.registers.specs.declared.status.RegisterSet.{RegisterSet}
 use Rattle.interpreter.specs.Box.{Core, Box, box, withLine, mostLine}
 use Rattle.interpreter.specs.Line.{held, byte, piece}
-use Rattle.interpreter.specs.Events.{Event, started, received, take, condition, look, Happened, Result, taken, reported, happens, after}
+use Rattle.interpreter.specs.Events.{Event, started, received, take, condition, look, altered, mislent, Happened, Result, taken, reported, happens, after}
 use Rattle.interpreter.specs.Histories.{resultsOf}
 use Rattle.interpreter.specs.Demand3.{inLine, keep}
 use Rattle.interpreter.proofs.Choices.{if₂}
@@ -117,6 +117,14 @@ module _ (k : ℕ) (most : k ≤ mostLine) where
   unfolding happens cutTo
   look-blind b = (refl, refl, refl)
 
+  altered-blind : (i x : ℕ) (b : Box) → Blind b (happens (cutTo k b) (altered i x)) (happens b (altered i x))
+  unfolding happens cutTo
+  altered-blind i x b = (refl, refl, refl)
+
+  mislent-blind : (buffer : Text) (b : Box) → Blind b (happens (cutTo k b) (mislent buffer)) (happens b (mislent buffer))
+  unfolding happens cutTo
+  mislent-blind buffer b = (refl, refl, refl)
+
   -- ---- the events of a line, with its bytes cut to the first k
 
   abbrev left : Box → ℕ
@@ -162,3 +170,5 @@ module _ (k : ℕ) (most : k ≤ mostLine) where
   during-kept b (take buffer ∷ es) t = blind-first b (take buffer) es (λ j. refl) (taken-blind buffer b) (during-kept _ es t)
   during-kept b (condition x n ∷ es) t = blind-first b (condition x n) es (λ j. refl) (reported-blind x n b) (during-kept _ es t)
   during-kept b (look ∷ es) t = blind-first b look es (λ j. refl) (look-blind b) (during-kept _ es t)
+  during-kept b (altered i x ∷ es) t = blind-first b (altered i x) es (λ j. refl) (altered-blind i x b) (during-kept _ es t)
+  during-kept b (mislent buffer ∷ es) t = blind-first b (mislent buffer) es (λ j. refl) (mislent-blind buffer b) (during-kept _ es t)

@@ -10,13 +10,13 @@ use Rattle.registers.specs.Check.{Checked, refused, passed, _>>=_, _>>_, check}
 use Rattle.registers.specs.Status.{Trouble, raised}
 use Rattle.interpreter.specs.Box.{Core, Box, box, withLine, withAnswer}
 use Rattle.interpreter.specs.Unit.{Read, readUnit}
-use Rattle.interpreter.specs.Perform.{permitted, afterQuery, perform}
+use Rattle.interpreter.specs.Perform.{permitted, afterQuery, setUp, perform}
 use Rattle.interpreter.specs.Reply.{replyTo, reply}
 use Rattle.interpreter.specs.Line.{attempt, unitsOf, interrupted}
-use Rattle.interpreter.specs.Events.{Event, started, received, take, condition, look}
+use Rattle.interpreter.specs.Events.{Event, started, received, take, condition, look, altered, mislent}
 use Rattle.interpreter.specs.Demand3.{Watch, neither, asked, cleared, thenWatch, watchDeed, watchRead, watchNext, watchUnits, watchLine, watchByte, watchPiece, watchEvent, watch, Agree}
 use Rattle.interpreter.specs.declared.deed.Deed.{Deed}
-use Rattle.interpreter.specs.declared.deed.Deed.the-variants.{Change, Complete, Clear, Query, Inquire}
+use Rattle.interpreter.specs.declared.deed.Deed.the-variants.{Change, Complete, Clear, Query, Inquire, Saving}
 use Rattle.interpreter.proofs.Choices.{if₂}
 use Rattle.interpreter.proofs.demands.refused.Agreement.{over-cores, leaving, obeys, attempted, byte-agree, event-agree}
 
@@ -36,20 +36,27 @@ module _ (go : List Text → Box → Watch) (ih : (path : List Text) (c : Core) 
   change-watch (passed u) path d = ih path d t t′
   change-watch (refused n) path d = refl
 
-  deed-watch : (d : Deed) (path : List Text)
-      → thenWatch (watchDeed d) (watchNext go (obeys c d path t)) ≡ thenWatch (watchDeed d) (watchNext go (obeys c d path t′))
+  setup-watch : (m : Checked (Unit {0})) (path : List Text) (r : Checked Core)
+      → watchNext go (m >> leaving path (r >>= λ d. passed (box d t))) ≡ watchNext go (m >> leaving path (r >>= λ d. passed (box d t′)))
+  unfolding _>>_
+  setup-watch (passed u) path r = query-watch path r
+  setup-watch (refused n) path r = refl
+
+  deed-watch : (d : Deed) (x : Text) (path : List Text)
+      → thenWatch (watchDeed d) (watchNext go (obeys c d x path t)) ≡ thenWatch (watchDeed d) (watchNext go (obeys c d x path t′))
   unfolding permitted perform _>>=_ _>>_ check
-  deed-watch (Change x) path = change-watch (permitted (Change x) c) path _
-  deed-watch Complete path = ih path c _ _
-  deed-watch Clear path = refl
-  deed-watch (Query q) path = query-watch path (reply (replyTo q c) (afterQuery q c))
-  deed-watch (Inquire q) path = refl
+  deed-watch (Change y) x path = change-watch (permitted (Change y) c) path _
+  deed-watch Complete x path = ih path c _ _
+  deed-watch Clear x path = refl
+  deed-watch (Query q) x path = query-watch path (reply (replyTo q c) (afterQuery q c))
+  deed-watch (Inquire q) x path = refl
+  deed-watch (Saving y p) x path = setup-watch (permitted (Saving y p) c) path (setUp y p c)
 
   read-watch : (m : Checked Read)
       → thenWatch (watchRead m) (watchNext go (attempted c m t)) ≡ thenWatch (watchRead m) (watchNext go (attempted c m t′))
   unfolding _>>=_
   read-watch (refused n) = refl
-  read-watch (passed r) = deed-watch (r .deed) (r .path)
+  read-watch (passed r) = deed-watch (r .deed) (r .text) (r .path)
 
 units-watch : (us path : List Text) (c : Core) (t t′ : Trouble) → watchUnits us path (box c t) ≡ watchUnits us path (box c t′)
 unfolding watchUnits attempt
@@ -98,6 +105,8 @@ event-watch (received xs) c t t′ = piece-watch xs c t t′
 event-watch (take buffer) c t t′ = refl
 event-watch (condition x n) c t t′ = refl
 event-watch look c t t′ = refl
+event-watch (altered i x) c t t′ = refl
+event-watch (mislent buffer) c t t′ = refl
 
 pub history-watch : (es : List Event) (c : Core) (t t′ : Trouble) → watch (box c t) es ≡ watch (box c t′) es
 unfolding watch

@@ -15,7 +15,7 @@ use Rattle.registers.proofs.Tests.{and-both}
 use Rattle.registers.specs.declared.status.RegisterSet.{RegisterSet}
 use Rattle.interpreter.specs.Box.{Core, Box, box, mostLine}
 use Rattle.interpreter.specs.Line.{held, byte, piece}
-use Rattle.interpreter.specs.Events.{Event, started, received, take, condition, look, Happened, taken, reported, happens, after}
+use Rattle.interpreter.specs.Events.{Event, started, received, take, condition, look, altered, mislent, Happened, taken, reported, happens, after}
 use Rattle.interpreter.specs.Demand3.{inLine}
 use Rattle.interpreter.proofs.Choices.{if-elim}
 use Rattle.interpreter.proofs.line.Pieces.{plain, byte-plain}
@@ -79,6 +79,8 @@ quiet b (received xs ∷ es) t =
 quiet b (take buffer ∷ es) t = quiet-then (taken-quiet buffer b) (quiet _ es t)
 quiet b (condition x n ∷ es) t = quiet-then (reported-quiet x n b) (quiet _ es t)
 quiet b (look ∷ es) t = quiet b es t
+quiet b (altered i x ∷ es) t = quiet-then (record { settings = refl; answer = waits refl }) (quiet _ es t)
+quiet b (mislent buffer ∷ es) t = quiet b es t
 
 -- ---- a take that succeeds
 

@@ -1,7 +1,7 @@
 -- Demand 2, the round trip: every answer is read back as the value that it stands for, and has no byte that parts units or parameters.
 -- For tenths that is a law, for all other settings one computed test over every value.
 use mathlib.Core.Path.{_≡_, refl, ap}
-use mathlib.Core.Bool.{Bool, true, false, not, _&&_, false≢true}
+use mathlib.Core.Bool.{Bool, true, false, not, _&&_, false≢true, _||_}
 use Prim.Native.Nat.{ℕ, suc, _+_, _≤_, _<_, _^_}
 use Prim.Native.Char.{code}
 use native.Mathlib.Omega.{arith}
@@ -17,7 +17,7 @@ use Rattle.registers.specs.Number.{afterSign, fractionOf, afterFraction, expone
 use Rattle.registers.specs.Suffix.{suffixes, noSuffix, powerIn, remains}
 use Rattle.registers.specs.Rounding.{switchedOn, nearest, sizeIn, rounded, sizeSide, sideIn}
 use Rattle.registers.specs.Answer.{inPlaces, decimal, tenths, signedText}
-use Rattle.registers.specs.Settings.{count, Kind, bool, words, number, table, settingAt, kindOf, quantityOf, lowestOf, highestOf, voltage, twelveVolts, wideRange, lowest, highest, within, answerOf, onStep, accepted}
+use Rattle.registers.specs.Settings.{count, Kind, bool, words, number, table, settingAt, kindOf, quantityOf, lowestOf, highestOf, voltage, voltage2, range, range2, twelveVolts, wideRange, lowest, highest, within, answerOf, onStep, accepted, slots, narrow}
 use Rattle.registers.specs.declared.rounding.Side.{Side}
 use Rattle.registers.specs.declared.rounding.Side.the-variants.{On, Below, Above}
 use Rattle.registers.specs.declared.settings.Settings.{Settings}
@@ -81,7 +81,7 @@ covered q (number k low high) = if eqb k 10 then ltb (sizeOf (number k low high)
 all-covered : below count (λ i. covered (quantityOf i) (kindOf i)) ≡ true
 unfolding covered tested readsBack plainText readTo gives sameZ if_then_else_ bytes same printable white digit letter wordByte small capital
     _>>=_ _>>_ check shortForm longForm matches afterSign fractionOf afterFraction exponentOf afterExponent lowering written numeralFrom decimalOf
-    valueOf scaled suffixes noSuffix powerIn remains readNumber switchedOn nearest sizeIn rounded sizeSide sideIn inPlaces decimal table settingAt answerOf findWord readWord readFigure parameter
+    valueOf scaled suffixes noSuffix powerIn remains readNumber switchedOn nearest sizeIn rounded sizeSide sideIn inPlaces decimal slots table settingAt answerOf findWord readWord readFigure parameter
 all-covered = refl
 
 -- ---- the test and the law together
@@ -193,15 +193,19 @@ read-deed s i v (passed g) t w = rw (gives-value s i (kindOf i) v g t, gives-sid
 
 -- a voltage within any range is in the table
 under-table : (s : Settings) (i : ℕ) (v : ℤ) → within s i v ≡ true → inTable (kindOf i) v ≡ true
-unfolding within inTable lowest highest settingAt table if_then_else_
+unfolding within inTable lowest highest narrow settingAt slots table if_then_else_
 under-table s i v w =
     let p = and-both (leZ (lowestOf (kindOf i)) v) _ w in
-    rw (p .0) (go (eqb i voltage && not (wideRange s)) refl (p .1))
+    rw (p .0) (go (eqb i voltage) refl (eqb i voltage2) refl (not (wideRange s range)) (not (wideRange s range2)) (p .1))
   where
-    go : (t : Bool) → (eqb i voltage && not (wideRange s)) ≡ t → leZ v (if t then twelveVolts else highestOf (kindOf i)) ≡ true
-        → leZ v (highestOf (kindOf i)) ≡ true
-    go true q l = let e = eqb-true i voltage (and-both (eqb i voltage) _ q .0) in rw e (under-wide false v l)
-    go false q l = l
+    go : (t : Bool) → eqb i voltage ≡ t → (u : Bool) → eqb i voltage2 ≡ u → (m n : Bool)
+        → leZ v (if (t && m) || (u && n) then twelveVolts else highestOf (kindOf i)) ≡ true → leZ v (highestOf (kindOf i)) ≡ true
+    go true q u r true n l = rw (eqb-true i voltage q) (under-wide false v l)
+    go false q true r m true l = rw (eqb-true i voltage2 r) (under-wide false v l)
+    go true q true r false n l = absurd (omega (arith, eqb-true i voltage q, eqb-true i voltage2 r))
+    go true q false r false n l = l
+    go false q true r m false l = l
+    go false q false r m n l = l
 
 -- a setting's answer, sent as its parameter, sets the value that was answered
 module _ (s : Settings) (i : ℕ) (h : i < count) (v : ℤ) (w : within s i v ≡ true) where

@@ -7,7 +7,7 @@ use native.Mathlib.Omega.{arith}
 use lib.ListN.{length, take}
 use borrow.Author.Needs.{needs}
 use Rattle.registers.specs.Text.{if_then_else_}
-use Rattle.interpreter.specs.Box.{mostAnswer}
+use Rattle.interpreter.specs.Box.{memory, mostAnswer}
 use Rattle.interpreter.specs.Line.{byte, piece, newlines}
 use Rattle.interpreter.proofs.line.Newline.{ended}
 use Rattle.interpreter.proofs.flow.newline.Statement.{statement}
@@ -15,10 +15,10 @@ use Rattle.interpreter.proofs.flow.newline.Tie as tie
 
 -- once the waiting answer is discarded, and once the line is run
 abbrev entry : tie.After-discard → tie.Start
-entry d = d .before .before .before
+entry d = d .before .before .before .before
 
 abbrev emptied : tie.After-run-line → tie.After-discard
-emptied r = r .before .before .before
+emptied r = r .before .before .before .before
 
 discard-requires : tie.Need-discard-requires
 discard-requires c κs = tt
@@ -34,32 +34,39 @@ part-run-line-end c = omega arith
 
 run-line-requires : tie.Need-run-line-requires
 run-line-requires c κs =
-    let d = c .before .before in
+    let d = c .before .before .before in
     let p = entry d .pre in
-    let g = c .run-line-arg2 .given in
-    ((p .0, d .discard .ensures .gone), (search needs, d .discard .ensures .queued (p .1 .queued)))
+    let g = c .before .run-line-arg2 .given in
+    ((p .0, d .discard .ensures .gone), (search needs, d .discard .ensures .queued (p .1 .queued), p .3))
 
-add-t11 : tie.Need-add-t11
-add-t11 c = omega arith
+add-t12 : tie.Need-add-t12
+add-t12 c = omega arith
 
-add-t16 : tie.Need-add-t16
-add-t16 c = let few = entry (emptied (c .before .before)) .pre .1 .few in omega arith
+add-t19 : tie.Need-add-t19
+add-t19 c =
+    let p = entry (emptied (c .before .before .before .before)) .pre in
+    let few = p .1 .few in
+    let small = p .2 in
+    omega arith
+
+same-length : tie.Need-same-length
+same-length c = c .before .before .before .before .run-line .kept .1 .1 .1 .1 .1 .0
 
 returns : tie.Need-returns
 unfolding piece byte newlines if_then_else_
 returns c =
-    let r = c .before .before in
+    let r = c .before .before .before .before in
     let d = emptied r in
     let a = entry d .args in
     let f = a .flow in
-    let g = r .before .run-line-arg2 .given in
+    let g = r .before .before .run-line-arg2 .given in
     let outs : length (a .out .now) ≡ mostAnswer = search needs in
     let room : 0 < length (a .out .now) = omega arith in
     let few = entry d .pre .1 .few in
     let w = r .run-line .ensures in
     record {
       fits = record { filled = zero-le; waiting = w .room; queued = w .queued; few = omega arith };
-      box = rw (← ended (f .present) (a .out .now) (d .discard .result) (d .discard .ensures) room (take (f .filled) (a .line .now)) (f .overlong)) (rw sub-zero at (w .box));
+      box = rw (← ended (f .present) (a .out .now) (memory (a .store .now)) (d .discard .result) (d .discard .ensures) room (take (f .filled) (a .line .now)) (f .overlong)) (rw sub-zero at (w .box));
       read = refl;
       count = refl;
     }
@@ -73,6 +80,7 @@ newline-spec =
     part-run-line-start
     part-run-line-end
     run-line-requires
-    add-t11
-    add-t16
+    add-t12
+    add-t19
+    same-length
     returns)

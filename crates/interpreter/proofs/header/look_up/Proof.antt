@@ -9,7 +9,8 @@ use lib.ListN.{length, take, drop}
 use borrow.Author.Tests.{not-true, not-false}
 use Rattle.interpreter.specs.TableParts.{orZero}
 use Rattle.interpreter.specs.HeaderParts.{mostNames, starred}
-use Rattle.interpreter.specs.RowsParts.{rowOfKeys}
+use Rattle.interpreter.specs.RowsParts.{classIn, rowOfKeys}
+use Rattle.interpreter.specs.DeedParts.{placeOf}
 use Prim.Native.Char.{code}
 use Rattle.interpreter.proofs.Lists.{part-is}
 use Rattle.interpreter.proofs.header.Grammar.{led, look-bad, first-fits, look-found}
@@ -72,20 +73,20 @@ returns c =
 or-zero-requires : tie.Need-or-zero-requires
 or-zero-requires c κs = search needs
 
-mul-find : tie.Need-mul-find
-mul-find c = let b = begins c in omega (arith, b .0, b .1)
+mul-place-of : tie.Need-mul-place-of
+mul-place-of c = let b = begins c in omega (arith, b .0, b .1)
 
-sub-find : tie.Need-sub-find
-sub-find c = begins c .0
+sub-place-of : tie.Need-sub-place-of
+sub-place-of c = begins c .0
 
-part-find-start : tie.Need-part-find-start
-part-find-start c = begins (c .before) .0
+part-place-of-start : tie.Need-part-place-of-start
+part-place-of-start c = begins (c .before) .0
 
-part-find-end : tie.Need-part-find-end
-part-find-end c = let b = begins (c .before) in let k = kept (read-of (c .before .before)) in omega arith
+part-place-of-end : tie.Need-part-place-of-end
+part-place-of-end c = let b = begins (c .before) in let k = kept (read-of (c .before .before)) in omega arith
 
-find-requires : tie.Need-find-requires
-find-requires c κs = entry (read-of (c .before .before .before)) .pre .0
+place-of-requires : tie.Need-place-of-requires
+place-of-requires c κs = entry (read-of (c .before .before .before)) .pre .0
 
 sub-t14 : tie.Need-sub-t14
 sub-t14 c =
@@ -105,10 +106,10 @@ returns-2 c =
     let a = s .args in
     let n = p .read-names .result in
     let part = part-is (keys p) (z .or-zero .result) (n .count) ∙ ap (λ (i : ℕ). drop i (take (n .count) (keys p))) (first-is z) in
-    let found = c .before .find .ensures
-    ∙ ap (λ (l : List ℕ). rowOfKeys (eqb (first-of p .byte-at .result) (code "*")) l (n .asked)) part
-    ∙ ap (λ (s : Bool). rowOfKeys s (drop (orZero (starred (a .text .now)) (a .used)) (take (n .count) (keys p))) (n .asked)) (star-is p) in
-    λ names h. look-found (s .args .text .now) names (s .args .path .now) (s .args .used) h (s .pre .2) (keys p) (kept p) (p .read-names .result) (c .before .find .result)
+    let found = c .before .place-of .ensures
+    ∙ ap (λ (l : List ℕ). placeOf (rowOfKeys (eqb (first-of p .byte-at .result) (code "*")) l (n .asked)) (classIn l)) part
+    ∙ ap (λ (s : Bool). placeOf (rowOfKeys s (drop (orZero (starred (a .text .now)) (a .used)) (take (n .count) (keys p))) (n .asked)) (classIn (drop (orZero (starred (a .text .now)) (a .used)) (take (n .count) (keys p))))) (star-is p) in
+    λ names h. look-found (s .args .text .now) names (s .args .path .now) (s .args .used) h (s .pre .2) (keys p) (kept p) (p .read-names .result) (c .before .place-of .result)
     (p .read-names .ensures) (is-good e) found
 
 pub look-up-spec : {M : Type 1} → statement M
@@ -120,11 +121,11 @@ look-up-spec =
     same-length
     returns
     or-zero-requires
-    mul-find
-    sub-find
-    part-find-start
-    part-find-end
-    find-requires
+    mul-place-of
+    sub-place-of
+    part-place-of-start
+    part-place-of-end
+    place-of-requires
     sub-t14
     same-length-2
     returns-2)

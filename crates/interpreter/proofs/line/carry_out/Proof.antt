@@ -1,52 +1,42 @@
--- A deed is barred, left unanswered, or done: each way is a law of `line/Laws`, and what differs is only where the walk stands.
-use borrow.Author.Needs.{needs}
-use Rattle.interpreter.proofs.perform.Permitted.{lets, barred, let-through}
-use Rattle.interpreter.proofs.line.Laws.{deed-barred, deed-unanswered, deed-done}
+-- A deed is barred by the lock or check 8; or it is *SAV or *RCL, or any other.
+use Rattle.interpreter.proofs.perform.Permitted.{barred, let-through}
+use Rattle.interpreter.specs.Box.{memory}
+use Rattle.registers.specs.Label.{textIn}
+use Rattle.interpreter.proofs.reply.Values.{ordinary-other}
+use Rattle.interpreter.proofs.line.Laws.{deed-barred}
 use Rattle.interpreter.proofs.line.carry_out.Statement.{statement}
 use Rattle.interpreter.proofs.line.carry_out.Tie as tie
-
--- where it was permitted, and where it was answered
-abbrev entry : tie.Else1 → tie.Start
-entry l = l .before .before .before
-
-abbrev permitted-of : tie.After-answer → tie.Else1
-permitted-of w = w .before .before .before
 
 returns : tie.Need-returns
 returns c =
     let p = c .before .before in
-    let s = p .before .before in
+    let s = p .before .before .before .before in
     let a = s .args in
     let bar = barred _ _ (p .is-permitted .result) (p .is-permitted .ensures) (c .before .if1 .taken) in
-    deed-barred (a .present) (a .deed) (a .used) (a .out .now) (s .pre .1 .1) (s .pre .0 .1) _ (c .stop .result) (c .stop .ensures) bar
+    deed-barred (a .present) (a .deed) (textIn (a .string .now)) (a .used) (a .out .now) (memory (a .store .now)) (s .pre .1 .1) (s .pre .0 .1) _ (c .stop .result) (c .stop .ensures) bar
 
-after-requires : tie.Need-after-requires
-after-requires c κs =
-    let p = entry c .pre in
-    let free = let-through _ _ (c .before .is-permitted .result) (c .before .is-permitted .ensures) (c .if1 .left) in
-    (p .0 .0, lets _ _ free .clear, p .1 .1)
+set-up-requires : tie.Need-set-up-requires
+set-up-requires c κs =
+    let e = c .before .before .before .before in
+    let s = e .before .before .before .before .before in
+    let is = c .before .before .deed .given .1 in
+    let free = let-through _ _ (e .before .is-permitted .result) (e .before .is-permitted .ensures) (e .if1 .left) in
+    ((rw is at free, rw is at (s .pre .0 .0), s .pre .1 .2), (s .pre .0 .1, s .pre .1 .1))
 
 returns-2 : tie.Need-returns-2
 returns-2 c =
-    let t = c .before .before in
-    let w = t .before .before .before .before in
-    let l = permitted-of w in
-    let s = entry l in
-    let a = s .args in
-    let free = let-through _ _ (l .before .is-permitted .result) (l .before .is-permitted .ensures) (l .if1 .left) in
-    deed-unanswered (a .present) (a .deed) (a .used) (a .out .now) (s .pre .1 .1) (s .pre .0 .1) _ (c .stop2 .result) (c .stop2 .ensures) free _
-    (rw (t .told .given .1) at (w .answer .ensures))
+    let a = c .before .before .before .before .before .before .before .before .before .before .before .before .args in
+    rw (c .before .before .before .before .before .deed .given .1) (c .before .before .set-up .ensures (textIn (a .string .now)) (a .out .now))
+
+do-deed-requires : tie.Need-do-deed-requires
+do-deed-requires c κs =
+    let e = c .before .before in
+    let s = e .before .before .before .before .before in
+    let free = let-through _ _ (e .before .is-permitted .result) (e .before .is-permitted .ensures) (e .if1 .left) in
+    ((free, s .pre .0 .0, ordinary-other (s .args .deed) (c .before .match .keys2)), (s .pre .0 .1, s .pre .1 .0, s .pre .1 .1, s .pre .0 .2))
 
 returns-3 : tie.Need-returns-3
-returns-3 c =
-    let t = c .before in
-    let w = t .before .before .before .before in
-    let l = permitted-of w in
-    let s = entry l in
-    let a = s .args in
-    let free = let-through _ _ (l .before .is-permitted .result) (l .before .is-permitted .ensures) (l .if1 .left) in
-    deed-done (a .present) (a .deed) (a .used) (a .out .now) free (s .pre .0 .0) (w .before .before .after .result) (w .before .before .after .ensures) _ _
-    (rw (t .told2 .given .1) at (w .answer .ensures))
+returns-3 c = c .before .before .do-deed .ensures (memory (c .before .before .before .before .before .before .before .before .before .before .args .store .now))
 
 pub carry-out-spec : {M : Type 1} → statement M
 carry-out-spec =
@@ -55,12 +45,10 @@ carry-out-spec =
     (λ c κs. tt)
     (λ c κs. tt)
     returns
-    after-requires
-    (λ c κs. search needs)
     (λ c. c .match .keys1)
-    (λ c κs. tt)
-    (λ c. search needs)
+    set-up-requires
+    (λ c. c .before .before .set-up .kept .1 .1 .1 .1 .0)
     returns-2
-    (λ c. c .match .keys2)
-    (λ c. search needs)
+    do-deed-requires
+    (λ c. c .before .before .do-deed .kept .1 .1 .1 .1 .0)
     returns-3)

@@ -6,6 +6,7 @@ use native.Mathlib.Omega.{arith}
 use lib.ListN.{length}
 use Rattle.registers.specs.Text.{white, every}
 use Rattle.registers.specs.declared.error.Error.the-variants.{InputBufferOverrun}
+use Rattle.interpreter.specs.Box.{memory}
 use Rattle.interpreter.specs.PresentParts.{raisedWith}
 use Rattle.registers.specs.Queue.{most}
 use Rattle.interpreter.proofs.present.Laws.{raised-short}
@@ -16,14 +17,14 @@ use Rattle.interpreter.proofs.line.run_line.Tie as tie
 
 -- where the line isn't overlong, and where it isn't blank
 abbrev entry : tie.Else1 → tie.Start
-entry e = e .before .before .before .before
+entry e = e .before .before .before .before .before
 
 abbrev in-length : tie.Else2 → tie.Else1
 in-length e = e .before .before
 
 -- once its units are run
 abbrev ran-from : tie.After-run-units → tie.Else2
-ran-from r = r .before .before
+ran-from r = r .before .before .before
 
 visible : (e : tie.Else2) → every white (entry (in-length e) .args .line .now) ≡ false
 visible e = let w = e .before .white-end in not-blank (entry (in-length e) .args .line .now) (w .result) (w .ensures) (e .if2 .left)
@@ -34,7 +35,7 @@ raise-requires c κs = tt
 returns : tie.Need-returns
 unfolding raisedWith
 returns c =
-    let o = c .before .before .before .before .before in
+    let o = c .before .before .before .before .before .before in
     let a = o .args in
     let s = o .good .1 .0 .1 .1 .1 .0 .1 .1 in
     let long : length (a .present .status .errors) ≡ most = search needs in
@@ -43,7 +44,7 @@ returns c =
     record {
       queued = rw raised (raised-short InputBufferOverrun (a .present) long (o .pre .1 .1));
       room = rw (raised, none) (omega arith);
-      box = rw (raised, none) (line-overlong (a .present) (a .line .now) (a .overlong) long (c .before .if1 .taken));
+      box = rw (raised, none) (line-overlong (a .present) (a .line .now) (a .overlong) (memory (a .store .now)) long (c .before .if1 .taken));
     }
 
 white-end-requires : tie.Need-white-end-requires
@@ -58,18 +59,21 @@ returns-2 c =
     record {
       queued = entry e .pre .1 .1;
       room = rw none (omega arith);
-      box = rw none (line-blank (a .present) (a .line .now) (a .overlong) (e .if1 .left) (blank (a .line .now) (w .result) (w .ensures) (c .if2 .taken)));
+      box = rw none (line-blank (a .present) (a .line .now) (a .overlong) (memory (a .store .now)) (e .if1 .left) (blank (a .line .now) (w .result) (w .ensures) (c .if2 .taken)));
     }
 
 run-units-requires : tie.Need-run-units-requires
-run-units-requires c κs = entry (in-length (c .before)) .pre
+run-units-requires c κs = entry (in-length (c .before .before)) .pre
 
 same-length : tie.Need-same-length
-same-length c = c .before .before .before .run-units .kept .1 .1 .1 .0
+same-length c = c .before .before .before .before .before .run-units .kept .1 .1 .1 .0
+
+same-length-2 : tie.Need-same-length-2
+same-length-2 c = c .before .before .before .before .before .run-units .kept .1 .1 .1 .1 .0
 
 returns-3 : tie.Need-returns-3
 returns-3 c =
-    let r = c .before .before .before in
+    let r = c .before .before .before .before .before in
     let e = in-length (ran-from r) in
     let a = entry e .args in
     let w = r .run-units .ensures in
@@ -77,7 +81,7 @@ returns-3 c =
     record {
       queued = w .queued;
       room = omega arith;
-      box = line-none (a .present) (a .line .now) (a .overlong) (e .if1 .left) (visible (ran-from r)) (r .run-units .result) _ w (c .if3 .taken);
+      box = line-none (a .present) (a .line .now) (a .overlong) (memory (a .store .now)) (e .if1 .left) (visible (ran-from r)) (r .run-units .result) _ _ w (c .if3 .taken);
     }
 
 slice-write-out : tie.Need-slice-write-out
@@ -86,12 +90,15 @@ slice-write-out c = omega arith
 add-ran : tie.Need-add-ran
 add-ran c = omega arith
 
-same-length-2 : tie.Need-same-length-2
-same-length-2 c = search needs
+same-length-3 : tie.Need-same-length-3
+same-length-3 c = search needs
+
+same-length-4 : tie.Need-same-length-4
+same-length-4 c = c .before .before .before .before .before .run-units .kept .1 .1 .1 .1 .0
 
 returns-4 : tie.Need-returns-4
 returns-4 c =
-    let r = c .before .before .before in
+    let r = c .before .before .before .before .before in
     let e = in-length (ran-from r) in
     let a = entry e .args in
     let w = r .run-units .ensures in
@@ -101,7 +108,7 @@ returns-4 c =
     record {
       queued = w .queued;
       room = omega arith;
-      box = line-some (a .present) (a .line .now) (a .overlong) (e .if1 .left) (visible (ran-from r)) (r .run-units .result) _ w (c .if3 .left) (omega arith);
+      box = line-some (a .present) (a .line .now) (a .overlong) (memory (a .store .now)) (e .if1 .left) (visible (ran-from r)) (r .run-units .result) _ _ w (c .if3 .left) (omega arith);
     }
 
 pub run-line-spec : {M : Type 1} → statement M
@@ -114,8 +121,10 @@ run-line-spec =
     returns-2
     run-units-requires
     same-length
+    same-length-2
     returns-3
     slice-write-out
     add-ran
-    same-length-2
+    same-length-3
+    same-length-4
     returns-4)

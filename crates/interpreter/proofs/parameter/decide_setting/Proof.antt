@@ -28,33 +28,33 @@ abbrev entry : tie.After-read-parameter → tie.Start
 entry p = p .before .before .before .before .before
 
 abbrev given : tie.After-read-parameter → Checked Given
-given p = let a = entry p .args in parameter (wordsOf (kindOf (a .heading .row))) (takesNumbers (kindOf (a .heading .row)) && not (a .heading .asked)) (quantityOf (a .heading .row)) (a .text .now)
+given p = let a = entry p .args in parameter (wordsOf (kindOf (a .heading .place))) (takesNumbers (kindOf (a .heading .place)) && not (a .heading .asked)) (quantityOf (a .heading .place)) (a .text .now)
 
 read-is : (p : tie.After-read-parameter) → meantGiven (p .read-parameter .result) ≡ given p
 read-is p = let takes = p .before .setting-takes .ensures in rw (takes .words, takes .numbers, takes .quantity) at (p .read-parameter .ensures)
 
 deed-is : (p : tie.After-read-parameter)
     → let a = entry p .args in
-    deedOf (a .settings) (Setting (a .heading .row)) (a .heading .asked) (partsOf (a .text .now))
+    deedOf (a .settings) (Setting (a .heading .place)) (a .heading .asked) (partsOf (a .text .now))
     ≡ (given p >>= λ g.
-    putFit (a .settings) (a .heading .row) (a .heading .asked) (fitIn (a .settings) (a .heading .row) (valueGiven (a .settings) (a .heading .row) (kindOf (a .heading .row)) g))
-    (sideGiven (kindOf (a .heading .row)) g))
+    putFit (a .settings) (a .heading .place) (a .heading .asked) (fitIn (a .settings) (a .heading .place) (valueGiven (a .settings) (a .heading .place) (kindOf (a .heading .place)) g))
+    (sideGiven (kindOf (a .heading .place)) g))
 unfolding if_then_else_
 deed-is p =
     let a = entry p .args in
     let some = some-bytes (a .text .now) (p .before .before .if1 .left) in
     let most = rw some at (entry p .pre .1 .1) in
-    rw some (setting-is (a .settings) (a .heading .row) (entry p .pre .0 .1) (a .heading .asked) (a .text .now) (omega arith))
+    rw some (setting-is (a .settings) (a .heading .place) (entry p .pre .0 .1) (a .heading .asked) (a .text .now) (omega arith))
 
 carried : (p : tie.After-read-parameter) {g : Given} → given p ≡ passed g
     → let a = entry p .args in
-    putFit (a .settings) (a .heading .row) (a .heading .asked) (fitIn (a .settings) (a .heading .row) (valueGiven (a .settings) (a .heading .row) (kindOf (a .heading .row)) g))
-    (sideGiven (kindOf (a .heading .row)) g)
-    ≡ deedOf (a .settings) (Setting (a .heading .row)) (a .heading .asked) (partsOf (a .text .now))
+    putFit (a .settings) (a .heading .place) (a .heading .asked) (fitIn (a .settings) (a .heading .place) (valueGiven (a .settings) (a .heading .place) (kindOf (a .heading .place)) g))
+    (sideGiven (kindOf (a .heading .place)) g)
+    ≡ deedOf (a .settings) (Setting (a .heading .place)) (a .heading .asked) (partsOf (a .text .now))
 unfolding _>>=_
 carried p e = sym (deed-is p ∙ rw e)
 
-placed : (p : tie.After-read-parameter) {n : ℕ} → p .read-parameter .result ≡ Word n → n < length (wordsOf (kindOf (entry p .args .heading .row)))
+placed : (p : tie.After-read-parameter) {n : ℕ} → p .read-parameter .result ≡ Word n → n < length (wordsOf (kindOf (entry p .args .heading .place)))
 placed p {n} told = word-placed _ _ _ (entry p .args .text .now) n (word-by (read-is p) told)
 
 obey-query-requires : tie.Need-obey-query-requires
@@ -67,7 +67,7 @@ returns c =
     let a = s .args in
     let none = no-bytes (a .text .now) (c .before .if1 .taken) in
     let least = s .pre .1 .0 in
-    rw (c .obey-query .ensures, none) (value-asked (a .settings) (a .heading .row) (a .heading .asked) (rw none at least))
+    rw (c .obey-query .ensures, none) (value-asked (a .settings) (a .heading .place) (a .heading .asked) (rw none at least))
 
 setting-takes-requires : tie.Need-setting-takes-requires
 setting-takes-requires c κs = omega arith
@@ -90,7 +90,7 @@ enum-known-parameter-2 c = c .match .keys2
 word-value-requires : tie.Need-word-value-requires
 word-value-requires c κs =
     let p = c .before .before .before in
-    let row = entry p .args .heading .row in
+    let row = entry p .args .heading .place in
     let few = words-few row (entry p .pre .0 .1) in
     omega (arith, placed p (c .before .parameter2 .given .1))
 
@@ -104,10 +104,10 @@ returns-3 c =
     let told = c .before .before .before .parameter2 .given in
     let value = c .before .word-value in
     rw (c .decide-value .ensures)
-    (ap (λ z. putFit (a .settings) (a .heading .row) (a .heading .asked) (Within z) On) (back (value .result) (value .ok) ∙ value .ensures)
-    ∙ ap (λ f. putFit (a .settings) (a .heading .row) (a .heading .asked) f On)
-    (fit-within (a .settings) (a .heading .row) _ (word-within (a .settings) (a .heading .row) (entry p .pre .0 .1) (told .0 .0) (placed p (told .1))))
-    ∙ ap (putFit (a .settings) (a .heading .row) (a .heading .asked) _) (word-on (kindOf (a .heading .row)) (told .0 .0))
+    (ap (λ z. putFit (a .settings) (a .heading .place) (a .heading .asked) (Within z) On) (back (value .result) (value .ok) ∙ value .ensures)
+    ∙ ap (λ f. putFit (a .settings) (a .heading .place) (a .heading .asked) f On)
+    (fit-within (a .settings) (a .heading .place) _ (word-within (a .settings) (a .heading .place) (entry p .pre .0 .1) (told .0 .0) (placed p (told .1))))
+    ∙ ap (putFit (a .settings) (a .heading .place) (a .heading .asked) _) (word-on (kindOf (a .heading .place)) (told .0 .0))
     ∙ carried p (word-by (read-is p) (told .1)))
 
 enum-known-parameter-3 : tie.Need-enum-known-parameter-3

@@ -38,6 +38,26 @@ returns-3 : tie.Need-returns-3
 unfolding greatest
 returns-3 c = rw (c .enum-told2 .given .1)
 
+enum-told-3 : tie.Need-enum-told-3
+enum-told-3 c = c .match .keys4
+
+cast-result-3 : tie.Need-cast-result-3
+cast-result-3 c = tt
+
+returns-4 : tie.Need-returns-4
+unfolding greatest
+returns-4 c = rw (c .enum-told3 .given .1) (register-most (c .before .before .args .asked))
+
+enum-told-4 : tie.Need-enum-told-4
+enum-told-4 c = c .match .keys5
+
+cast-result-4 : tie.Need-cast-result-4
+cast-result-4 c = tt
+
+returns-5 : tie.Need-returns-5
+unfolding greatest
+returns-5 c = rw (c .enum-told4 .given .1) (register-most (c .before .before .args .asked))
+
 pub most-spec : {M : Type 1} → statement M
 most-spec =
     tie.close
@@ -48,6 +68,12 @@ most-spec =
     enum-told
     cast-result-2
     enum-told-2
+    enum-told-3
+    cast-result-3
+    enum-told-4
+    cast-result-4
     returns
     returns-2
-    returns-3)
+    returns-3
+    returns-4
+    returns-5)

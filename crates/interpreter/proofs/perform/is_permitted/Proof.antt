@@ -4,7 +4,7 @@ use mir.Facts.{toZ-ofZ}
 use mir.Val.{SFits}
 use mir.Syntax.{w32}
 use borrow.Author.Needs.{needs}
-use Rattle.interpreter.proofs.perform.Permitted.{put-permitted, reset-permitted, free-change, free-other}
+use Rattle.interpreter.proofs.perform.Permitted.{put-permitted, reset-permitted, saving-permitted, label-permitted, free-change, free-other}
 use Rattle.interpreter.proofs.perform.is_permitted.Statement.{statement}
 use Rattle.interpreter.proofs.perform.is_permitted.Tie as tie
 
@@ -42,11 +42,30 @@ returns-2 : tie.Need-returns-2
 returns-2 c =
     rw (c .before .before .before .before .deed .given .1, c .before .enum-told .given .1, c .is-locked2 .ensures) (reset-permitted _)
 
+enum-told-2 : tie.Need-enum-told-2
+enum-told-2 c = search needs
+
+is-locked-requires-3 : tie.Need-is-locked-requires-3
+is-locked-requires-3 c κs = search needs
+
 returns-3 : tie.Need-returns-3
-returns-3 c = let d = c .before .before .deed .given in rw (d .1) (free-change (d .0 .0) (c .match2 .keys3) _)
+returns-3 c =
+    rw (c .before .before .before .before .deed .given .1, c .before .enum-told2 .given .1, c .is-locked3 .ensures) (label-permitted _)
 
 returns-4 : tie.Need-returns-4
-returns-4 c = free-other (c .before .args .deed) (c .match .keys2) _
+returns-4 c = let d = c .before .before .deed .given in rw (d .1) (free-change (d .0 .0) (c .match2 .keys4) _)
+
+enum-told-3 : tie.Need-enum-told-3
+enum-told-3 c = search needs
+
+is-locked-requires-4 : tie.Need-is-locked-requires-4
+is-locked-requires-4 c κs = search needs
+
+returns-5 : tie.Need-returns-5
+returns-5 c = rw (c .before .enum-told3 .given .1, c .is-locked4 .ensures) (saving-permitted _ _ _)
+
+returns-6 : tie.Need-returns-6
+returns-6 c = free-other (c .before .args .deed) (c .match .keys3) _
 
 pub is-permitted-spec : {M : Type 1} → statement M
 is-permitted-spec =
@@ -60,5 +79,11 @@ is-permitted-spec =
     enum-told
     is-locked-requires-2
     returns-2
+    enum-told-2
+    is-locked-requires-3
     returns-3
-    returns-4)
+    returns-4
+    enum-told-3
+    is-locked-requires-4
+    returns-5
+    returns-6)

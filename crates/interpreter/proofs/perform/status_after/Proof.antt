@@ -69,6 +69,9 @@ returns-9 c =
     rw (d .deed3 .given .1, c .before .enum-told5 .given .1, c .read-oldest .ensures)
     (record { registers = λ _ _. oldest-registers t long (s .pre); trouble = oldest-trouble t long (s .pre); queued = oldest-queued t long (s .pre) })
 
+returns-10 : tie.Need-returns-10
+returns-10 c = rw (c .enum-told6 .given .1) (record { registers = λ _ _. refl; trouble = refl; queued = c .before .before .pre })
+
 pub status-after-spec : {M : Type 1} → statement M
 status-after-spec =
     tie.close
@@ -88,4 +91,6 @@ status-after-spec =
     (λ c. omega arith)
     returns-8
     (λ c. omega arith) (λ c κs. tt)
-    returns-9)
+    returns-9
+    (λ c. c .match .keys6)
+    returns-10)

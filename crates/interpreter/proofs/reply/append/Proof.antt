@@ -16,15 +16,15 @@ room-at s = rw length-set (rw (s .pre .1) (start-room (s .args .answered) (s .pr
 
 -- once it is written
 abbrev entry : tie.After-out → tie.Start
-entry o = o .before .before .before .before .before
+entry o = o .before .before .before .before .before .before
 
 enum-told : tie.Need-enum-told
 enum-told c = c .match .keys1
 
 returns : tie.Need-returns
 returns c =
-    let s = c .before .before .before in
-    rw (c .enum-told .given .1) (given-none (s .args .out .now) (s .pre .0) (s .pre .1))
+    let s = c .before .before .before .before in
+    rw (c .enum-told .given .1) (given-none _ (s .args .out .now) (s .pre .0) (s .pre .1))
 
 slice-write-out : tie.Need-slice-write-out
 slice-write-out c = omega arith
@@ -33,13 +33,13 @@ cast-start : tie.Need-cast-start
 cast-start c = tt
 
 add-start : tie.Need-add-start
-add-start c = let h = start-room (c .before .before .args .answered) (c .before .before .pre .0) in omega arith
+add-start c = let h = start-room (c .before .before .before .args .answered) (c .before .before .before .pre .0) in omega arith
 
 sub-write : tie.Need-sub-write
-sub-write c = room-at (c .before .before)
+sub-write c = room-at (c .before .before .before)
 
 part-write-start : tie.Need-part-write-start
-part-write-start c = room-at (c .before .before)
+part-write-start c = room-at (c .before .before .before)
 
 part-write-end : tie.Need-part-write-end
 part-write-end c = le-refl _
@@ -58,7 +58,7 @@ returns-2 c =
     let o = c .before .before in
     let a = entry o .args in
     let p = entry o .pre in
-    given-over (a .out .now) (p .0) (p .1) (a .reply) (says (a .reply) (o .before .before .before .match .keys2)) (o .before .write .ensures)
+    given-over _ (a .out .now) (p .0) (p .1) (a .reply) (says (a .reply) (o .before .before .before .match .keys2)) (o .before .write .ensures)
     (o .out .given .1) (c .if1 .taken)
 
 add-result : tie.Need-add-result
@@ -67,7 +67,7 @@ add-result c =
     let a = entry o .args in
     let p = entry o .pre in
     let h =
-    end-room (a .out .now) (p .0) (p .1) (a .reply) (says (a .reply) (o .before .before .before .match .keys2)) (o .before .write .ensures)
+    end-room _ (a .out .now) (p .0) (p .1) (a .reply) (says (a .reply) (o .before .before .before .match .keys2)) (o .before .write .ensures)
     (o .out .given .1) (c .if1 .left) in
     omega arith
 
@@ -79,7 +79,7 @@ returns-3 c =
     let o = c .before .before in
     let a = entry o .args in
     let p = entry o .pre in
-    given-whole (a .out .now) (p .0) (p .1) (a .reply) (says (a .reply) (o .before .before .before .match .keys2)) (o .before .write .ensures)
+    given-whole _ (a .out .now) (p .0) (p .1) (a .reply) (says (a .reply) (o .before .before .before .match .keys2)) (o .before .write .ensures)
     (o .out .given .1) (c .if1 .left)
 
 pub append-spec : {M : Type 1} → statement M

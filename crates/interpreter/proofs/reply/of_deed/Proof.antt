@@ -19,7 +19,7 @@ returns : tie.Need-returns
 returns c = rw (c .before .before .deed .given .1) (c .of-query .ensures)
 
 returns-2 : tie.Need-returns-2
-returns-2 c = rw (c .before .before .before .deed2 .given .1) (c .of-inquiry .ensures)
+returns-2 c = rw (c .before .before .before .deed2 .given .1) (c .of-inquiry .ensures _)
 
 returns-3 : tie.Need-returns-3
 returns-3 c =

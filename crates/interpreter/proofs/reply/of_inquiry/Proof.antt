@@ -26,15 +26,15 @@ oldest-requires c κs = tt
 
 returns : tie.Need-returns
 unfolding textOf inquiryText
-returns c = rw (c .enum-told .given .1) (record { is = refl; some = refl })
+returns c = rw (c .enum-told .given .1) (λ label. record { is = refl; some = refl })
 
 returns-2 : tie.Need-returns-2
 unfolding textOf inquiryText
-returns-2 c = rw (c .before .enum-told2 .given .1, c .status-byte .ensures) (record { is = refl; some = refl })
+returns-2 c = rw (c .before .enum-told2 .given .1, c .status-byte .ensures) (λ label. record { is = refl; some = refl })
 
 returns-3 : tie.Need-returns-3
 unfolding textOf inquiryText
-returns-3 c = rw (c .before .enum-told3 .given .1, c .oldest .ensures) (record { is = refl; some = refl })
+returns-3 c = rw (c .before .enum-told3 .given .1, c .oldest .ensures) (λ label. record { is = refl; some = refl })
 
 pub of-inquiry-spec : {M : Type 1} → statement M
 of-inquiry-spec =

@@ -2,11 +2,11 @@
 use mathlib.Core.Path.{refl}
 use mir.Syntax.{w32}
 use mir.Val.{SFits}
-use mir.Facts.{toZ-ofZ}
 use Rattle.registers.specs.Text.{if_then_else_, bytes}
 use Rattle.registers.specs.Answer.{inPlaces, decimal}
 use Rattle.interpreter.specs.Reply.{replyTo}
 use Rattle.interpreter.specs.ReplyParts.{textOf}
+use Rattle.interpreter.proofs.reply.Values.{value-back}
 use Rattle.interpreter.proofs.reply.of_query.Statement.{statement}
 use Rattle.interpreter.proofs.reply.of_query.Tie as tie
 
@@ -27,13 +27,13 @@ unfolding replyTo
 returns-4 c =
     let q = c .before .before .query .given in
     let h : SFits w32 (q .0 .1 .0) = record { sfits = c .before .known-told .given .1 .0 .1 } in
-    rw (q .1) (rw (toZ-ofZ {w = w32} h) at (c .of-value .ensures))
+    rw (q .1) (value-back _ h (c .of-value .ensures) _)
 
 returns-5 : tie.Need-returns-5
 unfolding replyTo
 returns-5 c =
     let h : SFits w32 (c .before .value .result) = record { sfits = c .before .value .ok } in
-    rw (c .before .before .before .query2 .given .1) (rw (toZ-ofZ {w = w32} h, c .before .value .ensures) at (c .of-value2 .ensures))
+    rw (c .before .before .before .query2 .given .1, ← c .before .value .ensures) (value-back _ h (c .of-value2 .ensures) _)
 
 returns-6 : tie.Need-returns-6
 unfolding textOf replyTo
@@ -47,6 +47,10 @@ returns-8 : tie.Need-returns-8
 unfolding textOf replyTo
 returns-8 c = rw (c .before .before .query5 .given .1, c .group2 .ensures) (record { is = refl; some = refl })
 
+returns-9 : tie.Need-returns-9
+unfolding textOf replyTo
+returns-9 c = rw (c .enum-told4 .given .1) (record { is = refl; some = refl })
+
 pub of-query-spec : {M : Type 1} → statement M
 of-query-spec =
     tie.close
@@ -59,6 +63,7 @@ of-query-spec =
     (λ c. c .match .keys6) (λ c κs. tt)
     (λ c. c .match .keys7) (λ c κs. tt)
     (λ c. c .match .keys8) (λ c κs. tt)
+    (λ c. c .match .keys9)
     returns
     returns-2
     returns-3
@@ -66,4 +71,5 @@ of-query-spec =
     returns-5
     returns-6
     returns-7
-    returns-8)
+    returns-8
+    returns-9)

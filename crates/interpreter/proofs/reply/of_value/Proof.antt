@@ -29,7 +29,7 @@ returns-2 : tie.Need-returns-2
 unfolding textOf
 returns-2 c =
     told-value (kindOf (c .before .before .before .args .row)) (c .before .before .before .fits .value) (named (c .before .before)) (c .enum-told2 .given .1)
-    (record { is = refl; some = refl })
+    (λ label. record { is = refl; some = refl })
 
 returns-3 : tie.Need-returns-3
 returns-3 c = told-whole (kindOf (c .before .before .args .row)) (c .before .before .fits .value) (named (c .before)) (c .match .keys3)

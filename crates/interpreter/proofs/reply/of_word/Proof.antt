@@ -53,7 +53,7 @@ returns c =
     let words = c .before .before .of-setting in
     let e = rw (back s, counted (c .before .before)) at (c .if1 .taken) in
     let none = place-none (words .result) (wordsOf (kindOf (s .args .row))) (words .ensures .words) (s .args .value) e in
-    record { is = rw none no-word; some = refl }
+    λ label. record { is = rw none no-word; some = refl }
 
 cast-t8 : tie.Need-cast-t8
 cast-t8 c =
@@ -66,7 +66,7 @@ add-t9 c = let h = at-word (c .before) .0 in omega arith
 
 returns-2 : tie.Need-returns-2
 unfolding textOf
-returns-2 c = let w = at-word (c .before) in record { is = rw (w .1); some = refl }
+returns-2 c = let w = at-word (c .before) in λ label. record { is = rw (w .1); some = refl }
 
 pub of-word-spec : {M : Type 1} → statement M
 of-word-spec =

@@ -12,7 +12,7 @@ use Rattle.interpreter.proofs.reply.write.Tie as tie
 
 returns : tie.Need-returns
 unfolding textOf
-returns c = rw (c .enum-told .given .1) (laid-whole (laid-none 0 (c .before .before .before .args .tail .now)))
+returns c = rw (c .enum-told .given .1) (laid-whole (laid-none 0 (c .before .before .before .before .args .tail .now)))
 
 returns-2 : tie.Need-returns-2
 unfolding textOf bytes
@@ -44,6 +44,10 @@ returns-7 : tie.Need-returns-7
 unfolding textOf
 returns-7 c = rw (c .before .before .before .before .before .reply5 .given .1) (c .before .before .write-error .ensures)
 
+returns-8 : tie.Need-returns-8
+unfolding textOf
+returns-8 c = rw (c .before .before .before .before .enum-told3 .given .1) (c .before .before .write-label .ensures)
+
 pub write-spec : {M : Type 1} → statement M
 write-spec =
     tie.close
@@ -55,10 +59,12 @@ write-spec =
     (λ c. c .match .keys5) (λ c κs. tt)
     (λ c. c .match .keys6) (λ c. omega arith) (λ c κs. tt)
     (λ c. c .match .keys7) (λ c κs. tt)
+    (λ c. c .match .keys8) (λ c κs. tt)
     returns
     (λ c. c .before .before .write-text .kept .1 .0) returns-2
     (λ c. c .before .before .write-short .kept .1 .0) returns-3
     (λ c. c .before .before .write-tenths .kept .1 .0) returns-4
     (λ c. c .before .before .write-whole .kept .1 .0) returns-5
     (λ c. c .before .before .write-decimal .kept .1 .0) returns-6
-    (λ c. c .before .before .write-error .kept .1 .0) returns-7)
+    (λ c. c .before .before .write-error .kept .1 .0) returns-7
+    (λ c. c .before .before .write-label .kept .1 .0) returns-8)

@@ -6,6 +6,7 @@ use lib.ListN.{length}
 use Rattle.registers.specs.Text.{Text}
 use Rattle.interpreter.specs.HeaderParts.{Holds}
 use Rattle.interpreter.proofs.unit.Chain.{Runs, runs, bad-header, Headed, headed, read-to}
+use Rattle.interpreter.proofs.unit.Trims.{trim-twice}
 use native.Mathlib.Omega.{arith}
 use borrow.Author.Needs.{needs}
 use Rattle.interpreter.proofs.unit.read.Statement.{statement}
@@ -31,7 +32,7 @@ row-found : (p : tie.After-looked)
     let a = entry w .args in
     let v = p .looked .given .0 in
     (names : List Text) → Holds names (a .path .now) (a .used)
-    → Headed (a .settings) names (a .unit .now) (w .white-end .result) (v .0 .row) (v .1 .0) (v .0 .asked) (v .1 .1 .0) (p .before .before .look-up .last .1 .0)
+    → Headed (a .settings) names (a .unit .now) (w .white-end .result) (v .0 .place) (v .1 .0) (v .0 .asked) (v .1 .1 .0) (p .before .before .look-up .last .1 .0)
 row-found p names h =
     let w = white-at p in
     let a = entry w .args in
@@ -76,31 +77,24 @@ ends : (p : tie.After-looked) → let v = p .looked .given .0 in
     w .white-end .result + v .1 .1 .0 ≤ length (entry w .args .unit .now)
 ends p = let h = entry (white-at p) .pre .1 in row-found p (h .0) (h .1) .ends
 
-add-after : tie.Need-add-after
-add-after c = let e = ends (c .before) in omega (arith, entry (white-at (c .before)) .good)
+add-span-after : tie.Need-add-span-after
+add-span-after c = let e = ends (c .before) in omega (arith, entry (white-at (c .before)) .good)
 
-sub-decide-rest : tie.Need-sub-decide-rest
-sub-decide-rest c = ends (c .before)
+span-after-requires : tie.Need-span-after-requires
+span-after-requires c κs = ends (c .before)
 
-part-decide-rest-start : tie.Need-part-decide-rest-start
-part-decide-rest-start c = ends (c .before)
-
-part-decide-rest-end : tie.Need-part-decide-rest-end
-part-decide-rest-end c = search needs
-
-decide-rest-requires : tie.Need-decide-rest-requires
-decide-rest-requires c κs =
-    let l = c .before .before in
+decide-text-requires : tie.Need-decide-text-requires
+decide-text-requires c κs =
+    let l = c .before .before .before in
     let h = entry (white-at l) .pre in
-    (h .0, row-found l (h .1 .0) (h .1 .1) .within)
+    (h .0, row-found l (h .1 .0) (h .1 .1) .within, rw (c .before .span-after .ensures .is) (trim-twice _))
 
 returns-2 : tie.Need-returns-2
 returns-2 c =
-    let l = c .before .before .before in
+    let l = c .before .before .before .before in
     let a = entry (white-at l) .args in
-    λ names h.
-    let f = row-found l names h in
-    read-to (a .settings) names (a .unit .now) f (c .decide-rest .result) (rw (f .text) at (c .decide-rest .ensures))
+    let g = c .before .before .span-after in
+    λ names h. read-to (a .settings) names (a .unit .now) (row-found l names h) (g .result) (g .ensures) (c .decide-text .result) (c .decide-text .ensures)
 
 pub read-spec : {M : Type 1} → statement M
 read-spec =
@@ -115,9 +109,10 @@ read-spec =
     header-error-requires
     returns
     enum-known-looked
-    add-after
-    sub-decide-rest
-    part-decide-rest-start
-    part-decide-rest-end
-    decide-rest-requires
+    add-span-after
+    span-after-requires
+    (λ c. search needs)
+    (λ c. search needs)
+    (λ c. search needs)
+    decide-text-requires
     returns-2)

@@ -8,7 +8,7 @@ use Rattle.interpreter.proofs.present.Present.discard.Statement.{statem
 use Rattle.interpreter.proofs.present.Present.discard.Tie as tie
 
 returns : tie.Need-returns
-returns c = record { queued = λ h. h; gone = c .if1 .taken; box = λ out _. none-waits (c .before .before .args .self) out (c .if1 .taken) }
+returns c = record { queued = λ h. h; gone = c .if1 .taken; box = λ out m _. none-waits (c .before .before .args .self) out m (c .if1 .taken) }
 
 raise-requires : tie.Need-raise-requires
 raise-requires c κs = tt
@@ -21,7 +21,7 @@ returns-2 c =
     record {
       queued = λ h. rw raised (raised-short _ p long h);
       gone = refl;
-      box = λ out room. rw raised (one-waits p out long room (c .before .if1 .left));
+      box = λ out m room. rw raised (one-waits p out m long room (c .before .if1 .left));
     }
 
 pub discard-spec : {M : Type 1} → statement M

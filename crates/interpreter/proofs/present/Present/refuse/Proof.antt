@@ -23,7 +23,7 @@ returns c =
     let long : length (p .status .errors) ≡ most = search needs in
     let raised = c .before .before .raise .ensures in
     record {
-      box = λ out. rw raised (refused-dropped (a .error) p long (sym (c .before .number .ensures) ∙ c .if1 .taken) (take (p .answered) out) out);
+      box = λ out m. rw raised (refused-dropped (a .error) p m long (sym (c .before .number .ensures) ∙ c .if1 .taken) (take (p .answered) out) out);
       queued = λ h. rw raised (raised-short (a .error) p long h);
       room = zero-le;
     }
@@ -36,7 +36,7 @@ returns-2 c =
     let long : length (p .status .errors) ≡ most = search needs in
     let raised = c .before .before .raise .ensures in
     record {
-      box = λ out. rw raised (refused-kept (a .error) p long (λ e. c .if1 .left (c .before .number .ensures ∙ e)) (take (p .answered) out));
+      box = λ out m. rw raised (refused-kept (a .error) p m long (λ e. c .if1 .left (c .before .number .ensures ∙ e)) (take (p .answered) out));
       queued = λ h. rw raised (raised-short (a .error) p long h);
       room = rw raised (omega arith);
     }

@@ -5,6 +5,7 @@ use Rattle.interpreter.specs.State.{possibleParts}
 use Rattle.registers.specs.Queue.{most}
 use Rattle.interpreter.proofs.state.State.possible.Statement.{statement}
 use Rattle.registers.specs.Settings.{count}
+use Rattle.registers.specs.Label.{mostText}
 use Rattle.interpreter.proofs.state.State.possible.Tie as tie
 
 possible-requires : tie.Need-possible-requires
@@ -20,7 +21,10 @@ returns c =
     let g = c .before .before .before .before .good .0 .1 .1 in
     record {
       is = rw (c .before .before .before .possible .ensures, c .before .before .possible2 .ensures);
-      values = length-unmapped _ (s .settings .values) count (g .0 .1 .1 .0 .1 .0 .1);
+      values = record {
+        values = length-unmapped _ (s .settings .values) count (g .0 .1 .1 .0 .1 .0 .1);
+        text = length-unmapped _ (s .settings .text) mostText (g .0 .1 .1 .1 .0 .1 .0 .1);
+      };
       errors = length-unmapped _ (s .status .errors) most (g .1 .0 .1 .1 .1 .1 .1 .1 .1 .0 .1 .0 .1);
       answer = length-unmapped _ (s .answer) mostAnswer (g .1 .1 .1 .1 .1 .0 .1 .0 .1);
     }

@@ -14,7 +14,7 @@ unfolding powerUp
 returns c =
     record {
       possible = rw (c .before .reset .ensures, c .power-up .ensures) start-possible;
-      first = rw (c .before .reset .ensures, c .power-up .ensures);
+      first = λ m. rw (c .before .reset .ensures, c .power-up .ensures);
     }
 
 pub power-up-spec : {M : Type 1} → statement M

@@ -1,65 +1,12 @@
--- Invariant: every row below `row` is within its limits. Measure: the rows left. A row outside decides at once (`impossible`).
-use native.Mathlib.Omega.{arith}
-use mathlib.Core.Path.{_≡_, refl, sym, _∙_}
-use mathlib.Core.Bool.{true}
-use Prim.Native.Nat.{ℕ, _≤_, _-_}
-use mir.Syntax.{w32}
-use mir.Facts.{toZ-ofZ}
-use borrow.Author.Tests.{not-true, not-false}
-use Rattle.registers.specs.Text.{below}
-use Rattle.registers.specs.Settings.{count, within, valueAt}
-use Rattle.registers.specs.declared.settings.Settings.{Settings}
-use Rattle.registers.proofs.Tests.{below-more}
-use Rattle.registers.proofs.settings.Laws.{impossible, all-possible}
+use mathlib.Core.Path.{refl}
 use borrow.Author.Needs.{needs}
+use Rattle.registers.specs.Settings.{possibleSettings}
 use Rattle.registers.proofs.settings.Settings.possible.Statement.{statement}
 use Rattle.registers.proofs.settings.Settings.possible.Tie as tie
 
-abbrev Inv-loop : tie.InvT-loop
-Inv-loop self values row₀ row = (row ≤ count) × (values ≡ self .values) × (below row (λ i. within self i (valueAt self i)) ≡ true)
-
-abbrev μ-loop : tie.MeasureT-loop
-μ-loop self values row₀ row = count - row
-
-loop-holds : tie.Need-loop-holds Inv-loop μ-loop
-loop-holds c = (search needs, refl, refl)
-
--- at a row that is tested: the settings, the row, and what the test tells
-abbrev self : tie.After-within Inv-loop μ-loop → Settings
-self t = t .before .before .before .before .before .args .self
-
-abbrev row : tie.After-within Inv-loop μ-loop → ℕ
-row t = t .before .before .before .loop .row
-
-told : (t : tie.After-within Inv-loop μ-loop) → within (self t) (row t) (valueAt (self t) (row t)) ≡ t .within .result
-told t =
-    let b = toZ-ofZ {w = w32} {z = valueAt (self t) (row t)} (record { sfits = t .before .value .given }) in
-    sym (rw b at (t .within .ensures))
-
-returns : tie.Need-returns Inv-loop μ-loop
-returns c = let t = c .before in impossible (self t) (row t) (omega arith) (told t ∙ not-true _ (c .if1 .taken))
-
-loop-again : tie.Need-loop-again Inv-loop μ-loop
-loop-again c =
-    let t = c .before in
-    let so-far = t .before .before .before .loop .inv .2 in
-    (search needs, refl, below-more (row t) (λ k. within (self t) k (valueAt (self t) k)) so-far (told t ∙ not-false _ (c .if1 .left)))
-
-returns-2 : tie.Need-returns-2 Inv-loop μ-loop
-returns-2 c = all-possible (c .before .before .before .args .self) (c .before .loop .row) (omega arith) (c .before .loop .inv .2)
+returns : tie.Need-returns
+unfolding possibleSettings
+returns c = rw (c .possible .ensures, c .before .before .values-possible .ensures) refl
 
 pub possible-spec : {M : Type 1} → statement M
-possible-spec =
-    tie.close
-    (tie.spec
-    Inv-loop
-    μ-loop
-    loop-holds
-    (λ c. omega arith)
-    (λ c. omega arith)
-    (λ c κs. tt)
-    returns
-    (λ c. omega arith)
-    (λ c. omega arith)
-    loop-again
-    returns-2)
+possible-spec = tie.close (tie.spec (λ c κs. tt) (λ c. search needs) (λ c κs. tt) returns)

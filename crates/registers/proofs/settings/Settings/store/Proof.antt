@@ -20,27 +20,27 @@ returns c =
     let b = toZ-ofZ {w = w32} {z = a .value} (c .before .before .before .before .before .fits .value) in
     let w = sym (rw b at (c .before .before .before .within .ensures)) ∙ c .before .before .if2 .taken in
     let k = sym (rw b at (c .before .conflicts .ensures)) ∙ not-true _ (c .if3 .taken) in
-    rw b (sym (stored-yes (a .row) (a .value) (a .t1) w k))
+    rw b (sym (stored-yes (a .slot) (a .value) (a .t1) w k))
 
 returns-2 : tie.Need-returns-2
 returns-2 c =
     let a = c .before .before .before .before .before .args in
     let b = toZ-ofZ {w = w32} {z = a .value} (c .before .before .before .before .before .fits .value) in
-    sym (stored-conflict (a .row) (a .value) (a .t1) (sym (rw b at (c .before .conflicts .ensures)) ∙ not-false _ (c .if3 .left)))
+    sym (stored-conflict (a .slot) (a .value) (a .t1) (sym (rw b at (c .before .conflicts .ensures)) ∙ not-false _ (c .if3 .left)))
 
 returns-3 : tie.Need-returns-3
 returns-3 c =
     let a = c .before .before .before .args in
     let b = toZ-ofZ {w = w32} {z = a .value} (c .before .before .before .fits .value) in
-    sym (stored-outside (a .row) (a .value) (a .t1) (sym (rw b at (c .before .within .ensures)) ∙ c .if2 .left))
+    sym (stored-outside (a .slot) (a .value) (a .t1) (sym (rw b at (c .before .within .ensures)) ∙ c .if2 .left))
 
 returns-4 : tie.Need-returns-4
 unfolding stored
 returns-4 c =
     let s = c .before .args .t1 in
     let long : length (s .values) ≡ count = search needs in
-    let out : set (s .values) (c .before .args .row) (c .before .args .value) ≡ s .values = set-out (s .values) (c .before .args .row) (c .before .args .value) (omega arith) in
-    sym (if-same _ _ s (λ i. record { values = out i }))
+    let out : set (s .values) (c .before .args .slot) (c .before .args .value) ≡ s .values = set-out (s .values) (c .before .args .slot) (c .before .args .value) (omega arith) in
+    sym (if-same _ _ s (λ i. record { values = out i; text = s .text }))
 
 pub store-spec : {M : Type 1} → statement M
 store-spec =

@@ -15,7 +15,7 @@ returns : tie.Need-returns
 unfolding within
 returns c =
     let v = c .before .before .args in
-    rw (c .before .lowest .ensures, c .highest .ensures, low-back (v .row), high-back (v .self) (v .row), toZ-ofZ {w = w32} {z = v .value} (c .before .before .fits .value))
+    rw (c .before .lowest .ensures, c .highest .ensures, low-back (v .slot), high-back (v .self) (v .slot), toZ-ofZ {w = w32} {z = v .value} (c .before .before .fits .value))
 
 pub within-spec : {M : Type 1} → statement M
 within-spec = tie.close (tie.spec lowest-requires highest-requires returns)

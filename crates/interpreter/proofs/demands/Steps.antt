@@ -1,0 +1,61 @@
+-- The laws of a history's steps: part by part, in other pieces, and over calls.
+use mathlib.Core.Path.{_≡_, refl, sym, _∙_, ap, ap₂}
+use mathlib.Core.List.{List, [], _∷_, _++_, map, append-nil, append-assoc}
+use Prim.Native.Nat.{ℕ}
+use Rattle.registers.specs.Text.{Text, if_then_else_}
+use Rattle.interpreter.specs.Box.{Memory, Box, powerUp}
+use Rattle.interpreter.specs.Line.{endLine, byte, piece}
+use Rattle.interpreter.specs.Events.{Event, started, received, take, condition, look, altered, mislent, happens, after}
+use Rattle.interpreter.specs.Histories.{single, newline, moments}
+use Rattle.interpreter.specs.State.{boxOf}
+use Rattle.interpreter.specs.Steps.{Step, powersUp, endSteps, byteSteps, pieceSteps, eventSteps, steps, StepsOfParts, StepsRecut, StepLaws}
+use Rattle.interpreter.proofs.demands.histories.Pieces.{singles-after}
+use Rattle.interpreter.proofs.demands.calls.AsHistory.{calls-are-a-history}
+
+pub steps-append : StepsOfParts
+unfolding steps after
+steps-append b [] fs = refl
+steps-append b (e ∷ es) fs =
+    ap (λ (l : List Step). eventSteps b e ++ l) (steps-append (happens b e .box) es fs)
+    ∙ sym (append-assoc (eventSteps b e) (steps (happens b e .box) es) (steps (after (happens b e .box) es) fs))
+
+-- a newline, and a power-up, begin what comes after them
+pub newline-steps : (b : Box) (h : List Event) → steps b (newline ∷ h) ≡ endSteps b ++ steps (endLine b) h
+unfolding steps eventSteps pieceSteps byteSteps happens piece byte if_then_else_
+newline-steps b h = ap (λ (l : List Step). l ++ steps (endLine b) h) (append-nil (endSteps b))
+
+pub started-steps : (b : Box) (h : List Event) → steps b (started ∷ h) ≡ powersUp b ∷ steps (powerUp (b .core .memory)) h
+unfolding steps eventSteps happens
+started-steps b h = refl
+
+-- ---- in other pieces
+
+singles-steps : (b : Box) (xs : Text) → steps b (map single xs) ≡ pieceSteps b xs
+unfolding steps eventSteps pieceSteps happens piece
+singles-steps b [] = refl
+singles-steps b (x ∷ xs) = rw (append-nil (byteSteps b x)) (ap (λ (l : List Step). byteSteps b x ++ l) (singles-steps (byte b x) xs))
+
+steps-moments : (b : Box) (es : List Event) → steps b (moments es) ≡ steps b es
+unfolding steps eventSteps moments happens
+steps-moments b [] = refl
+steps-moments b (started ∷ es) = ap (λ (l : List Step). powersUp b ∷ l) (steps-moments _ es)
+steps-moments b (received xs ∷ es) =
+    steps-append b (map single xs) (moments es)
+    ∙ ap₂ (λ (x y : List Step). x ++ y) (singles-steps b xs) (ap (λ (c : Box). steps c (moments es)) (singles-after b xs) ∙ steps-moments (piece b xs) es)
+steps-moments b (take buffer ∷ es) = ap (λ (l : List Step). eventSteps b (take buffer) ++ l) (steps-moments _ es)
+steps-moments b (condition x n ∷ es) = steps-moments _ es
+steps-moments b (look ∷ es) = steps-moments b es
+steps-moments b (altered i x ∷ es) = steps-moments _ es
+steps-moments b (mislent buffer ∷ es) = steps-moments b es
+
+pub recut-steps : StepsRecut
+recut-steps b h g e = sym (steps-moments b h) ∙ ap (steps b) e ∙ steps-moments b g
+
+pub step-laws : StepLaws
+step-laws =
+    record {
+      parts = steps-append;
+      recut = recut-steps;
+      calls = λ s t m n es fs rs p c.
+          steps-append (boxOf s m) es fs ∙ ap (λ (b : Box). steps (boxOf s m) es ++ steps b fs) (sym (calls-are-a-history s t m n es rs p c .box));
+    }

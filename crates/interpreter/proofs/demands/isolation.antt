@@ -1,0 +1,4 @@
+pub mod Reading
+pub mod Units
+pub mod Histories
+pub mod OfCalls

@@ -1,0 +1,4 @@
+pub mod Recorded
+pub mod Sending
+pub mod Reading
+pub mod Walking
