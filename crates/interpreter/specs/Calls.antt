@@ -8,7 +8,7 @@ use lib.ListN as L
 use lib.ListN.{length}
 use Rattle.registers.specs.Text.{Text, every}
 use Rattle.interpreter.specs.Box.{Memory, rightSize, alteredIn, Box, mostAnswer}
-use Rattle.interpreter.specs.Events.{Event, started, received, take, condition, look, altered, mislent, Result, result, lent, after, results}
+use Rattle.interpreter.specs.Events.{Event, altered, mislent, Sort, anew, carries, fetches, aside, sortOf, Result, result, lent, after, results}
 use Rattle.interpreter.specs.State.{boxOf, possibleState, rightly, Happens}
 use Rattle.interpreter.specs.Histories.{answers, sent, copied}
 use Rattle.interpreter.specs.Server.{linesOf, eventsOf, begun, Serves}
@@ -42,14 +42,14 @@ pub record History (s : State) (m : Memory) (t : State) (n : Memory) (es : List 
 -- ---- a chunk served is a history of pieces and takes
 
 -- a piece, or a take with room for any answer
+abbrev pub roomyAs : Sort → Bool
+roomyAs anew = false
+roomyAs (carries xs) = true
+roomyAs (fetches buffer) = leb mostAnswer (length buffer)
+roomyAs aside = false
+
 abbrev pub roomy : Event → Bool
-roomy started = false
-roomy (received xs) = true
-roomy (take buffer) = leb mostAnswer (length buffer)
-roomy (condition x n) = false
-roomy look = false
-roomy (altered i x) = false
-roomy (mislent buffer) = false
+roomy e = roomyAs (sortOf e)
 
 -- events that bring these bytes to a box, none of them refused, and lead to that box
 pub record Brings (text : Text) (b c : Box) (es : List Event) : Type 0 where

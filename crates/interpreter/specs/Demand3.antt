@@ -12,8 +12,8 @@ use Rattle.registers.specs.Check.{Checked, refused, passed}
 use Rattle.interpreter.specs.Box.{Memory, Core, Box, powerUp}
 use Rattle.interpreter.specs.Unit.{Read, readUnit}
 use Rattle.interpreter.specs.Line.{Obeyed, attempt, unitsOf, atNewline, byte}
-use Rattle.interpreter.specs.Events.{Event, started, received, take, condition, look, altered, mislent, Result, happens, after}
-use Rattle.interpreter.specs.Histories.{newline, Recut, isTake, isPiece, noPiece, howMany, resultsOf, summed}
+use Rattle.interpreter.specs.Events.{Event, received, Sort, anew, carries, fetches, aside, sortOf, Result, happens, after}
+use Rattle.interpreter.specs.Histories.{newline, Recut, sentBy, isTake, isPiece, noPiece, howMany, resultsOf, summed}
 use Rattle.interpreter.specs.declared.deed.Deed.{Deed}
 use Rattle.interpreter.specs.declared.deed.Deed.the-variants.{Change, Complete, Clear, Query, Inquire, Saving}
 
@@ -51,25 +51,19 @@ lineRefusal b = if b .core .overlong then 363 else refusal (unitsOf (b .core .li
 -- of the bytes received only the first k, and every other event
 unfoldable pub keep : ℕ → List Event → List Event
 keep k [] = []
-keep k (started ∷ es) = started ∷ keep k es
-keep k (received xs ∷ es) = received (L.take k xs) ∷ keep (k - length xs) es
-keep k (take buffer ∷ es) = take buffer ∷ keep k es
-keep k (condition x n ∷ es) = condition x n ∷ keep k es
-keep k (look ∷ es) = look ∷ keep k es
-keep k (altered i x ∷ es) = altered i x ∷ keep k es
-keep k (mislent buffer ∷ es) = mislent buffer ∷ keep k es
+keep k (e ∷ es) = (if isPiece e then received (L.take k (sentBy e)) else e) ∷ keep (k - length (sentBy e)) es
 
 -- ---- a line in a history: `before` it, its bytes and what else happens `during` it, and its newline
 
 -- an event while a line is under way: no newline, no power-up
+abbrev pub mayCome : Sort → Bool
+mayCome anew = false
+mayCome (carries xs) = every (λ x. not (eqb x 10)) xs
+mayCome (fetches buffer) = true
+mayCome aside = true
+
 unfoldable pub inLine : Event → Bool
-inLine started = false
-inLine (received xs) = every (λ x. not (eqb x 10)) xs
-inLine (take buffer) = true
-inLine (condition x n) = true
-inLine look = true
-inLine (altered i x) = true
-inLine (mislent buffer) = true
+inLine e = mayCome (sortOf e)
 
 -- the box as the newline comes; m is the memory that is there at power-up
 abbrev pub atEnd : Memory → List Event → List Event → Box
@@ -141,14 +135,14 @@ watchPiece b [] = neither
 watchPiece b (x ∷ xs) = thenWatch (watchByte b x) (watchPiece (byte b x) xs)
 
 -- a power-up leaves no difference either
+abbrev pub watchSort : Box → Sort → Watch
+watchSort b anew = cleared
+watchSort b (carries xs) = watchPiece b xs
+watchSort b (fetches buffer) = neither
+watchSort b aside = neither
+
 unfoldable pub watchEvent : Box → Event → Watch
-watchEvent b started = cleared
-watchEvent b (received xs) = watchPiece b xs
-watchEvent b (take buffer) = neither
-watchEvent b (condition x n) = neither
-watchEvent b look = neither
-watchEvent b (altered i x) = neither
-watchEvent b (mislent buffer) = neither
+watchEvent b e = watchSort b (sortOf e)
 
 unfoldable pub watch : Box → List Event → Watch
 watch b [] = neither

@@ -10,7 +10,8 @@ use Rattle.registers.specs.Text.{Text, if_then_else_, empty}
 use Rattle.interpreter.specs.Box as lent
 use Rattle.interpreter.specs.Box.{Box, box, raise, answerIs, powerUp, blank}
 use Rattle.interpreter.specs.Line.{unitsOf, atNewline, held, byte, newlines}
-use Rattle.interpreter.specs.Events.{Event, started, received, take, condition, look, altered, mislent, Result, result, happens, results}
+use Rattle.interpreter.specs.Events.{Event, received, take, Sort, anew, carries, fetches, aside, sortOf, Result, result, happens, results}
+use Rattle.interpreter.specs.Histories.{sentBy, isPiece}
 use Rattle.interpreter.specs.State.{Happens, Started}
 use Rattle.interpreter.specs.declared.state.State.{State}
 
@@ -82,13 +83,7 @@ refusingPiece b [] = b
 refusingPiece b (x ∷ xs) = refusingPiece (refusingByte b x) xs
 
 abbrev pub refusing : Box → Event → Box
-refusing b started = powerUp (b .core .memory)
-refusing b (received xs) = refusingPiece b xs
-refusing b (take buffer) = happens b (take buffer) .box
-refusing b (condition x n) = happens b (condition x n) .box
-refusing b look = b
-refusing b (altered i x) = happens b (altered i x) .box
-refusing b (mislent buffer) = b
+refusing b e = if isPiece e then refusingPiece b (sentBy e) else happens b e .box
 
 abbrev pub refuser : Program
 refuser = record { Memory = Box; start = first; tells = λ b e. happens b e .result; keeps = refusing }
@@ -99,13 +94,7 @@ abbrev pub IgnoresPieces : Program → Type 0
 IgnoresPieces p = (es : List Event) (xs : Text) → p .keeps (reached p (p .start) es) (received xs) ≡ reached p (p .start) es
 
 abbrev pub ignoring : Box → Event → Box
-ignoring b started = powerUp (b .core .memory)
-ignoring b (received xs) = b
-ignoring b (take buffer) = happens b (take buffer) .box
-ignoring b (condition x n) = happens b (condition x n) .box
-ignoring b look = b
-ignoring b (altered i x) = happens b (altered i x) .box
-ignoring b (mislent buffer) = b
+ignoring b e = if isPiece e then b else happens b e .box
 
 abbrev pub ignorer : Program
 ignorer = record { Memory = Box; start = first; tells = λ b e. happens b e .result; keeps = ignoring }
@@ -138,14 +127,14 @@ unfoldable pub firstPiece : Box × Bool → Text → Box × Bool
 firstPiece m [] = m
 firstPiece m (x ∷ xs) = firstPiece (firstByte m x) xs
 
+abbrev pub firstOver : Box × Bool → Event → Sort → Box × Bool
+firstOver m e anew = (happens (m .0) e .box, false)
+firstOver m e (carries xs) = firstPiece m xs
+firstOver m e (fetches buffer) = (happens (m .0) e .box, m .1)
+firstOver m e aside = (happens (m .0) e .box, m .1)
+
 abbrev pub firstOnly : Box × Bool → Event → Box × Bool
-firstOnly m started = (happens (m .0) started .box, false)
-firstOnly m (received xs) = firstPiece m xs
-firstOnly m (take buffer) = (happens (m .0) (take buffer) .box, m .1)
-firstOnly m (condition x n) = (happens (m .0) (condition x n) .box, m .1)
-firstOnly m look = m
-firstOnly m (altered i x) = (happens (m .0) (altered i x) .box, m .1)
-firstOnly m (mislent buffer) = m
+firstOnly m e = firstOver m e (sortOf e)
 
 abbrev pub firstLiner : Program
 firstLiner =
@@ -158,13 +147,7 @@ Invents p = (es : List Event) × (xs : Text) × (tellsNext p es (received xs) .v
 
 -- it is the box, but that every piece has the same count
 abbrev pub invented : ℕ → Box → Event → Result
-invented k b started = happens b started .result
-invented k b (received xs) = result 0 k []
-invented k b (take buffer) = happens b (take buffer) .result
-invented k b (condition x n) = happens b (condition x n) .result
-invented k b look = happens b look .result
-invented k b (altered i x) = happens b (altered i x) .result
-invented k b (mislent buffer) = happens b (mislent buffer) .result
+invented k b e = if isPiece e then result 0 k [] else happens b e .result
 
 abbrev pub inventor : ℕ → Program
 inventor k = record { Memory = Box; start = first; tells = invented k; keeps = λ b e. happens b e .box }

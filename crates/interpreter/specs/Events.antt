@@ -25,6 +25,22 @@ pub data Event : Type 0 where
   -- a piece, take, condition or look that was lent a store of the wrong length, and the buffer that it was lent
   mislent : Text → Event
 
+-- what an event is to the lines and the answers. What goes by this alone asks for the sort
+pub data Sort : Type 0 where
+  anew : Sort  -- all begins anew
+  carries : Text → Sort  -- bytes come
+  fetches : Text → Sort  -- an answer is asked for, into the lent buffer
+  aside : Sort  -- none of these
+
+abbrev pub sortOf : Event → Sort
+sortOf started = anew
+sortOf (received xs) = carries xs
+sortOf (take buffer) = fetches buffer
+sortOf (condition x n) = aside
+sortOf look = aside
+sortOf (altered i x) = aside
+sortOf (mislent buffer) = aside
+
 -- the refusal's number in 01's table, or 0; the count, length or status byte; the lent buffer afterwards
 pub record Result : Type 0 where
   pub number : ℕ

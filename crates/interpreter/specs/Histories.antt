@@ -7,7 +7,7 @@ use lib.Dec.{eqb}
 use lib.ListN as L
 use Rattle.registers.specs.Text.{Text, if_then_else_}
 use Rattle.interpreter.specs.Box.{Box}
-use Rattle.interpreter.specs.Events.{Event, started, received, take, condition, look, altered, mislent, Result, happens}
+use Rattle.interpreter.specs.Events.{Event, received, Sort, anew, carries, fetches, aside, sortOf, Result, happens}
 
 -- one byte received, and the newline
 abbrev pub single : ℕ → Event
@@ -16,41 +16,45 @@ single x = received (x ∷ [])
 abbrev pub newline : Event
 newline = single 10
 
+-- the bytes that an event brings
+abbrev pub carried : Sort → Text
+carried anew = []
+carried (carries xs) = xs
+carried (fetches buffer) = []
+carried aside = []
+
+abbrev pub sentBy : Event → Text
+sentBy e = carried (sortOf e)
+
+abbrev pub isCarrier : Sort → Bool
+isCarrier anew = false
+isCarrier (carries xs) = true
+isCarrier (fetches buffer) = false
+isCarrier aside = false
+
+abbrev pub isPiece : Event → Bool
+isPiece e = isCarrier (sortOf e)
+
+abbrev pub noPiece : Event → Bool
+noPiece e = not (isPiece e)
+
+abbrev pub isFetch : Sort → Bool
+isFetch anew = false
+isFetch (carries xs) = false
+isFetch (fetches buffer) = true
+isFetch aside = false
+
+abbrev pub isTake : Event → Bool
+isTake e = isFetch (sortOf e)
+
 -- a history with its bytes one at a time
 unfoldable pub moments : List Event → List Event
 moments [] = []
-moments (started ∷ es) = started ∷ moments es
-moments (received xs ∷ es) = map single xs ++ moments es
-moments (take buffer ∷ es) = take buffer ∷ moments es
-moments (condition x n ∷ es) = condition x n ∷ moments es
-moments (look ∷ es) = look ∷ moments es
-moments (altered i x ∷ es) = altered i x ∷ moments es
-moments (mislent buffer ∷ es) = mislent buffer ∷ moments es
+moments (e ∷ es) = (if isPiece e then map single (sentBy e) else e ∷ []) ++ moments es
 
 -- "however the bytes are cut": h is the history g, its bytes in any other pieces
 abbrev pub Recut : List Event → List Event → Type 0
 Recut h g = moments h ≡ moments g
-
-abbrev pub isTake : Event → Bool
-isTake started = false
-isTake (received xs) = false
-isTake (take buffer) = true
-isTake (condition x n) = false
-isTake look = false
-isTake (altered i x) = false
-isTake (mislent buffer) = false
-
-abbrev pub isPiece : Event → Bool
-isPiece started = false
-isPiece (received xs) = true
-isPiece (take buffer) = false
-isPiece (condition x n) = false
-isPiece look = false
-isPiece (altered i x) = false
-isPiece (mislent buffer) = false
-
-abbrev pub noPiece : Event → Bool
-noPiece e = not (isPiece e)
 
 -- how many of the events
 unfoldable pub howMany : (Event → Bool) → List Event → ℕ
@@ -89,13 +93,7 @@ counted b es = summed (resultsOf isPiece b es)
 -- all that its pieces bring
 unfoldable pub sent : List Event → Text
 sent [] = []
-sent (started ∷ es) = sent es
-sent (received xs ∷ es) = xs ++ sent es
-sent (take buffer ∷ es) = sent es
-sent (condition x n ∷ es) = sent es
-sent (look ∷ es) = sent es
-sent (altered i x ∷ es) = sent es
-sent (mislent buffer ∷ es) = sent es
+sent (e ∷ es) = sentBy e ++ sent es
 
 -- all that its takes copied, one answer after the other; a refused take copies nothing
 unfoldable pub copied : List Result → Text

@@ -9,7 +9,7 @@ use Rattle.registers.specs.Status.{registersOf, troubleOf, possibleStatus}
 use Rattle.registers.specs.declared.settings.Settings.{Settings}
 use Rattle.registers.specs.declared.status.Status.{Status}
 use Rattle.interpreter.specs.Box.{Memory, rightSize, Box, box, powerUp, mostLine, mostAnswer}
-use Rattle.interpreter.specs.Events.{Event, started, received, take as takes, condition, look, altered, mislent, Result, result, happened, happens, lent}
+use Rattle.interpreter.specs.Events.{Event, started, received, take as takes, condition, look, altered, mislent, Sort, anew, carries, fetches, aside, sortOf, Result, result, happened, happens, lent}
 use Rattle.interpreter.specs.declared.state.State.{State}
 use Rattle.interpreter.specs.declared.state.Outcome.{Outcome}
 use Rattle.interpreter.specs.declared.state.Outcome.the-variants.{Done, BufferTooShort, NoAnswer, ConditionTooWide, ImpossibleState, WrongStore}
@@ -46,14 +46,14 @@ abbrev pub possibleState : State → Bool
 possibleState s = possibleParts (s .settings) (s .status) (s .filled) (s .waiting)
 
 -- number 4 is for "any but power-up": a power-up looks at no state, and is never refused
+abbrev pub admittedAs : State → Sort → Bool
+admittedAs s anew = true
+admittedAs s (carries xs) = possibleState s
+admittedAs s (fetches buffer) = possibleState s
+admittedAs s aside = possibleState s
+
 abbrev pub admitted : State → Event → Bool
-admitted s started = true
-admitted s (received xs) = possibleState s
-admitted s (takes buffer) = possibleState s
-admitted s (condition x n) = possibleState s
-admitted s look = possibleState s
-admitted s (altered i x) = possibleState s
-admitted s (mislent buffer) = possibleState s
+admitted s e = admittedAs s (sortOf e)
 
 -- number 5 is for "every event but power-up", which is lent no store
 abbrev pub rightly : Memory → Event → Bool

@@ -11,7 +11,7 @@ use Rattle.registers.specs.Text.{Text, if_then_else_, empty}
 use Rattle.registers.specs.Check.{Checked, refused, passed}
 use Rattle.interpreter.specs.Box.{Memory, Box}
 use Rattle.interpreter.specs.Line.{Obeyed, attempt, unitsOf, atNewline, byte}
-use Rattle.interpreter.specs.Events.{Event, started, received, take, condition, look, altered, mislent, Result, happens, after}
+use Rattle.interpreter.specs.Events.{Event, Sort, anew, carries, fetches, aside, sortOf, Result, happens, after}
 use Rattle.interpreter.specs.Histories.{Recut}
 use Rattle.interpreter.specs.State.{boxOf, possibleState}
 use Rattle.interpreter.specs.Calls.{Calls}
@@ -62,14 +62,14 @@ unfoldable pub pieceSteps : Box → Text → List Step
 pieceSteps b [] = []
 pieceSteps b (x ∷ xs) = byteSteps b x ++ pieceSteps (byte b x) xs
 
+abbrev pub sortSteps : Box → Sort → List Step
+sortSteps b anew = powersUp b ∷ []
+sortSteps b (carries xs) = pieceSteps b xs
+sortSteps b (fetches buffer) = if empty (b .core .answer) then findsNone b ∷ [] else []
+sortSteps b aside = []
+
 unfoldable pub eventSteps : Box → Event → List Step
-eventSteps b started = powersUp b ∷ []
-eventSteps b (received xs) = pieceSteps b xs
-eventSteps b (take buffer) = if empty (b .core .answer) then findsNone b ∷ [] else []
-eventSteps b (condition x n) = []
-eventSteps b look = []
-eventSteps b (altered i x) = []
-eventSteps b (mislent buffer) = []
+eventSteps b e = sortSteps b (sortOf e)
 
 unfoldable pub steps : Box → List Event → List Step
 steps b [] = []

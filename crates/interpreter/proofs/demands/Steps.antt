@@ -5,10 +5,11 @@ use Prim.Native.Nat.{ℕ}
 use Rattle.registers.specs.Text.{Text, if_then_else_}
 use Rattle.interpreter.specs.Box.{Memory, Box, powerUp}
 use Rattle.interpreter.specs.Line.{endLine, byte, piece}
-use Rattle.interpreter.specs.Events.{Event, started, received, take, condition, look, altered, mislent, happens, after}
+use Rattle.interpreter.specs.Events.{Event, started, happens, after}
 use Rattle.interpreter.specs.Histories.{single, newline, moments}
 use Rattle.interpreter.specs.State.{boxOf}
 use Rattle.interpreter.specs.Steps.{Step, powersUp, endSteps, byteSteps, pieceSteps, eventSteps, steps, StepsOfParts, StepsRecut, StepLaws}
+use Rattle.interpreter.proofs.demands.histories.Sorts.{by-bytes}
 use Rattle.interpreter.proofs.demands.histories.Pieces.{singles-after}
 use Rattle.interpreter.proofs.demands.calls.AsHistory.{calls-are-a-history}
 
@@ -36,17 +37,13 @@ singles-steps b [] = refl
 singles-steps b (x ∷ xs) = rw (append-nil (byteSteps b x)) (ap (λ (l : List Step). byteSteps b x ++ l) (singles-steps (byte b x) xs))
 
 steps-moments : (b : Box) (es : List Event) → steps b (moments es) ≡ steps b es
-unfolding steps eventSteps moments happens
+unfolding steps eventSteps moments happens if_then_else_
 steps-moments b [] = refl
-steps-moments b (started ∷ es) = ap (λ (l : List Step). powersUp b ∷ l) (steps-moments _ es)
-steps-moments b (received xs ∷ es) =
-    steps-append b (map single xs) (moments es)
-    ∙ ap₂ (λ (x y : List Step). x ++ y) (singles-steps b xs) (ap (λ (c : Box). steps c (moments es)) (singles-after b xs) ∙ steps-moments (piece b xs) es)
-steps-moments b (take buffer ∷ es) = ap (λ (l : List Step). eventSteps b (take buffer) ++ l) (steps-moments _ es)
-steps-moments b (condition x n ∷ es) = steps-moments _ es
-steps-moments b (look ∷ es) = steps-moments b es
-steps-moments b (altered i x ∷ es) = steps-moments _ es
-steps-moments b (mislent buffer ∷ es) = steps-moments b es
+steps-moments b (e ∷ es) =
+    by-bytes (λ f. ((c : Box) → steps c (moments es) ≡ steps c es) → steps b (moments (f ∷ es)) ≡ steps b (f ∷ es))
+    (λ xs ih. steps-append b (map single xs) (moments es)
+    ∙ ap₂ (λ (x y : List Step). x ++ y) (singles-steps b xs) (ap (λ (c : Box). steps c (moments es)) (singles-after b xs) ∙ ih (piece b xs)))
+    (λ f none z ih. rw none (ap (λ (l : List Step). eventSteps b f ++ l) (ih (happens b f .box)))) e (λ c. steps-moments c es)
 
 pub recut-steps : StepsRecut
 recut-steps b h g e = sym (steps-moments b h) ∙ ap (steps b) e ∙ steps-moments b g

@@ -1,3 +1,4 @@
+pub mod Sorts
 pub mod Pieces
 pub mod NewlineCounts
 pub mod ResultCounts

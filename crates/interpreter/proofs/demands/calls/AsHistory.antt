@@ -8,8 +8,8 @@ use lib.Dec.{leb}
 use lib.ListN.{length}
 use Rattle.registers.specs.Text.{Text, if_then_else_, empty}
 use Rattle.interpreter.specs.Box.{Memory, rightSize, alteredIn, Box, mostAnswer}
-use Rattle.interpreter.specs.Events.{Event, started, received, take as takes, condition, look, altered, mislent, Result, result, lent, Happened, happened, happens, after, results}
-use Rattle.interpreter.specs.State.{boxOf, possibleState, admitted, rightly, Happens, Started}
+use Rattle.interpreter.specs.Events.{Event, started, received, take as takes, condition, look, altered, mislent, Sort, anew, carries, fetches, aside, sortOf, Result, result, lent, Happened, happened, happens, after, results}
+use Rattle.interpreter.specs.State.{boxOf, possibleState, admittedAs, admitted, rightly, Happens, Started}
 use Rattle.interpreter.specs.Server.{linesOf, Service, service, tookAfter, servedLine, serves, takingFirst, eventsOf, begun, Serves}
 use Rattle.interpreter.specs.Calls.{Call, event, instead, chunk, noChunk, alters, Calls, done, call, History}
 use Rattle.interpreter.specs.declared.state.State.{State}
@@ -17,13 +17,13 @@ use Rattle.interpreter.proofs.demands.histories.Pieces.{after-append}
 
 -- a state that could be the box's is refused no event by number 4
 pub admits : (s : State) (e : Event) → possibleState s ≡ true → admitted s e ≡ true
-admits s started p = refl
-admits s (received xs) p = p
-admits s (takes buffer) p = p
-admits s (condition x n) p = p
-admits s look p = p
-admits s (altered i x) p = p
-admits s (mislent buffer) p = p
+admits s e p = go (sortOf e)
+  where
+    go : (k : Sort) → admittedAs s k ≡ true
+    go anew = refl
+    go (carries xs) = p
+    go (fetches buffer) = p
+    go aside = p
 
 -- an event on a state that could be the box's, with a memory of the right size: what the definition says happens, whether the event was lent this
 -- memory, none, or another

@@ -1,7 +1,7 @@
 -- Each of the programs in specs/Dummies is the dummy that it stands for. The refuser and the fixed answer by an invariant of their memory
 -- (no answer waits; no answer but the one), the others by what a piece does to theirs.
 use mathlib.Core.Path.{_≡_, refl, sym, _∙_, ap, subst}
-use mathlib.Core.Bool.{Bool, true, false}
+use mathlib.Core.Bool.{Bool, true, false, true≢false}
 use mathlib.Core.List.{List, [], _∷_, _++_}
 use Prim.Native.Nat.{ℕ, zero, suc}
 use native.Mathlib.Omega.{arith}
@@ -16,6 +16,7 @@ use Rattle.interpreter.specs.Box as lent
 use Rattle.interpreter.specs.Box.{Core, Box, box, powerUp, blank, mostLine}
 use Rattle.interpreter.specs.Line.{interrupted, unitsOf, held, byte, piece, newlines}
 use Rattle.interpreter.specs.Events.{Event, started, received, take, condition, look, altered, mislent, Happened, taken, reported, happens}
+use Rattle.interpreter.specs.Histories.{sentBy, isPiece}
 use Rattle.interpreter.specs.Dummies.{Program, reached, RefusesUnits, refusingByte, refusingPiece, refusing, refuser, AnswersAlike, answering, fixedAnswer, OnlyFirstLine, firstByte, firstPiece, firstLiner, Invents, inventor, AreSo}
 use Rattle.interpreter.proofs.Choices.{if-elim}
 use Rattle.interpreter.proofs.Lists.{is-empty}
@@ -66,15 +67,19 @@ taken-answerless b buffer h =
     if-elim AnswerlessHappened (empty (b .core .answer)) (λ _. h)
     (λ _. if-elim AnswerlessHappened (leb (length (b .core .answer)) (length buffer)) (λ _. refl) (λ _. h))
 
-refusing-answerless : (b : Box) (e : Event) → Answerless b → Answerless (refusing b e)
+event-answerless : (b : Box) (e : Event) → isPiece e ≡ false → Answerless b → Answerless (happens b e .box)
 unfolding happens reported
-refusing-answerless b started h = start-answerless (b .core .memory)
-refusing-answerless b (received xs) h = piece-answerless xs b h
-refusing-answerless b (take buffer) h = taken-answerless b buffer h
-refusing-answerless b (condition x n) h = if-elim AnswerlessHappened (leb n widestGroup) (λ _. h) (λ _. h)
-refusing-answerless b look h = h
-refusing-answerless b (altered i x) h = h
-refusing-answerless b (mislent buffer) h = h
+event-answerless b started none h = start-answerless (b .core .memory)
+event-answerless b (received xs) none h = absurd (true≢false none)
+event-answerless b (take buffer) none h = taken-answerless b buffer h
+event-answerless b (condition x n) none h = if-elim AnswerlessHappened (leb n widestGroup) (λ _. h) (λ _. h)
+event-answerless b look none h = h
+event-answerless b (altered i x) none h = h
+event-answerless b (mislent buffer) none h = h
+
+refusing-answerless : (b : Box) (e : Event) → Answerless b → Answerless (refusing b e)
+refusing-answerless b e h =
+    if-elim Answerless (isPiece e) (λ _. piece-answerless (sentBy e) b h) (λ none. event-answerless b e none h)
 
 none-taken : (b : Box) (buffer : Text) → Answerless b → taken buffer b .result .number ≡ 2
 unfolding taken if_then_else_
@@ -157,7 +162,7 @@ inventor-is zero = ([], 10 ∷ [], λ e. omega (arith, e))
 inventor-is (suc k) = ([], [], λ e. omega (arith, e))
 
 pub are-so : AreSo
-unfolding happens
+unfolding happens reached if_then_else_
 are-so =
     record {
       refuser = refuser-is;

@@ -6,8 +6,9 @@ use mathlib.Core.List.{List, [], _∷_, _++_, map}
 use Rattle.registers.specs.Text.{Text, if_then_else_}
 use Rattle.interpreter.specs.Box.{Box}
 use Rattle.interpreter.specs.Line.{endLine, byte, piece}
-use Rattle.interpreter.specs.Events.{Event, started, received, take, condition, look, altered, mislent, Result, happens, after}
+use Rattle.interpreter.specs.Events.{Event, received, Result, happens, after}
 use Rattle.interpreter.specs.Histories.{single, newline, moments, Recut, resultsOf}
+use Rattle.interpreter.proofs.demands.histories.Sorts.{by-bytes}
 
 -- ---- histories, part by part
 
@@ -39,16 +40,12 @@ singles-after b [] = refl
 singles-after b (x ∷ xs) = singles-after (byte b x) xs
 
 pub after-moments : (b : Box) (es : List Event) → after b (moments es) ≡ after b es
-unfolding after moments happens
+unfolding after moments happens if_then_else_
 after-moments b [] = refl
-after-moments b (started ∷ es) = after-moments _ es
-after-moments b (received xs ∷ es) =
-    after-append b (map single xs) (moments es) ∙ ap (λ (c : Box). after c (moments es)) (singles-after b xs) ∙ after-moments (piece b xs) es
-after-moments b (take buffer ∷ es) = after-moments _ es
-after-moments b (condition x n ∷ es) = after-moments _ es
-after-moments b (look ∷ es) = after-moments b es
-after-moments b (altered i x ∷ es) = after-moments _ es
-after-moments b (mislent buffer ∷ es) = after-moments b es
+after-moments b (e ∷ es) =
+    by-bytes (λ f. ((c : Box) → after c (moments es) ≡ after c es) → after b (moments (f ∷ es)) ≡ after b (f ∷ es))
+    (λ xs ih. after-append b (map single xs) (moments es) ∙ ap (λ (c : Box). after c (moments es)) (singles-after b xs) ∙ ih (piece b xs))
+    (λ f none z ih. rw none (ih (happens b f .box))) e (λ c. after-moments c es)
 
 -- of results that are no pieces'
 module _ (p : Event → Bool) (silent : (xs : Text) → p (received xs) ≡ false) where
@@ -57,21 +54,13 @@ module _ (p : Event → Bool) (silent : (xs : Text) → p (received xs) ≡ fals
   singles-results b [] = refl
   singles-results b (x ∷ xs) = rw (silent (x ∷ [])) (singles-results (byte b x) xs)
 
-  one-more : (e : Event) (r : Result) {xs ys : List Result} → xs ≡ ys → (if p e then r ∷ xs else xs) ≡ (if p e then r ∷ ys else ys)
-  one-more e r q = ap (λ (rs : List Result). if p e then r ∷ rs else rs) q
-
   pub results-moments : (b : Box) (es : List Event) → resultsOf p b (moments es) ≡ resultsOf p b es
   unfolding resultsOf moments happens if_then_else_
   results-moments b [] = refl
-  results-moments b (started ∷ es) = one-more started _ (results-moments _ es)
-  results-moments b (received xs ∷ es) =
-      results-append p b (map single xs) (moments es)
-      ∙ rw (silent xs, singles-results b xs, singles-after b xs) (results-moments (piece b xs) es)
-  results-moments b (take buffer ∷ es) = one-more (take buffer) _ (results-moments _ es)
-  results-moments b (condition x n ∷ es) = one-more (condition x n) _ (results-moments _ es)
-  results-moments b (look ∷ es) = one-more look _ (results-moments b es)
-  results-moments b (altered i x ∷ es) = one-more (altered i x) _ (results-moments _ es)
-  results-moments b (mislent buffer ∷ es) = one-more (mislent buffer) _ (results-moments b es)
+  results-moments b (e ∷ es) =
+      by-bytes (λ f. ((c : Box) → resultsOf p c (moments es) ≡ resultsOf p c es) → resultsOf p b (moments (f ∷ es)) ≡ resultsOf p b (f ∷ es))
+      (λ xs ih. results-append p b (map single xs) (moments es) ∙ rw (silent xs, singles-results b xs, singles-after b xs) (ih (piece b xs)))
+      (λ f none z ih. rw none (ap (λ (rs : List Result). if p f then happens b f .result ∷ rs else rs) (ih (happens b f .box)))) e (λ c. results-moments c es)
 
   pub recut-results : (b : Box) (h g : List Event) → Recut h g → resultsOf p b h ≡ resultsOf p b g
   recut-results b h g e = sym (results-moments b h) ∙ ap (resultsOf p b) e ∙ results-moments b g

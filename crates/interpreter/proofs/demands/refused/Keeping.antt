@@ -1,7 +1,7 @@
 -- Demand 3, while the line comes in: cutting its bytes to the first k cuts the waiting line to its first k bytes, and nothing else. The
 -- invariant over bytes and events (`Kept`, `DuringKept`): the box with its line cut, and how many of the k bytes are still to come.
 use mathlib.Core.Path.{_≡_, refl, sym, _∙_, ap, ap₂}
-use mathlib.Core.Bool.{Bool, true, false, false≢true}
+use mathlib.Core.Bool.{Bool, true, false, true≢false, false≢true}
 use mathlib.Core.List.{List, [], _∷_, _++_}
 use Prim.Native.Nat.{ℕ, suc, _-_, _≤_, _<_}
 use native.Mathlib.Omega.{arith}
@@ -19,10 +19,11 @@ use Rattle.registers.specs.declared.status.RegisterSet.{RegisterSet}
 use Rattle.interpreter.specs.Box.{Core, Box, box, withLine, mostLine}
 use Rattle.interpreter.specs.Line.{held, byte, piece}
 use Rattle.interpreter.specs.Events.{Event, started, received, take, condition, look, altered, mislent, Happened, Result, taken, reported, happens, after}
-use Rattle.interpreter.specs.Histories.{resultsOf}
+use Rattle.interpreter.specs.Histories.{sentBy, isPiece, resultsOf}
 use Rattle.interpreter.specs.Demand3.{inLine, keep}
 use Rattle.interpreter.proofs.Choices.{if₂}
 use Rattle.interpreter.proofs.line.Pieces.{plain, byte-plain}
+use Rattle.interpreter.proofs.demands.histories.Sorts.{by-bytes}
 
 -- the same box, its waiting line cut to the first k bytes
 unfoldable pub cutTo : ℕ → Box → Box
@@ -113,17 +114,16 @@ module _ (k : ℕ) (most : k ≤ mostLine) where
   unfolding reported cutTo
   reported-blind x n b = if₂ (Blind b) (leb n widestGroup) (refl, refl, refl) (refl, refl, refl)
 
-  look-blind : (b : Box) → Blind b (happens (cutTo k b) look) (happens b look)
-  unfolding happens cutTo
-  look-blind b = (refl, refl, refl)
-
-  altered-blind : (i x : ℕ) (b : Box) → Blind b (happens (cutTo k b) (altered i x)) (happens b (altered i x))
-  unfolding happens cutTo
-  altered-blind i x b = (refl, refl, refl)
-
-  mislent-blind : (buffer : Text) (b : Box) → Blind b (happens (cutTo k b) (mislent buffer)) (happens b (mislent buffer))
-  unfolding happens cutTo
-  mislent-blind buffer b = (refl, refl, refl)
+  -- an event that may come while a line is under way and is no piece
+  blind : (e : Event) (b : Box) → isPiece e ≡ false → inLine e ≡ true → Blind b (happens (cutTo k b) e) (happens b e)
+  unfolding happens inLine cutTo
+  blind started b none t = absurd (false≢true t)
+  blind (received xs) b none t = absurd (true≢false none)
+  blind (take buffer) b none t = taken-blind buffer b
+  blind (condition x n) b none t = reported-blind x n b
+  blind look b none t = (refl, refl, refl)
+  blind (altered i x) b none t = (refl, refl, refl)
+  blind (mislent buffer) b none t = (refl, refl, refl)
 
   -- ---- the events of a line, with its bytes cut to the first k
 
@@ -137,15 +137,16 @@ module _ (k : ℕ) (most : k ≤ mostLine) where
         → resultsOf p (cutTo k b) (keep (left b) es) ≡ resultsOf p b es
 
   -- one event more in front that is no piece
-  blind-first : (b : Box) (e : Event) (es : List Event) → ((j : ℕ) → keep j (e ∷ es) ≡ e ∷ keep j es)
+  blind-first : (b : Box) (e : Event) (es : List Event) → isPiece e ≡ false → sentBy e ≡ []
       → Blind b (happens (cutTo k b) e) (happens b e) → DuringKept (happens b e .box) es → DuringKept b (e ∷ es)
-  unfolding after resultsOf if_then_else_
-  blind-first b e es first s ih =
+  unfolding after keep resultsOf if_then_else_
+  blind-first b e es none z s ih =
       let n : left b ≡ left (happens b e .box) = sym (ap (λ (l : Text). k - length l) (s .2)) in
+      let first : keep (left b) (e ∷ es) ≡ e ∷ keep (left b) es = rw (none, z) (ap (λ (j : ℕ). e ∷ keep j es) (omega arith)) in
       record {
-        state = ap (after (cutTo k b)) (first (left b)) ∙ ap₂ (λ (y : Box) (j : ℕ). after y (keep j es)) (s .0) n ∙ ih .state;
+        state = ap (after (cutTo k b)) first ∙ ap₂ (λ (y : Box) (j : ℕ). after y (keep j es)) (s .0) n ∙ ih .state;
         results = λ p silent.
-            ap (resultsOf p (cutTo k b)) (first (left b))
+            ap (resultsOf p (cutTo k b)) first
             ∙ ap₂ (λ (r : Result) (rs : List Result). if p e then r ∷ rs else rs) (s .1)
             (ap₂ (λ (y : Box) (j : ℕ). resultsOf p y (keep j es)) (s .0) n ∙ ih .results p silent);
       }
@@ -162,13 +163,11 @@ module _ (k : ℕ) (most : k ≤ mostLine) where
       }
 
   pub during-kept : (b : Box) (es : List Event) → every inLine es ≡ true → DuringKept b es
-  unfolding after keep inLine happens resultsOf if_then_else_
+  unfolding after keep inLine happens resultsOf
   during-kept b [] t = record { state = refl; results = λ p silent. refl }
-  during-kept b (started ∷ es) t = absurd (false≢true t)
-  during-kept b (received xs ∷ es) t =
-      let p = and-both (every plain xs) _ t in piece-first b xs es (kept b xs (p .0)) (during-kept (piece b xs) es (p .1))
-  during-kept b (take buffer ∷ es) t = blind-first b (take buffer) es (λ j. refl) (taken-blind buffer b) (during-kept _ es t)
-  during-kept b (condition x n ∷ es) t = blind-first b (condition x n) es (λ j. refl) (reported-blind x n b) (during-kept _ es t)
-  during-kept b (look ∷ es) t = blind-first b look es (λ j. refl) (look-blind b) (during-kept _ es t)
-  during-kept b (altered i x ∷ es) t = blind-first b (altered i x) es (λ j. refl) (altered-blind i x b) (during-kept _ es t)
-  during-kept b (mislent buffer ∷ es) t = blind-first b (mislent buffer) es (λ j. refl) (mislent-blind buffer b) (during-kept _ es t)
+  during-kept b (e ∷ es) t =
+      by-bytes (λ f. ((c : Box) → every inLine es ≡ true → DuringKept c es) → every inLine (f ∷ es) ≡ true → DuringKept b (f ∷ es))
+      (λ xs ih u. let p = and-both (every plain xs) _ u in piece-first b xs es (kept b xs (p .0)) (ih (piece b xs) (p .1)))
+      (λ f none z ih u.
+      let p = and-both (inLine f) (every inLine es) u in blind-first b f es none z (blind f b none (p .0)) (ih (happens b f .box) (p .1)))
+      e (λ c u. during-kept c es u) t

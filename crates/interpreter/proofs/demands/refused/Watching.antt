@@ -13,8 +13,8 @@ use Rattle.interpreter.specs.Unit.{Read, readUnit}
 use Rattle.interpreter.specs.Perform.{permitted, afterQuery, setUp, perform}
 use Rattle.interpreter.specs.Reply.{replyTo, reply}
 use Rattle.interpreter.specs.Line.{attempt, unitsOf, interrupted}
-use Rattle.interpreter.specs.Events.{Event, started, received, take, condition, look, altered, mislent}
-use Rattle.interpreter.specs.Demand3.{Watch, neither, asked, cleared, thenWatch, watchDeed, watchRead, watchNext, watchUnits, watchLine, watchByte, watchPiece, watchEvent, watch, Agree}
+use Rattle.interpreter.specs.Events.{Event, Sort, anew, carries, fetches, aside, sortOf}
+use Rattle.interpreter.specs.Demand3.{Watch, neither, asked, cleared, thenWatch, watchDeed, watchRead, watchNext, watchUnits, watchLine, watchByte, watchPiece, watchSort, watchEvent, watch, Agree}
 use Rattle.interpreter.specs.declared.deed.Deed.{Deed}
 use Rattle.interpreter.specs.declared.deed.Deed.the-variants.{Change, Complete, Clear, Query, Inquire, Saving}
 use Rattle.interpreter.proofs.Choices.{if₂}
@@ -100,13 +100,13 @@ piece-watch (x ∷ xs) c t t′ =
 
 event-watch : (e : Event) (c : Core) (t t′ : Trouble) → watchEvent (box c t) e ≡ watchEvent (box c t′) e
 unfolding watchEvent
-event-watch started c t t′ = refl
-event-watch (received xs) c t t′ = piece-watch xs c t t′
-event-watch (take buffer) c t t′ = refl
-event-watch (condition x n) c t t′ = refl
-event-watch look c t t′ = refl
-event-watch (altered i x) c t t′ = refl
-event-watch (mislent buffer) c t t′ = refl
+event-watch e c t t′ = go (sortOf e)
+  where
+    go : (k : Sort) → watchSort (box c t) k ≡ watchSort (box c t′) k
+    go anew = refl
+    go (carries xs) = piece-watch xs c t t′
+    go (fetches buffer) = refl
+    go aside = refl
 
 pub history-watch : (es : List Event) (c : Core) (t t′ : Trouble) → watch (box c t) es ≡ watch (box c t′) es
 unfolding watch
