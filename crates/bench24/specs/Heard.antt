@@ -7,7 +7,7 @@ use lib.ListN.{length, take}
 use Rattle.registers.specs.Text.{Text}
 use Rattle.interpreter.specs.Box.{Memory, powerUp}
 use Rattle.interpreter.specs.State.{boxOf, possibleState}
-use Rattle.interpreter.specs.Server.{linesOf, WholeLines, heard}
+use Rattle.interpreter.specs.Server.{linesTo, WholeLines, heard}
 use Rattle.interpreter.specs.declared.state.State.{State}
 use Rattle.bench24.specs.declared.Bench.{Bench}
 
@@ -17,8 +17,8 @@ pub record HeardPart (start : State) (m : Memory) (input : Text) (r : Bench) (n 
   pub possible : possibleState (r .state) ≡ true
   pub bytes : ℕ
   pub within : bytes ≤ length input
-  pub whole : WholeLines bytes input
-  pub box : boxOf (r .state) n ≡ heard (boxOf start m) (linesOf (take bytes input))
+  pub whole : WholeLines (boxOf start m .core .line) bytes input
+  pub box : boxOf (r .state) n ≡ heard (boxOf start m) (linesTo (boxOf start m) (take bytes input))
   pub some : 0 < length input → 0 < bytes
   pub all : r .serving ≡ true → bytes ≡ length input
 
@@ -26,4 +26,4 @@ pub record HeardPart (start : State) (m : Memory) (input : Text) (r : Bench) (n 
 pub record HeardSince (m : Memory) (r : State) (n : Memory) : Type 0 where
   pub possible : possibleState r ≡ true
   pub bytes : Text
-  pub box : boxOf r n ≡ heard (powerUp m) (linesOf bytes)
+  pub box : boxOf r n ≡ heard (powerUp m) (linesTo (powerUp m) bytes)

@@ -13,13 +13,14 @@
 // end or a failed write ends the run, is to be read below: the kit's write promises nothing of its
 // answer, and its read nothing of the bytes.
 use interpreter::server;
+use interpreter::state::AREA;
 use interpreter::state::STORE;
 use interpreter::state::State;
 ghost use mathlib.Core.Path.{_≡_};
 ghost use mathlib.Core.Bool.{true};
 ghost use Prim.Native.Nat.{_≤_};
 ghost use lib.ListN.{length};
-ghost use Rattle.interpreter.specs.Box.{mostAnswer, storeSize, memory};
+ghost use Rattle.interpreter.specs.Box.{mostAnswer, mostBlock, storeSize, memory};
 ghost use Rattle.interpreter.specs.State.{possibleState};
 ghost use Rattle.bench24.specs.Heard.{HeardPart, HeardSince};
 
@@ -30,14 +31,14 @@ struct Bench {
 }
 
 // Serves what was read, a full output at a time. A write that fails closes the bench.
-fn serve_all(start: State, store: &mut [u8], input: &[u8], output: &mut [u8]) -> Bench
-    requires { ⌜ (possibleState start ≡ true) × (length (now store) ≡ storeSize) × (mostAnswer ≤ length (now output)) ⌝ }
-    ensures { λ r. ⌜ HeardPart start (memory (now (store .entry))) (now (input .entry)) r (memory (now (store .exit))) ⌝ }
+fn serve_all(start: State, store: &mut [u8], area: &mut [u8], input: &[u8], output: &mut [u8]) -> Bench
+    requires { ⌜ (possibleState start ≡ true) × (length (now store) ≡ storeSize) × (length (now area) ≡ mostBlock) × (mostAnswer ≤ length (now output)) ⌝ }
+    ensures { λ r. ⌜ HeardPart start (memory (now (store .entry)) (now (area .entry))) (now (input .entry)) r (memory (now (store .exit)) (now (area .exit))) ⌝ }
 {
     let mut state = start;
     let mut at: usize = 0;
     while at < input.len() {
-        let served = server::serve(state, store, &input[at..], output);
+        let served = server::serve(state, store, area, &input[at..], output);
         let end = served.written;
         state = served.state;
         at += served.read;
@@ -56,9 +57,9 @@ fn serve_all(start: State, store: &mut [u8], input: &[u8], output: &mut [u8]) ->
 
 // Serves from power-up until the input ends, or can't be read, or the bench is closed. A proved loop has
 // to end, so it counts its turns down, from a number that no run uses up.
-fn run(store: &mut [u8], input: &mut [u8], output: &mut [u8]) -> State
-    requires { ⌜ (length (now store) ≡ storeSize) × (mostAnswer ≤ length (now output)) ⌝ }
-    ensures { λ r. ⌜ HeardSince (memory (now (store .entry))) r (memory (now (store .exit))) ⌝ }
+fn run(store: &mut [u8], area: &mut [u8], input: &mut [u8], output: &mut [u8]) -> State
+    requires { ⌜ (length (now store) ≡ storeSize) × (length (now area) ≡ mostBlock) × (mostAnswer ≤ length (now output)) ⌝ }
+    ensures { λ r. ⌜ HeardSince (memory (now (store .entry)) (now (area .entry))) r (memory (now (store .exit)) (now (area .exit))) ⌝ }
 {
     let mut state = State::power_up();
     let mut turns = u64::MAX;
@@ -69,7 +70,7 @@ fn run(store: &mut [u8], input: &mut [u8], output: &mut [u8]) -> State
         if n == 0 {
             return state;
         }
-        let bench = serve_all(state, store, &input[0..n], output);
+        let bench = serve_all(state, store, area, &input[0..n], output);
         state = bench.state;
         if !bench.serving {
             return state;
@@ -81,7 +82,9 @@ fn run(store: &mut [u8], input: &mut [u8], output: &mut [u8]) -> State
 fn main() {
     // the saved setups, which a power-up would leave: they last as long as the program
     let mut store = [0u8; STORE];
+    // the waveform, which it would leave too
+    let mut area = [0u8; AREA];
     let mut input = io::large_buffer();
     let mut output = io::large_buffer();
-    run(&mut store, &mut input, &mut output);
+    run(&mut store, &mut area, &mut input, &mut output);
 }

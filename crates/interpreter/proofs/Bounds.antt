@@ -18,13 +18,13 @@ use Rattle.registers.proofs.settings.Possible as limits
 use Rattle.registers.proofs.settings.Possible.{value-good, reset-possible}
 use Rattle.registers.proofs.status.Possible as status
 use Rattle.registers.proofs.status.Possible.{raised-good, completed-good, events-good, oldest-good, none-good, stored-fit, read-fit}
-use Rattle.interpreter.specs.Box.{Memory, withMemory, Core, Box, box, withSettings, withRegisters, withLine, withAnswer, answerIs, raise, mostLine, mostAnswer}
+use Rattle.interpreter.specs.Box.{Memory, withMemory, Core, Box, box, withSettings, withRegisters, withLine, withAnswer, answerIs, raise, mostLine, mostAnswer, Line, noLine, mostBlock}
 use Rattle.interpreter.specs.UnitParts.{Allowed, AllowedChange, AllowedLabel, AllowedText}
-use Rattle.interpreter.specs.Perform.{setUp, conflictingChange, conflicting, changed, allCleared, afterQuery, afterInquiry, perform}
+use Rattle.interpreter.specs.Perform.{setUp, takeIn, conflictingChange, conflicting, changed, allCleared, afterQuery, afterInquiry, perform}
 use Rattle.interpreter.specs.Reply.{joined, fitsAnswer, reply}
 use Rattle.interpreter.specs.Line.{runUnits}
 use Rattle.interpreter.specs.declared.deed.Deed.{Deed}
-use Rattle.interpreter.specs.declared.deed.Deed.the-variants.{Change, Complete, Clear, Query, Inquire, Saving}
+use Rattle.interpreter.specs.declared.deed.Deed.the-variants.{Change, Complete, Clear, Query, Inquire, Saving, Block}
 use Rattle.registers.specs.Setup.{checks, recallable, blockAt}
 use Rattle.registers.proofs.setup.Laws.{recalled-long}
 use Rattle.registers.proofs.Tests.{and-both}
@@ -46,7 +46,8 @@ pub record FitCore (k : ℕ) (c : Core) : Type 0 where
   pub text : possibleText (c .settings .text) ≡ true
   pub long : AsLong (c .settings)
   pub registers : status.Fit (c .registers)
-  pub line : length (c .line) ≤ mostLine
+  pub line : length (c .line .text) ≤ mostLine
+  pub block : length (c .line .block) ≤ mostBlock
   pub answer : length (c .answer) ≤ k
 
 pub record Fit (k : ℕ) (b : Box) : Type 0 where
@@ -64,20 +65,20 @@ fit k c t f g = record { core = f; trouble = g }
 
 module _ (k : ℕ) (c : Core) (f : FitCore k c) where
   fit-settings : (s : Settings) → limits.Good s → possibleText (s .text) ≡ true → AsLong s → FitCore k (withSettings s c)
-  fit-settings s g t l = record { settings = g; text = t; long = l; registers = f .registers; line = f .line; answer = f .answer }
+  fit-settings s g t l = record { settings = g; text = t; long = l; registers = f .registers; line = f .line; block = f .block; answer = f .answer }
 
   pub fit-registers : (r : Registers) → status.Fit r → FitCore k (withRegisters r c)
-  fit-registers r g = record { settings = f .settings; text = f .text; long = f .long; registers = g; line = f .line; answer = f .answer }
+  fit-registers r g = record { settings = f .settings; text = f .text; long = f .long; registers = g; line = f .line; block = f .block; answer = f .answer }
 
-  pub fit-line : (l : Text) (o : Bool) → length l ≤ mostLine → FitCore k (withLine l o c)
-  fit-line l o g = record { settings = f .settings; text = f .text; long = f .long; registers = f .registers; line = g; answer = f .answer }
+  pub fit-line : (l : Line) → length (l .text) ≤ mostLine → length (l .block) ≤ mostBlock → FitCore k (withLine l c)
+  fit-line l g h = record { settings = f .settings; text = f .text; long = f .long; registers = f .registers; line = g; block = h; answer = f .answer }
 
   -- the answer may be given another bound
   pub fit-answer : (m : ℕ) (a : Text) → length a ≤ m → FitCore m (withAnswer a c)
-  fit-answer m a g = record { settings = f .settings; text = f .text; long = f .long; registers = f .registers; line = f .line; answer = g }
+  fit-answer m a g = record { settings = f .settings; text = f .text; long = f .long; registers = f .registers; line = f .line; block = f .block; answer = g }
 
   pub fit-memory : (m : Memory) → FitCore k (withMemory m c)
-  fit-memory m = record { settings = f .settings; text = f .text; long = f .long; registers = f .registers; line = f .line; answer = f .answer }
+  fit-memory m = record { settings = f .settings; text = f .text; long = f .long; registers = f .registers; line = f .line; block = f .block; answer = f .answer }
 
 -- ---- deeds
 
@@ -138,6 +139,13 @@ setup-fit k Recall p c f =
     let b = blockAt p (c .memory .store) in
     hold-check (FitCore k) 314 _ _ refl (λ e. passes (fit-settings k c f _ (limits.good-from _ (and-both (checks b) _ e .1)) (limits.text-from _ (and-both (checks b) _ e .1)) (recalled-long b e)))
 
+block-fit : (k : ℕ) (here : Bool) (c : Core) → FitCore k c → Holds (FitCore k) (takeIn here c)
+unfolding takeIn mayBeQueued queueable
+block-fit k here c f =
+    hold-check (FitCore k) 161 _ _ refl (λ _.
+    hold-check (FitCore k) 104 _ _ refl (λ _.
+    hold-check (FitCore k) 221 _ _ refl (λ _. passes (fit-memory k _ (fit-line k c f noLine zero-le zero-le) _))))
+
 pub perform-fit : (d : Deed) (t : Text) (b : Box) → Allowed (b .core .settings) d → AllowedText d t → conflicting d (b .core .settings) ≡ false → Fit running b
     → Holds (Fit running) (perform d t b)
 unfolding perform
@@ -152,6 +160,8 @@ perform-fit (Inquire q) t b a l n f =
     (λ c g. passes (fit running c _ g (inquiry-good q (b .trouble) (f .trouble))))
 perform-fit (Saving x p) t b a l n f =
     hold-bind (FitCore running) (Fit running) _ _ (setup-fit running x p (b .core) (f .core)) (λ c g. passes (fit running c _ g (f .trouble)))
+perform-fit (Block here) t b a l n f =
+    hold-bind (FitCore running) (Fit running) _ _ (block-fit running here (b .core) (f .core)) (λ c g. passes (fit running c _ g (f .trouble)))
 
 -- ---- units
 

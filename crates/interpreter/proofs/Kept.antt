@@ -9,7 +9,7 @@ use Rattle.registers.specs.Text.{Text, empty}
 use Rattle.registers.specs.Check.{Checked, refused, passed}
 use Rattle.registers.specs.Queue.{mayBeQueued, queueable}
 use Rattle.registers.proofs.Tests.{and-both}
-use Rattle.interpreter.specs.Box.{Box, answerIs, raise}
+use Rattle.interpreter.specs.Box.{Box, answerIs, raise, noLine, holding}
 use Rattle.interpreter.specs.Unit.{raisable, Read, readUnit}
 use Rattle.interpreter.specs.UnitParts.{Allowed, AllowedText}
 use Rattle.interpreter.specs.Perform.{perform}
@@ -56,7 +56,7 @@ module _ (P : Box → Type 0)
       next-keeps (λ p c. runUnits us p c) (λ p c g. units-keep us p c g) b f (attempt path b u) (attempt-keeps path b u f)
 
   -- where an answer is kept too, whatever it is
-  module _ (answers : (a : Text) (b : Box) → P b → P (answerIs a b)) where
+  module _ (answers : (a : Text) (b : Box) → P b → P (answerIs a b)) (ends : (b : Box) → P b → P (holding noLine b)) where
     finished-keeps : (b : Box) → P b → P (finished b)
     unfolding finished
     finished-keeps b f = if-elim P (empty (b .core .answer)) (λ _. f) (λ _. answers _ b f)
@@ -64,4 +64,4 @@ module _ (P : Box → Type 0)
     pub line-keeps : (b : Box) → P (atNewline b) → P (endLine b)
     unfolding endLine runLine mayBeQueued queueable
     line-keeps b f =
-        if-elim P (b .core .overlong) (λ _. raises 363 (atNewline b) refl f) (λ _. finished-keeps _ (units-keep _ _ (atNewline b) f))
+        ends _ (if-elim P (b .core .line .overlong) (λ _. raises 363 (atNewline b) refl f) (λ _. finished-keeps _ (units-keep _ _ (atNewline b) f)))

@@ -8,4 +8,5 @@ pub mod Possible
 pub mod Edges
 pub mod Examples
 pub mod Setups
+pub mod Waveform
 pub mod demands

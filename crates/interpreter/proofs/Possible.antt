@@ -18,12 +18,12 @@ use Rattle.registers.proofs.settings.Possible as limits
 use Rattle.registers.proofs.settings.Possible.{reset-possible}
 use Rattle.registers.proofs.status.Possible as status
 use Rattle.registers.proofs.status.Possible.{condition-fit}
-use Rattle.interpreter.specs.Box.{Memory, Core, Box, box, powerUp, mostLine, mostAnswer}
-use Rattle.interpreter.specs.Line.{unitsOf, interrupted, finished, runLine, endLine, held, byte, piece}
-use Rattle.interpreter.specs.Events.{Event, started, received, take, condition, look, altered, mislent, Happened, taken, reported, happens, possibleCore, possible, Own, after}
+use Rattle.interpreter.specs.Box.{Memory, Box, powerUp, mostLine, mostAnswer, Line, noLine, blockOnly, holding, mostBlock}
+use Rattle.interpreter.specs.Line.{unitsOf, interrupted, finished, runLine, endLine, byte, piece, noneCame, endReported, grown, endsLine}
+use Rattle.interpreter.specs.Events.{Event, started, received, take, condition, look, altered, mislent, Happened, taken, reported, happens, possibleCore, possible, Own, after, ended}
 use Rattle.interpreter.proofs.Lists.{is-empty}
 use Rattle.interpreter.proofs.Choices.{if-elim}
-use Rattle.interpreter.proofs.Bounds.{FitCore, Fit, running, fit, fit-registers, fit-line, fit-answer, fit-memory, reset-long, raise-fit, answered-fit, dropped-fit, units-fit}
+use Rattle.interpreter.proofs.Bounds.{Fit, running, fit, fit-registers, fit-line, fit-answer, fit-memory, reset-long, raise-fit, answered-fit, dropped-fit, units-fit}
 
 -- ---- lines
 
@@ -53,20 +53,35 @@ line-fit line overlong b f =
 
 -- ---- bytes
 
-pub held-fit : (x : ℕ) (c : Core) → FitCore mostAnswer c → FitCore mostAnswer (held x c)
-unfolding held
-held-fit x c f =
-    if-elim (FitCore mostAnswer) (ltb (length (c .line)) mostLine)
-    (λ e. let l = ltb-true (length (c .line)) mostLine e in fit-line mostAnswer c f _ _ (simp length-append (omega arith)))
-    (λ _. fit-line mostAnswer c f _ _ (f .line))
+abbrev FitLine : Line → Type 0
+FitLine l = (length (l .text) ≤ mostLine) × (length (l .block) ≤ mostBlock)
+
+grown-fit : (x : ℕ) (l : Line) → FitLine l → FitLine (grown x l)
+unfolding grown
+grown-fit x l f =
+    if-elim FitLine (eqb (l .coming) 0)
+    (λ _. if-elim FitLine (ltb (length (l .text)) mostLine)
+    (λ e. let k = ltb-true (length (l .text)) mostLine e in (simp length-append (omega arith), f .1)) (λ _. f))
+    (λ _. (
+      f .0,
+      if-elim (λ (t : Text). length t ≤ mostBlock) (ltb (length (l .block)) mostBlock)
+          (λ e. let k = ltb-true (length (l .block)) mostBlock e in simp length-append (omega arith)) (λ _. f .1),
+    ))
+
+holding-fit : (l : Line) (b : Box) → FitLine l → Fit mostAnswer b → Fit mostAnswer (holding l b)
+holding-fit l b g f = fit mostAnswer _ _ (fit-line mostAnswer (b .core) (f .core) l (g .0) (g .1)) (f .trouble)
+
+end-fit : (b : Box) → Fit mostAnswer b → Fit mostAnswer (endLine b)
+unfolding endLine
+end-fit b f =
+    holding-fit noLine _ (zero-le, zero-le)
+    (line-fit (b .core .line .text) (b .core .line .overlong) _ (interrupted-fit _ (holding-fit (blockOnly (b .core .line .block)) b (zero-le, f .core .block) f)))
 
 pub byte-fit : (b : Box) (x : ℕ) → Fit mostAnswer b → Fit mostAnswer (byte b x)
-unfolding byte endLine
+unfolding byte
 byte-fit b x f =
-    if-elim (Fit mostAnswer) (eqb x 10)
-    (λ _. line-fit (b .core .line) (b .core .overlong) _
-    (interrupted-fit _ (fit mostAnswer _ _ (fit-line mostAnswer (b .core) (f .core) [] false zero-le) (f .trouble))))
-    (λ _. fit mostAnswer _ _ (held-fit x (b .core) (f .core)) (f .trouble))
+    if-elim (Fit mostAnswer) (endsLine x (b .core .line)) (λ _. end-fit b f)
+    (λ _. holding-fit _ b (grown-fit x (b .core .line) (f .core .line, f .core .block)) f)
 
 pub piece-fit : (b : Box) (xs : Text) → Fit mostAnswer b → Fit mostAnswer (piece b xs)
 unfolding piece
@@ -89,6 +104,7 @@ power-up-fit m =
         long = reset-long;
         registers = status.fit-from _ (start-fits m .0);
         line = zero-le;
+        block = zero-le;
         answer = zero-le;
       };
       trouble = status.good-from _ (start-fits m .1);
@@ -98,7 +114,7 @@ abbrev FitHappened : Happened → Type 0
 FitHappened h = Fit mostAnswer (h .box)
 
 pub event-fit : (b : Box) (e : Event) → Fit mostAnswer b → Fit mostAnswer (happens b e .box)
-unfolding happens taken reported mayBeQueued queueable
+unfolding happens taken reported endReported mayBeQueued queueable
 event-fit b started f = power-up-fit (b .core .memory)
 event-fit b (received xs) f = piece-fit b xs f
 event-fit b (take buffer) f =
@@ -115,6 +131,7 @@ event-fit b look f = f
 event-fit b (altered i x) f =
     fit mostAnswer _ _ (fit-memory mostAnswer (b .core) (f .core) _) (f .trouble)
 event-fit b (mislent buffer) f = f
+event-fit b ended f = if-elim (Fit mostAnswer) (noneCame (b .core .line)) (λ _. f) (λ _. end-fit b f)
 
 pub history-fit : (b : Box) (es : List Event) → Fit mostAnswer b → Fit mostAnswer (after b es)
 unfolding after
@@ -130,15 +147,17 @@ fit-from b long e =
     let p = and-both _ (possibleTrouble (b .trouble)) e in
     let q = and-both (possibleSettings (c .settings)) _ (p .0) in
     let r = and-both (possibleRegisters (c .registers)) _ (q .1) in
-    let s = and-both (leb (length (c .line)) mostLine) (leb (length (c .answer)) mostAnswer) (r .1) in
+    let s = and-both (leb (length (c .line .text)) mostLine) _ (r .1) in
+    let t = and-both (leb (length (c .line .block)) mostBlock) (leb (length (c .answer)) mostAnswer) (s .1) in
     record {
       core = record {
         settings = limits.good-from (c .settings) (q .0);
         text = limits.text-from (c .settings) (q .0);
         long = long;
         registers = status.fit-from (c .registers) (r .0);
-        line = leb-true (length (c .line)) mostLine (s .0);
-        answer = leb-true (length (c .answer)) mostAnswer (s .1);
+        line = leb-true (length (c .line .text)) mostLine (s .0);
+        block = leb-true (length (c .line .block)) mostBlock (t .0);
+        answer = leb-true (length (c .answer)) mostAnswer (t .1);
       };
       trouble = status.good-from (b .trouble) (p .1);
     }
@@ -147,7 +166,7 @@ pub fit-to : (b : Box) → Fit mostAnswer b → possible b ≡ true
 unfolding possible possibleCore
 fit-to b f =
     let c = f .core in
-    let sizes = and-true (le-leb _ _ (c .line)) (le-leb _ _ (c .answer)) in
+    let sizes = and-true (le-leb _ _ (c .line)) (and-true (le-leb _ _ (c .block)) (le-leb _ _ (c .answer))) in
     and-true (and-true (limits.good-to _ (c .settings) (c .text)) (and-true (status.fit-to _ (c .registers)) sizes)) (status.good-to _ (f .trouble))
 
 pub own-fit : (b : Box) → Own b → Fit mostAnswer b

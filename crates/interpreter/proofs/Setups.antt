@@ -3,20 +3,22 @@ use mathlib.Core.Path.{_≡_, refl, sym, _∙_, ap}
 use mathlib.Core.Bool.{true}
 use Prim.Native.Nat.{ℕ, _+_, _*_, _≤_, _<_}
 use native.Mathlib.Omega.{arith}
+use lib.Dec.{eqb}
 use lib.ListN.{length, take, drop, set, getD}
 use lib.Seq.{drop-set-add, take-set-lt}
-use borrow.Author.Tests.{eqb-true, eq-eqb}
-use Rattle.registers.specs.Text.{Text}
+use borrow.Author.Tests.{eqb-true, eq-eqb, lt-ltb}
+use Rattle.registers.specs.Text.{Text, if_then_else_}
 use Rattle.registers.specs.Check.{refused, passed, check, _>>_}
 use Rattle.registers.specs.Setup.{blockSize, places, blockOf, settingsIn, recallable, blockAt, savedAt}
 use Rattle.registers.proofs.setup.Laws.{saved-back, block-marked, older-unmarked, older-means, older-empty, not-recalled, saved-long, saved-here, saved-before, saved-after}
-use Rattle.interpreter.specs.Box.{Memory, storeSize, rightSize}
+use Rattle.registers.proofs.Tests.{and-both, and-true}
+use Rattle.interpreter.specs.Box.{Memory, storeSize, rightSize, alteredIn}
 use Rattle.interpreter.specs.Perform.{setUp}
 use Rattle.interpreter.specs.Setups.{SavedIsRecalled, OlderIsRecalled, OlderHasNoText, AlteredIsNoticed, SavesOnlyItsBlock, Setups}
 
 store-long : (m : Memory) → rightSize m ≡ true → length (m .store) ≡ storeSize
 unfolding rightSize
-store-long m e = eqb-true (length (m .store)) storeSize e
+store-long m e = eqb-true (length (m .store)) storeSize (and-both (eqb (length (m .store)) storeSize) _ e .0)
 
 -- every place lies within the store
 place-within : (p : ℕ) (m : Memory) → p < places → rightSize m ≡ true → blockSize * p + blockSize ≤ length (m .store)
@@ -35,9 +37,9 @@ unfolding blockAt
 altered-block p i x t h = ap (take blockSize) (drop-set-add (blockSize * p) t i x) ∙ take-set-lt blockSize (drop (blockSize * p) t) i x h
 
 noticed : AlteredIsNoticed
-unfolding setUp check _>>_
-noticed p i x c h other good =
-    rw (altered-block p i x (c .memory .store) h, not-recalled (blockAt p (c .memory .store)) i x h other good)
+unfolding setUp alteredIn check _>>_ if_then_else_
+noticed p i x c place h other good =
+    rw (lt-ltb (blockSize * p + i) storeSize (omega arith), altered-block p i x (c .memory .store) h, not-recalled (blockAt p (c .memory .store)) i x h other good)
 
 only : SavesOnlyItsBlock
 unfolding rightSize
@@ -46,9 +48,9 @@ only p c d h size is =
     let s = c .settings in
     let t = c .memory .store in
     record {
-      size = eq-eqb (length (d .memory .store)) storeSize (ap length is ∙ saved-long p s t within ∙ store-long (c .memory) size);
-      before = λ j k. ap (λ (l : Text). getD l j 0) is ∙ saved-before p s t within j k;
-      after = λ j k. ap (λ (l : Text). getD l j 0) is ∙ saved-after p s t within j k;
+      size = rw is (and-true (eq-eqb (length (savedAt p s t)) storeSize (saved-long p s t within ∙ store-long (c .memory) size)) (and-both (eqb (length t) storeSize) _ size .1));
+      before = λ j k. ap (λ (m : Memory). getD (m .store) j 0) is ∙ saved-before p s t within j k;
+      after = λ j k. ap (λ (m : Memory). getD (m .store) j 0) is ∙ saved-after p s t within j k;
     }
 
 older : OlderIsRecalled

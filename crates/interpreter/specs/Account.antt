@@ -20,7 +20,7 @@ use Rattle.interpreter.specs.Calls.{Calls}
 use Rattle.interpreter.specs.Steps.{Step, powersUp, discards, overruns, tries, findsNone, boxAt, steps}
 use Rattle.interpreter.specs.declared.state.State.{State}
 use Rattle.interpreter.specs.declared.deed.Deed.{Deed}
-use Rattle.interpreter.specs.declared.deed.Deed.the-variants.{Change, Complete, Clear, Query, Inquire, Saving}
+use Rattle.interpreter.specs.declared.deed.Deed.the-variants.{Change, Complete, Clear, Query, Inquire, Saving, Block}
 use Rattle.interpreter.specs.declared.deed.Inquiry as inquiries
 use Rattle.interpreter.specs.declared.deed.Inquiry.the-variants.{StandardEvents, StatusByte, NextError}
 
@@ -44,6 +44,7 @@ deedAct Clear = starts
 deedAct (Query q) = leaves
 deedAct (Inquire q) = inquiryAct q
 deedAct (Saving x p) = leaves
+deedAct (Block here) = leaves
 
 abbrev pub readAct : Checked Read → Act
 readAct (refused n) = leaves

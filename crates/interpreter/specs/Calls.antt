@@ -8,7 +8,7 @@ use lib.ListN as L
 use lib.ListN.{length}
 use Rattle.registers.specs.Text.{Text, every}
 use Rattle.interpreter.specs.Box.{Memory, rightSize, alteredIn, Box, mostAnswer}
-use Rattle.interpreter.specs.Events.{Event, altered, mislent, Sort, anew, carries, fetches, aside, sortOf, Result, result, lent, after, results}
+use Rattle.interpreter.specs.Events.{Event, altered, mislent, Sort, anew, carries, fetches, finishes, aside, sortOf, Result, result, lent, after, results}
 use Rattle.interpreter.specs.State.{boxOf, possibleState, rightly, Happens}
 use Rattle.interpreter.specs.Histories.{answers, sent, copied}
 use Rattle.interpreter.specs.Server.{linesOf, eventsOf, begun, Serves}
@@ -22,7 +22,7 @@ pub data Call (s : State) (m : Memory) (t : State) (n : Memory) : List Event →
   instead : {w w′ : Memory} {e : Event} {r : Result} → rightly w e ≡ false → Happens s w e r t w′ → n ≡ m → Call s m t n (mislent (lent e) ∷ []) (r ∷ [])
   -- a chunk served is the list of its events, and with a memory of the wrong size there are none
   chunk : {input output left : Text} {number read written : ℕ} → rightSize m ≡ true → Serves s m input output number read written t n left
-      → Call s m t n (eventsOf (begun s m output) (linesOf input)) (results (boxOf s m) (eventsOf (begun s m output) (linesOf input)))
+      → Call s m t n (eventsOf (begun s m output) (linesOf (boxOf s m .core .line) input)) (results (boxOf s m) (eventsOf (begun s m output) (linesOf (boxOf s m .core .line) input)))
   noChunk : {w w′ : Memory} {input output left : Text} {number read written : ℕ} → rightSize w ≡ false
       → Serves s w input output number read written t w′ left → n ≡ m → Call s m t n [] []
   -- no call: the caller alters the store
@@ -46,6 +46,7 @@ abbrev pub roomyAs : Sort → Bool
 roomyAs anew = false
 roomyAs (carries xs) = true
 roomyAs (fetches buffer) = leb mostAnswer (length buffer)
+roomyAs finishes = false
 roomyAs aside = false
 
 abbrev pub roomy : Event → Bool

@@ -17,10 +17,10 @@ use Rattle.interpreter.specs.declared.deed.Role.the-variants.{Setting, R
 
 -- how many rows there are, how many of 'Registers and queue' stand before those of the register sets, and how many a set has
 abbrev pub rowCount : ℕ
-rowCount = 47
+rowCount = 48
 
 abbrev pub commonRows : ℕ
-commonRows = 15
+commonRows = 16
 
 abbrev pub setRows : ℕ
 setRows = 5
@@ -32,7 +32,7 @@ rowRole i = getD (map (λ (r : Row). r .role) rows) i (Setting i)
 -- a header's place: its setting's slot, or after the slots its row among the others; then one for a header that has no row, and one for a
 -- suffix that its row doesn't take
 abbrev pub placeCount : ℕ
-placeCount = 60
+placeCount = 61
 
 abbrev pub nowhere : ℕ
 nowhere = placeCount

@@ -10,10 +10,10 @@ use Rattle.registers.specs.Text.{Text, if_then_else_, every, white, empty}
 use Rattle.registers.specs.Check.{refused}
 use Rattle.registers.specs.Group.{widestGroup}
 use Rattle.interpreter.specs.Cuts.{cutOpen}
-use Rattle.interpreter.specs.Box.{Memory, Box, box, raise, answerIs}
+use Rattle.interpreter.specs.Box.{Memory, noLine, Box, holding, raise, answerIs}
 use Rattle.interpreter.specs.Unit.{raisable}
-use Rattle.interpreter.specs.Line.{atNewline, attempt, refuse, runUnits, finished}
-use Rattle.interpreter.specs.Events.{Event, started, received, take, condition, look, altered, mislent, Result, result, Happened, happened, happens, lent}
+use Rattle.interpreter.specs.Line.{atNewline, attempt, refuse, runUnits, finished, noneCame}
+use Rattle.interpreter.specs.Events.{Event, started, received, take, condition, look, altered, mislent, Result, result, Happened, happened, happens, lent, ended}
 use Rattle.interpreter.specs.Histories.{newline}
 use Rattle.interpreter.specs.State.{boxOf, admitted, rightly, Happens}
 use Rattle.interpreter.specs.Demand3.{obeyed, refusal}
@@ -29,6 +29,7 @@ numberFor b (condition x n) = if ltb widestGroup n then 3 else 0
 numberFor b look = 0
 numberFor b (altered i x) = 0
 numberFor b (mislent buffer) = 5
+numberFor b ended = 0
 
 -- "Number 4 is tested first", on the record's own numbers, and for "any but power-up"; by 02 (#108) number 5 before it
 unfoldable pub refusalOf : State → Memory → Event → ℕ
@@ -69,19 +70,22 @@ unitsLeave us b =
     let n = refusal us [] b in
     if eqb n 0 then c else refuse n c
 
--- a newline found the box b and left another
+-- the end of a line found the box b and left another
 pub record LineRefused (b after : Box) : Type 0 where
   -- "at the newline -363 is raised and no unit runs"
-  pub overlong : b .core .overlong ≡ true → after ≡ raise 363 (atNewline b)
+  pub overlong : b .core .line .overlong ≡ true → after ≡ holding noLine (raise 363 (atNewline b))
   -- "A blank line that isn't overlong does nothing else"
-  pub blank : b .core .overlong ≡ false → every white (b .core .line) ≡ true → after ≡ atNewline b
+  pub blank : b .core .line .overlong ≡ false → every white (b .core .line .text) ≡ true → after ≡ holding noLine (atNewline b)
   -- "Otherwise the line is cut at every `;`"; a unit raises no -363 and no -410
-  pub units : b .core .overlong ≡ false → every white (b .core .line) ≡ false
-      → after ≡ finished (unitsLeave (cutOpen (code ";") 0 (b .core .line)) (atNewline b))
-  pub ofUnit : let n = refusal (cutOpen (code ";") 0 (b .core .line)) [] (atNewline b) in (n ≡ 0 → ⊥) → raisable n ≡ true
+  pub units : b .core .line .overlong ≡ false → every white (b .core .line .text) ≡ false
+      → after ≡ holding noLine (finished (unitsLeave (cutOpen (code ";") 0 (b .core .line .text)) (atNewline b)))
+  pub ofUnit : let n = refusal (cutOpen (code ";") 0 (b .core .line .text)) [] (atNewline b) in (n ≡ 0 → ⊥) → raisable n ≡ true
 
-abbrev pub LineRefusals : Type 0
-LineRefusals = (b : Box) → LineRefused b (happens b newline .box)
+-- at a newline outside a block, and at END (02, #110), which "on an empty line .. does nothing"
+pub record LineRefusals : Type 0 where
+  pub atNewline : (b : Box) → b .core .line .coming ≡ 0 → LineRefused b (happens b newline .box)
+  pub atEnd : (b : Box) → noneCame (b .core .line) ≡ false → LineRefused b (happens b ended .box)
+  pub onEmpty : (b : Box) → noneCame (b .core .line) ≡ true → happens b ended .box ≡ b
 
 pub record Demand1 : Type 0 where
   pub events : EventRefusals

@@ -15,13 +15,13 @@ use Rattle.registers.specs.Status.{allRead, locked}
 use Rattle.registers.specs.declared.settings.Settings.{Settings}
 use Rattle.interpreter.specs.Header.{Header, header, isCommon, fullNames}
 use Rattle.interpreter.specs.Rows.{findRole}
-use Rattle.interpreter.specs.Box.{Box, box, withSettings, withRegisters, withLine}
+use Rattle.interpreter.specs.Box.{Box, box, withSettings, withRegisters, noLine, holding}
 use Rattle.interpreter.specs.Unit.{readUnit}
 use Rattle.interpreter.specs.Perform.{perform}
 use Rattle.interpreter.specs.Line.{unitsOf, piece, newlines}
 use Rattle.interpreter.specs.Events.{Event, take, Result, happens, Own, after}
 use Rattle.interpreter.specs.Histories.{newline, Recut, replies, counted}
-use Rattle.interpreter.specs.Demand3.{inLine, lineRefusal}
+use Rattle.interpreter.specs.Demand3.{UnderWay, lineRefusal}
 use Rattle.interpreter.specs.declared.deed.Deed.the-variants.{Change, Clear, Query as asked}
 use Rattle.interpreter.specs.declared.deed.Query.{Query}
 use Rattle.interpreter.specs.declared.deed.Change.the-variants.{Reset}
@@ -89,11 +89,12 @@ answerTo display s = quotedText (displayed s)
 
 -- a box whose waiting line is a query of setting i without parameter, in any spelling, alone
 pub record Asks (i : Which) (b : Box) : Type 0 where
-  pub whole : b .core .overlong ≡ false
-  pub alone : unitsOf (b .core .line) ≡ b .core .line ∷ []
+  pub whole : b .core .line .overlong ≡ false
+  pub outside : b .core .line .coming ≡ 0
+  pub alone : unitsOf (b .core .line .text) ≡ b .core .line .text ∷ []
   pub path : List Text
   pub text : Text
-  pub asks : readUnit (b .core .settings) [] (b .core .line) ≡ passed (record { deed = asked (queryOf i); text = text; path = path })
+  pub asks : readUnit (b .core .settings) [] (b .core .line .text) ≡ passed (record { deed = asked (queryOf i); text = text; path = path })
 
 -- what then waits is the setting's value
 abbrev pub Answered : Type 0
@@ -114,12 +115,13 @@ pub record Spelling (i : Which) (h : Text) : Type 0 where
 
 -- a box whose waiting line is such a header with that parameter, alone, with any white space around them
 pub record Sends (i : Which) (a : Text) (b : Box) : Type 0 where
-  pub whole : b .core .overlong ≡ false
+  pub whole : b .core .line .overlong ≡ false
+  pub outside : b .core .line .coming ≡ 0
   pub left : Text
   pub header : Text
   pub gap : Text
   pub right : Text
-  pub line : b .core .line ≡ left ++ (header ++ (gap ++ (a ++ right)))
+  pub line : b .core .line .text ≡ left ++ (header ++ (gap ++ (a ++ right)))
   pub spelling : Spelling i header
   pub leftWhite : every white left ≡ true
   pub gapWhite : every white gap ≡ true
@@ -142,13 +144,13 @@ takenFrom b before early buffer = happens (after b (queried before ++ early)) (t
 pub record Back (asking sending back : Box) : Type 0 where
   pub settings : back .core .settings ≡ asking .core .settings
   pub accepted : lineRefusal sending ≡ 0
-  pub rest : back ≡ box (withLine [] false (sending .core)) (sending .trouble)
+  pub rest : back ≡ holding noLine sending
 
 -- a setting's answer is asked for, taken, and sent back, from a state that could be the box's
 pub record Trip (b : Box) (i : Which) (a buffer : Text) (r : Result) (before early late : List Event) : Type 0 where
   pub own : Own b
-  pub first : every inLine early ≡ true
-  pub second : every inLine late ≡ true
+  pub first : UnderWay (after b (queried before)) early
+  pub second : UnderWay (after b (queried before ++ early ++ take buffer ∷ [])) late
   pub asks : Asks i (after b before)
   pub took : Took a r
   pub sends : Sends i a (after b (sentBack before early buffer late))

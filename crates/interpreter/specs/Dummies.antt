@@ -1,17 +1,17 @@
 -- 01: "These dummies have to be rejected". Each is defined by what it does, for any program whatever it remembers, and a
 -- program that does it stands beside it; each is rejected by what it tells, held against demand 2's definition of an event.
 use mathlib.Core.Path.{_≡_}
-use mathlib.Core.Bool.{Bool, true, false}
+use mathlib.Core.Bool.{Bool, true, false, not}
 use mathlib.Core.List.{List, [], _∷_, _++_}
 use Prim.Native.Nat.{ℕ}
 use lib.Dec.{eqb}
 use lib.ListN as L
 use Rattle.registers.specs.Text.{Text, if_then_else_, empty}
 use Rattle.interpreter.specs.Box as lent
-use Rattle.interpreter.specs.Box.{Box, box, raise, answerIs, powerUp, blank}
-use Rattle.interpreter.specs.Line.{unitsOf, atNewline, held, byte, newlines}
-use Rattle.interpreter.specs.Events.{Event, received, take, Sort, anew, carries, fetches, aside, sortOf, Result, result, happens, results}
-use Rattle.interpreter.specs.Histories.{sentBy, isPiece}
+use Rattle.interpreter.specs.Box.{Box, raise, answerIs, powerUp, blank, holding}
+use Rattle.interpreter.specs.Line.{unitsOf, atNewline, byte, newlines, noneCame, grown, endsLine, goesOn, endReported, piece}
+use Rattle.interpreter.specs.Events.{Event, received, take, Sort, anew, carries, fetches, finishes, aside, sortOf, Result, result, happens, results}
+use Rattle.interpreter.specs.Histories.{isPiece}
 use Rattle.interpreter.specs.State.{Happens, Started}
 use Rattle.interpreter.specs.declared.state.State.{State}
 
@@ -71,19 +71,27 @@ abbrev pub RefusesUnits : Program → Type 0
 RefusesUnits p = (es : List Event) (buffer : Text) → tellsNext p es (take buffer) .number ≡ 2
 
 -- it is the box, but that the first unit of every line is refused by -113
-unfoldable pub refusingByte : Box → ℕ → Box
-refusingByte b x =
+unfoldable pub refusingEnd : Box → Box
+refusingEnd b =
     let c = atNewline b in
-    if eqb x 10
-    then (if b .core .overlong then raise 363 c else (if empty (unitsOf (b .core .line)) then c else raise 113 c))
-    else box (held x (b .core)) (b .trouble)
+    if b .core .line .overlong then raise 363 c else (if empty (unitsOf (b .core .line .text)) then c else raise 113 c)
+
+unfoldable pub refusingByte : Box → ℕ → Box
+refusingByte b x = if endsLine x (b .core .line) then refusingEnd b else holding (grown x (b .core .line)) b
 
 unfoldable pub refusingPiece : Box → Text → Box
 refusingPiece b [] = b
 refusingPiece b (x ∷ xs) = refusingPiece (refusingByte b x) xs
 
+abbrev pub refusingAs : Box → Event → Sort → Box
+refusingAs b e anew = happens b e .box
+refusingAs b e (carries xs) = refusingPiece b xs
+refusingAs b e (fetches buffer) = happens b e .box
+refusingAs b e finishes = if noneCame (b .core .line) then b else refusingEnd b
+refusingAs b e aside = happens b e .box
+
 abbrev pub refusing : Box → Event → Box
-refusing b e = if isPiece e then refusingPiece b (sentBy e) else happens b e .box
+refusing b e = refusingAs b e (sortOf e)
 
 abbrev pub refuser : Program
 refuser = record { Memory = Box; start = first; tells = λ b e. happens b e .result; keeps = refusing }
@@ -113,15 +121,16 @@ abbrev pub fixedAnswer : Text → Program
 fixedAnswer a =
     record { Memory = Box; start = first; tells = λ b e. happens b e .result; keeps = λ b e. answering a (happens b e .box) }
 
--- ---- "one that obeys the first line and afterwards only reports success": after a first line, a piece leaves it as it was
+-- ---- "one that obeys the first line and afterwards only reports success": after a first line, whose newline is in no block, a piece leaves
+-- it as it was
 
 abbrev pub OnlyFirstLine : Program → Type 0
-OnlyFirstLine p = (l xs : Text) →
+OnlyFirstLine p = (l xs : Text) → piece (powerUp blank) l .core .line .coming ≡ 0 →
     let m = reached p (p .start) (received (l ++ 10 ∷ []) ∷ []) in p .keeps m (received xs) ≡ m
 
--- it is the box until the first newline, which it obeys too, and drops all bytes after it
+-- it is the box until the end of the first line, which it obeys too, and drops all bytes after it
 unfoldable pub firstByte : Box × Bool → ℕ → Box × Bool
-firstByte m x = if m .1 then m else (byte (m .0) x, eqb x 10)
+firstByte m x = if m .1 then m else (byte (m .0) x, endsLine x (m .0 .core .line))
 
 unfoldable pub firstPiece : Box × Bool → Text → Box × Bool
 firstPiece m [] = m
@@ -131,6 +140,7 @@ abbrev pub firstOver : Box × Bool → Event → Sort → Box × Bool
 firstOver m e anew = (happens (m .0) e .box, false)
 firstOver m e (carries xs) = firstPiece m xs
 firstOver m e (fetches buffer) = (happens (m .0) e .box, m .1)
+firstOver m e finishes = if m .1 then m else (endReported (m .0), not (noneCame (m .0 .core .line)))
 firstOver m e aside = (happens (m .0) e .box, m .1)
 
 abbrev pub firstOnly : Box × Bool → Event → Box × Bool
@@ -169,6 +179,6 @@ pub record AreSo : Type 0 where
   pub fixedAnswer : (a : Text) → AnswersAlike a (fixedAnswer a)
   pub firstLiner : OnlyFirstLine firstLiner
   -- it does obey the first line, whatever that is
-  pub firstObeyed : (l : Text) → newlines l ≡ 0
+  pub firstObeyed : (l : Text) → goesOn (powerUp blank .core .line) l ≡ true → piece (powerUp blank) l .core .line .coming ≡ 0
       → firstPiece (first, false) (l ++ 10 ∷ []) ≡ (happens first (received (l ++ 10 ∷ [])) .box, true)
   pub inventor : (k : ℕ) → Invents (inventor k)

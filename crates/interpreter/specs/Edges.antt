@@ -19,8 +19,8 @@ abbrev pub lineOf : ℕ → List Event
 lineOf n = received (letters n) ∷ []
 
 pub record Edges : Type 0 where
-  pub longestLine : after (powerUp blank) (lineOf 4096) .core .overlong ≡ false
-  pub longerLine : after (powerUp blank) (lineOf 4097) .core .overlong ≡ true
+  pub longestLine : after (powerUp blank) (lineOf 4096) .core .line .overlong ≡ false
+  pub longerLine : after (powerUp blank) (lineOf 4097) .core .line .overlong ≡ true
   -- without its newline, which has to fit too
   pub longestAnswer : fitsAnswer [] (letters 4095) ≡ true
   pub longerAnswer : fitsAnswer [] (letters 4096) ≡ false

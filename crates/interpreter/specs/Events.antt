@@ -1,4 +1,4 @@
--- "What can happen to the box": the five events, the refusals of its table, and histories. By 02 (#108) the caller lends a memory to every
+-- "What can happen to the box": the five events and END (02, #110), the refusals of its table, and histories. By 02 (#108) the caller lends a memory to every
 -- event but power-up: it is part of the box here, and a history tells where the caller changes it or lends another.
 use mathlib.Core.Path.{_≡_}
 use mathlib.Core.Bool.{Bool, true, not, _&&_}
@@ -11,8 +11,8 @@ use Rattle.registers.specs.Group.{widestGroup}
 use Rattle.registers.specs.Settings.{possibleSettings, AsLong}
 use Rattle.registers.specs.Status.{setReported, statusByte, possibleRegisters, possibleTrouble}
 use Rattle.registers.specs.declared.status.RegisterSet.{RegisterSet}
-use Rattle.interpreter.specs.Box.{Core, Box, box, raise, withRegisters, withMemory, alteredIn, answerIs, powerUp, mostLine, mostAnswer}
-use Rattle.interpreter.specs.Line.{piece, newlines}
+use Rattle.interpreter.specs.Box.{Core, Box, box, raise, withRegisters, withMemory, alteredIn, answerIs, powerUp, mostLine, mostBlock, mostAnswer}
+use Rattle.interpreter.specs.Line.{endReported, piece, newlines}
 
 pub data Event : Type 0 where
   started : Event  -- power-up
@@ -24,12 +24,14 @@ pub data Event : Type 0 where
   altered : ℕ → ℕ → Event
   -- a piece, take, condition or look that was lent a store of the wrong length, and the buffer that it was lent
   mislent : Text → Event
+  ended : Event  -- END, by the port
 
 -- what an event is to the lines and the answers. What goes by this alone asks for the sort
 pub data Sort : Type 0 where
   anew : Sort  -- all begins anew
   carries : Text → Sort  -- bytes come
   fetches : Text → Sort  -- an answer is asked for, into the lent buffer
+  finishes : Sort  -- a line ends without a byte
   aside : Sort  -- none of these
 
 abbrev pub sortOf : Event → Sort
@@ -40,6 +42,7 @@ sortOf (condition x n) = aside
 sortOf look = aside
 sortOf (altered i x) = aside
 sortOf (mislent buffer) = aside
+sortOf ended = finishes
 
 -- the refusal's number in 01's table, or 0; the count, length or status byte; the lent buffer afterwards
 pub record Result : Type 0 where
@@ -88,6 +91,7 @@ happens b (condition x n) = reported x n b
 happens b look = happened (result 0 (seen b) []) b
 happens b (altered i x) = happened (result 0 0 []) (box (withMemory (alteredIn i x (b .core .memory)) (b .core)) (b .trouble))
 happens b (mislent buffer) = happened (result 5 0 buffer) b
+happens b ended = happened (result 0 0 []) (endReported b)
 
 -- the buffer that an event lends; no event but take has one
 abbrev pub lent : Event → Text
@@ -98,13 +102,14 @@ lent (condition x n) = []
 lent look = []
 lent (altered i x) = []
 lent (mislent buffer) = buffer
+lent ended = []
 
 -- ---- number 4: the boxes that could be the box's own. State.possibleState says the same of a record
 
 unfoldable pub possibleCore : Core → Bool
 possibleCore c =
     possibleSettings (c .settings)
-    && (possibleRegisters (c .registers) && (leb (length (c .line)) mostLine && leb (length (c .answer)) mostAnswer))
+    && (possibleRegisters (c .registers) && (leb (length (c .line .text)) mostLine && (leb (length (c .line .block)) mostBlock && leb (length (c .answer)) mostAnswer)))
 
 unfoldable pub possible : Box → Bool
 possible b = possibleCore (b .core) && possibleTrouble (b .trouble)

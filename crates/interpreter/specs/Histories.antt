@@ -7,7 +7,7 @@ use lib.Dec.{eqb}
 use lib.ListN as L
 use Rattle.registers.specs.Text.{Text, if_then_else_}
 use Rattle.interpreter.specs.Box.{Box}
-use Rattle.interpreter.specs.Events.{Event, received, Sort, anew, carries, fetches, aside, sortOf, Result, happens}
+use Rattle.interpreter.specs.Events.{Event, received, Sort, anew, carries, fetches, finishes, aside, sortOf, Result, happens}
 
 -- one byte received, and the newline
 abbrev pub single : ℕ → Event
@@ -21,6 +21,7 @@ abbrev pub carried : Sort → Text
 carried anew = []
 carried (carries xs) = xs
 carried (fetches buffer) = []
+carried finishes = []
 carried aside = []
 
 abbrev pub sentBy : Event → Text
@@ -30,6 +31,7 @@ abbrev pub isCarrier : Sort → Bool
 isCarrier anew = false
 isCarrier (carries xs) = true
 isCarrier (fetches buffer) = false
+isCarrier finishes = false
 isCarrier aside = false
 
 abbrev pub isPiece : Event → Bool
@@ -42,6 +44,7 @@ abbrev pub isFetch : Sort → Bool
 isFetch anew = false
 isFetch (carries xs) = false
 isFetch (fetches buffer) = true
+isFetch finishes = false
 isFetch aside = false
 
 abbrev pub isTake : Event → Bool
@@ -94,6 +97,11 @@ counted b es = summed (resultsOf isPiece b es)
 unfoldable pub sent : List Event → Text
 sent [] = []
 sent (e ∷ es) = sentBy e ++ sent es
+
+-- all its other events
+unfoldable pub besides : List Event → List Event
+besides [] = []
+besides (e ∷ es) = let more = besides es in if isPiece e then more else e ∷ more
 
 -- all that its takes copied, one answer after the other; a refused take copies nothing
 unfoldable pub copied : List Result → Text

@@ -11,23 +11,23 @@ use Rattle.registers.specs.Check.{Checked, refused, passed}
 use Rattle.registers.specs.Settings.{second, valueAt}
 use Rattle.interpreter.specs.Header.{Header, header, isCommon, fullNames, pathAfter}
 use Rattle.interpreter.specs.Rows.{findRole}
-use Rattle.interpreter.specs.Box.{Memory, Core, Box, powerUp}
+use Rattle.interpreter.specs.Box.{Memory, Line, noLine, Core, Box, powerUp}
 use Rattle.interpreter.specs.Unit.{Read, headerText, readUnit}
 use Rattle.interpreter.specs.Reply.{replyTo}
-use Rattle.interpreter.specs.Line.{Obeyed, attempt, unitsOf}
-use Rattle.interpreter.specs.Events.{Event, started, Result, after}
-use Rattle.interpreter.specs.Histories.{newline, Recut, isPiece, sent}
-use Rattle.interpreter.specs.Demand3.{inLine}
+use Rattle.interpreter.specs.Line.{Obeyed, attempt, unitsOf, noneCame, grownAll, goesOn}
+use Rattle.interpreter.specs.Events.{Event, started, ended, Result, after}
+use Rattle.interpreter.specs.Histories.{Recut, besides, sent}
+use Rattle.interpreter.specs.Demand3.{inLine, Ending, endOf, EndsAs}
 use Rattle.interpreter.specs.State.{boxOf, Started}
 use Rattle.interpreter.specs.Calls.{Calls}
 use Rattle.interpreter.specs.Steps.{Step, powersUp, discards, overruns, tries, findsNone, steps}
 use Rattle.interpreter.specs.declared.state.State.{State}
 use Rattle.interpreter.specs.declared.deed.Deed.{Deed}
-use Rattle.interpreter.specs.declared.deed.Deed.the-variants.{Change, Complete, Clear, Query, Inquire, Saving}
+use Rattle.interpreter.specs.declared.deed.Deed.the-variants.{Change, Complete, Clear, Query, Inquire, Saving, Block}
 use Rattle.interpreter.specs.declared.deed.Query as queries
 use Rattle.interpreter.specs.declared.deed.Query.the-variants.{Identity, SelfTest, Completed, Limit, Value, Stored, Condition, SetEvents, Label as labelAsked}
 use Rattle.interpreter.specs.declared.deed.Role.{Role}
-use Rattle.interpreter.specs.declared.deed.Role.the-variants.{Setting as setting, Register as register, Only, Saving as saving, Label as label}
+use Rattle.interpreter.specs.declared.deed.Role.the-variants.{Setting as setting, Register as register, Only, Saving as saving, Label as label, Waveform as waveform}
 
 -- ---- "setting units for channel 2": told by the header and the path that it is read after, whatever the parameters are
 
@@ -37,6 +37,7 @@ ofSecond (passed (setting i)) = second i
 ofSecond (passed (register r)) = false
 ofSecond (passed (Only d)) = false
 ofSecond (passed (saving x)) = false
+ofSecond (passed waveform) = false
 ofSecond (passed label) = false
 
 abbrev pub headsSecond : List Text → Checked Header → Bool
@@ -66,18 +67,22 @@ UnitsAlike path [] (v ∷ vs) = ⊥
 UnitsAlike path (u ∷ us) [] = ⊥
 UnitsAlike path (u ∷ us) (v ∷ vs) = UnitAlike path u v × UnitsAlike (pathLeft path (header (headerText u))) us vs
 
-abbrev pub LinesAlike : Text → Text → Type 0
-LinesAlike x y = UnitsAlike [] (unitsOf x) (unitsOf y)
+-- a block is no parameter value of a setting unit: both lines bring the same one
+pub record LinesAlike (l k : Line) : Type 0 where
+  pub units : UnitsAlike [] (unitsOf (l .text)) (unitsOf (k .text))
+  pub blocks : l .block ≡ k .block
 
--- all events but pieces
-unfoldable pub besides : List Event → List Event
-besides [] = []
-besides (e ∷ es) = let more = besides es in if isPiece e then more else e ∷ more
+-- the line that events bring from its beginning
+abbrev pub lineIn : List Event → Line
+lineIn d = grownAll noLine (sent d)
 
--- what happens while a line is under way: its bytes, and the same other events in both histories
+-- what happens while a line is under way: its bytes, none of which ends it, and the same other events in both histories
+abbrev pub Comes : List Event → Type 0
+Comes d = (every inLine d ≡ true) × (goesOn noLine (sent d) ≡ true)
+
 pub record During (d e : List Event) : Type 0 where
-  pub first : every inLine d ≡ true
-  pub second : every inLine e ≡ true
+  pub first : Comes d
+  pub second : Comes e
   pub others : besides d ≡ besides e
 
 -- two histories, line by line. A line that is cut off by a power-up or by the history's end runs no units, so that of its bytes nothing is
@@ -85,7 +90,11 @@ pub record During (d e : List Event) : Type 0 where
 pub data Alike : List Event → List Event → Type 0 where
   unended : {d e : List Event} → During d e → Alike d e
   powered : {d e h g : List Event} → During d e → Alike h g → Alike (d ++ started ∷ h) (e ++ started ∷ g)
-  ended : {d e h g : List Event} → During d e → LinesAlike (sent d) (sent e) → Alike h g → Alike (d ++ newline ∷ h) (e ++ newline ∷ g)
+  -- both lines end by a newline, or both by END (#110)
+  lineEnded : (x : Ending) {d e h g : List Event} → During d e → EndsAs x (lineIn d) → EndsAs x (lineIn e) → LinesAlike (lineIn d) (lineIn e)
+      → Alike h g → Alike (d ++ endOf x ∷ h) (e ++ endOf x ∷ g)
+  -- END on an empty line ends none
+  idle : {d e h g : List Event} → During d e → noneCame (lineIn d) ≡ true → noneCame (lineIn e) ≡ true → Alike h g → Alike (d ++ ended ∷ h) (e ++ ended ∷ g)
 
 -- ---- the premises, of each history by itself
 
@@ -96,6 +105,7 @@ saves Clear = false
 saves (Query q) = false
 saves (Inquire q) = false
 saves (Saving x p) = true
+saves (Block here) = false
 
 -- a unit is no *SAV and no *RCL of a place, obeyed or not
 abbrev pub unsaved : Checked Read → Bool
@@ -139,6 +149,7 @@ answerTo Clear c = []
 answerTo (Query q) c = if asksSecond q then [] else replyTo q c ∷ []
 answerTo (Inquire q) c = []
 answerTo (Saving x p) c = []
+answerTo (Block here) c = []
 
 abbrev pub givenBy : Core → Checked Read → Checked Obeyed → List Text
 givenBy c (refused n) x = []

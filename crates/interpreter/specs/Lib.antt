@@ -2,6 +2,8 @@
 -- functions say, and defines nothing of 01.
 pub mod Cuts
 pub mod CutsParts
+pub mod Blocks
+pub mod Waveform
 pub mod Header
 pub mod Rows
 pub mod NameParts

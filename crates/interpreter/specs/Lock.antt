@@ -12,7 +12,7 @@ use Rattle.registers.specs.declared.settings.Settings.{Settings}
 use Rattle.registers.specs.declared.status.RegisterSet.the-variants.{Operation, Lock, Warning}
 use Rattle.interpreter.specs.Box.{Memory, Box}
 use Rattle.interpreter.specs.Perform.{isOutput}
-use Rattle.interpreter.specs.Events.{Event, started, received, take, condition, look, altered, mislent, Result, after}
+use Rattle.interpreter.specs.Events.{Event, started, received, take, condition, look, altered, mislent, Result, after, ended}
 use Rattle.interpreter.specs.State.{boxOf}
 use Rattle.interpreter.specs.Calls.{Calls}
 use Rattle.interpreter.specs.declared.state.State.{State}
@@ -28,6 +28,7 @@ leavesKey (condition Warning n) = true
 leavesKey look = true
 leavesKey (altered i x) = true
 leavesKey (mislent buffer) = true
+leavesKey ended = true
 
 -- settings, and what they and the registers are later
 pub record UnderLock (before later : Settings) (registers : Registers) : Type 0 where

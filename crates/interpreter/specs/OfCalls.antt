@@ -13,7 +13,7 @@ use Rattle.interpreter.specs.Histories.{newline, Recut, isTake, isPiece,
 use Rattle.interpreter.specs.State.{boxOf, possibleState, Started}
 use Rattle.interpreter.specs.Calls.{Calls}
 use Rattle.interpreter.specs.Demand2.{InRange, Which, answerTo, Asks, queried, sentBack, Premises, Back}
-use Rattle.interpreter.specs.Demand3.{asSent, asCut, ALine, Demand3}
+use Rattle.interpreter.specs.Demand3.{asSent, asCut, ALine, Demand3, Ending}
 use Rattle.interpreter.specs.declared.state.State.{State}
 
 -- calls led from s to t. The state s could be the box's, and has settings as long as their type says: a power-up hands back such a state
@@ -70,7 +70,7 @@ pub record Demand2OfCalls : Type 0 where
 
 abbrev pub Demand3OfCalls : Type 0
 Demand3OfCalls =
-    (m : Memory) (before during later h h′ : List Event) → ALine m before during
-    → Recut h (asSent before during ++ later) → Recut h′ (asCut m before during ++ later)
+    (m : Memory) (x : Ending) (before during later h h′ : List Event) → ALine m x before during
+    → Recut h (asSent x before during ++ later) → Recut h′ (asCut m before during ++ later)
     → (s s′ t t′ : State) (n n′ : Memory) (rs rs′ : List Result) → Started s → Started s′ → Calls t n s m h rs → Calls t′ n′ s′ m h′ rs′
-    → Demand3 m before during later (boxOf t n) (boxOf t′ n′) (λ p. chosen p h rs) (λ p. chosen p h′ rs′)
+    → Demand3 m x before during later (boxOf t n) (boxOf t′ n′) (λ p. chosen p h rs) (λ p. chosen p h′ rs′)

@@ -4,11 +4,11 @@ use mathlib.Core.List.{List, [], _∷_, map}
 use Prim.Native.Nat.{ℕ, zero, suc}
 use Prim.Native.Char.{code}
 use Prim.Native.String.{String}
-use lib.Dec.{leb}
-use lib.ListN.{length}
+use lib.Dec.{leb, eqb}
+use lib.ListN.{length, take}
 use lib.IntN.{ℤ, pos, natAbs}
 use lib.Signed.{leZ}
-use Rattle.registers.specs.Text.{Text, if_then_else_, letter, digit, wordByte, every, empty, first}
+use Rattle.registers.specs.Text.{Text, if_then_else_, letter, digit, wordByte, every, empty, first, same}
 use Rattle.registers.specs.Check.{Checked, refused, passed, _>>=_, _>>_, check}
 use Rattle.registers.specs.Words.{matches}
 use Rattle.registers.specs.Number.{number as readNumber, sign, point}
@@ -24,12 +24,13 @@ use Rattle.registers.specs.declared.status.Register.{Register}
 use Rattle.registers.specs.declared.suffix.Quantity.{Quantity}
 use Rattle.registers.specs.declared.suffix.Quantity.the-variants.{Nothing}
 use Rattle.interpreter.specs.Cuts.{isQuote, cutOpen, trim}
+use Rattle.interpreter.specs.Blocks.{blockMark}
 use Rattle.interpreter.specs.declared.deed.Deed.{Deed}
-use Rattle.interpreter.specs.declared.deed.Deed.the-variants.{Change, Query, Saving}
+use Rattle.interpreter.specs.declared.deed.Deed.the-variants.{Change, Query, Saving, Block}
 use Rattle.interpreter.specs.declared.deed.Change.the-variants.{Put, Store, Label as labelled}
 use Rattle.interpreter.specs.declared.deed.Query.the-variants.{Limit, Value, Stored, Label as labelAsked}
 use Rattle.interpreter.specs.declared.deed.Role.{Role}
-use Rattle.interpreter.specs.declared.deed.Role.the-variants.{Setting as setting, Register as register, Only, Saving as saving, Label as label}
+use Rattle.interpreter.specs.declared.deed.Role.the-variants.{Setting as setting, Register as register, Only, Saving as saving, Label as label, Waveform as waveform}
 use Rattle.interpreter.specs.declared.deed.Saving as savings
 
 -- check 2: "commas part the parameters"; none where nothing follows the header
@@ -59,6 +60,7 @@ least (register r) asked = if asked then 0 else 1
 least label asked = if asked then 0 else 1
 least (Only d) asked = 0
 least (saving x) asked = if asked then 0 else 1
+least waveform asked = if asked then 0 else 1
 
 unfoldable pub greatest : Role → Bool → ℕ
 greatest (setting i) asked = if asked then asksLimits (kindOf i) else 1
@@ -66,6 +68,7 @@ greatest (register r) asked = if asked then 0 else 1
 greatest label asked = if asked then 0 else 1
 greatest (Only d) asked = 0
 greatest (saving x) asked = if asked then 0 else 1
+greatest waveform asked = if asked then 0 else 1
 
 -- ---- checks 5 and 6
 
@@ -182,6 +185,10 @@ labelDeed t =
     then (check 151 (isString t) >> check 150 (every mayStand (textIn t)) >> check 223 (leb (length (textIn t)) mostText) >> passed (Change labelled))
     else refused 104
 
+-- TRACe:DATA (02, #110): "a word is -141, a number or string -104, any other `#` .. -161"
+unfoldable pub noBlock : Text → ℕ
+noBlock t = if letter (first t) then 141 else (if eqb (first t) (code "#") then 161 else 104)
+
 -- checks 5 to 7; a parameter is there where check 4 asked for one
 unfoldable pub deedOf : Settings → Role → Bool → List Text → Checked Deed
 deedOf s (setting i) true [] = passed (Query (Value i))
@@ -197,3 +204,26 @@ deedOf s (saving x) asked (t ∷ ts) = savingDeed x t
 deedOf s label true ts = passed (Query labelAsked)
 deedOf s label false [] = refused 109
 deedOf s label false (t ∷ ts) = labelDeed t
+deedOf s waveform asked [] = refused (noBlock [])
+deedOf s waveform asked (t ∷ ts) = refused (noBlock t)
+
+-- ---- blocks (02, #110)
+
+-- a parameter that opened a block, whose bytes stand beside the line (Blocks.opens)
+unfoldable pub isBlock : Text → Bool
+isBlock t = same (take (length blockMark) t) blockMark
+
+-- on TRACe:DATA "more after the block" is -161. Whether the block is a good one, and whether it stands on its row, is seen when its unit runs
+-- (Perform.takeIn)
+abbrev pub blockTo : Role → Text → Checked Deed
+blockTo (setting i) t = passed (Block false)
+blockTo (register r) t = passed (Block false)
+blockTo (Only d) t = passed (Block false)
+blockTo (saving x) t = passed (Block false)
+blockTo label t = passed (Block false)
+blockTo waveform t = check 161 (same t blockMark) >> passed (Block true)
+
+-- "In check 5, -161 comes before -104"
+unfoldable pub given : Settings → Role → Bool → List Text → Checked Deed
+given s r asked [] = deedOf s r asked []
+given s r asked (t ∷ ts) = if isBlock t then blockTo r t else deedOf s r asked (t ∷ ts)

@@ -2,8 +2,8 @@
 -- before it. Check 9 is in Reply.antt.
 use mathlib.Core.Bool.{Bool, true, false, not, _&&_, _||_}
 use Prim.Native.Nat.{ℕ}
-use Prim.Native.Nat.{ℕ}
 use lib.Dec.{eqb}
+use lib.ListN.{length}
 use lib.IntN.{pos}
 use lib.Signed.{leZ}
 use Rattle.registers.specs.Text.{Text}
@@ -13,10 +13,10 @@ use Rattle.registers.specs.Status.{locked, Trouble, noTrouble, completed, event
 use Rattle.registers.specs.declared.settings.Settings.{Settings}
 use Rattle.registers.specs.declared.status.RegisterSet.{RegisterSet}
 use Rattle.registers.specs.Setup.{settingsIn, recallable, blockAt, savedAt}
-use Rattle.interpreter.specs.Box.{withStore, Core, Box, box, withSettings, withRegisters, withMemory}
+use Rattle.interpreter.specs.Box.{mostBlock, withStore, withArea, noLine, Core, Box, box, withSettings, withRegisters, withLine, withMemory}
 use Rattle.interpreter.specs.Reply.{replyTo, inquiryReply, reply}
 use Rattle.interpreter.specs.declared.deed.Deed.{Deed}
-use Rattle.interpreter.specs.declared.deed.Deed.the-variants.{Change, Complete, Clear, Query, Inquire, Saving}
+use Rattle.interpreter.specs.declared.deed.Deed.the-variants.{Change, Complete, Clear, Query, Inquire, Saving, Block}
 use Rattle.interpreter.specs.declared.deed.Change as changes
 use Rattle.interpreter.specs.declared.deed.Change.the-variants.{Nothing, Put, Reset, Store, Label}
 use Rattle.interpreter.specs.declared.deed.Saving as savings
@@ -58,6 +58,7 @@ blocked Clear = false
 blocked (Query q) = false
 blocked (Inquire q) = false
 blocked (Saving x p) = true
+blocked (Block here) = false
 
 -- check 8: "range R12V while the voltage is above 12.0"
 abbrev pub conflictingChange : changes.Change → Settings → Bool
@@ -74,6 +75,7 @@ conflicting Clear s = false
 conflicting (Query q) s = false
 conflicting (Inquire q) s = false
 conflicting (Saving x p) s = false
+conflicting (Block here) s = false
 
 -- "While any lock condition bit is 1, every setting command and *RST is refused with -221 after its value checks and before check 8"
 unfoldable pub permitted : Deed → Core → Checked (Unit {0})
@@ -114,6 +116,17 @@ setUp Recall p c =
     let b = blockAt p (c .memory .store) in
     check 314 (recallable b) >> passed (withSettings (settingsIn b) c)
 
+-- ---- a block (02, #110), which waits until its unit runs. "-161 comes before -104": "a block cut short or the second of a line is -161 on any
+-- row", since the first one's unit took its bytes; "a good first block on another row is -104"; on TRACe:DATA it is "under a lock -221, after
+-- -161", and then "all 8,192 bytes reach the area at once"
+
+unfoldable pub takeIn : Bool → Core → Checked Core
+takeIn here c =
+    check 161 (eqb (length (c .line .block)) mostBlock) >>
+    check 104 here >>
+    check 221 (not (locked (c .registers))) >>
+    passed (withMemory (withArea (c .line .block) (c .memory)) (withLine noLine c))
+
 -- ---- the deed: "*OPC sets event bit 0"; "*CLS clears the event status register, the operation event register and the queue, nothing
 -- else", by 02 (#104) "all three event registers"
 
@@ -124,3 +137,4 @@ perform Clear t b = passed (box (allCleared (b .core)) noTrouble)
 perform (Query q) t b = reply (replyTo q (b .core)) (afterQuery q (b .core)) >>= λ c. passed (box c (b .trouble))
 perform (Inquire q) t b = reply (inquiryReply q b) (b .core) >>= λ c. passed (box c (afterInquiry q (b .trouble)))
 perform (Saving x p) t b = setUp x p (b .core) >>= λ c. passed (box c (b .trouble))
+perform (Block here) t b = takeIn here (b .core) >>= λ c. passed (box c (b .trouble))

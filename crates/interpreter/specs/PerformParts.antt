@@ -10,7 +10,7 @@ use Rattle.registers.specs.declared.status.Status.{Status}
 use Rattle.interpreter.specs.UnitParts.{Allowed}
 use Rattle.interpreter.specs.Perform.{afterInquiry}
 use Rattle.interpreter.specs.declared.deed.Deed.{Deed}
-use Rattle.interpreter.specs.declared.deed.Deed.the-variants.{Change, Complete, Clear, Query, Inquire, Saving}
+use Rattle.interpreter.specs.declared.deed.Deed.the-variants.{Change, Complete, Clear, Query, Inquire, Saving, Block}
 use Rattle.interpreter.specs.declared.deed.Change as changes
 use Rattle.interpreter.specs.declared.deed.Change.the-variants.{Nothing as noChange, Put, Reset, Store, Label}
 use Rattle.interpreter.specs.declared.deed.Query as queries
@@ -33,6 +33,7 @@ settingsLeft Clear t s = s
 settingsLeft (Query q) t s = s
 settingsLeft (Inquire q) t s = s
 settingsLeft (Saving x p) t s = s
+settingsLeft (Block here) t s = s
 
 abbrev pub registersChanged : changes.Change → Registers → Registers
 registersChanged noChange r = r
@@ -59,6 +60,7 @@ registersLeft Clear r = allRead r
 registersLeft (Query q) r = registersAsked q r
 registersLeft (Inquire q) r = r
 registersLeft (Saving x p) r = r
+registersLeft (Block here) r = r
 
 abbrev pub troubleLeft : Deed → Trouble → Trouble
 troubleLeft (Change x) t = t
@@ -67,6 +69,7 @@ troubleLeft Clear t = noTrouble
 troubleLeft (Query q) t = t
 troubleLeft (Inquire q) t = afterInquiry q t
 troubleLeft (Saving x p) t = t
+troubleLeft (Block here) t = t
 
 pub record StatusLeft (d : Deed) (s r : Status) : Type 0 where
   pub registers : (c : Settings) → Allowed c d → registersOf r ≡ registersLeft d (registersOf s)
@@ -77,3 +80,5 @@ pub record StatusLeft (d : Deed) (s r : Status) : Type 0 where
 pub record After (d : Deed) (t : Text) (p r : Present) : Type 0 where
   pub settings : r .settings ≡ settingsLeft d t (p .settings)
   pub status : StatusLeft d (p .status) (r .status)
+  pub held : r .held ≡ p .held
+  pub stored : r .stored ≡ p .stored

@@ -16,14 +16,14 @@ use Rattle.registers.specs.Status.{registersOf, troubleOf}
 use Rattle.interpreter.specs.Parameter.{wordsOf}
 use Rattle.interpreter.specs.WordsParts.{wordAt}
 use Rattle.interpreter.specs.UnitParts.{Allowed}
-use Rattle.interpreter.specs.Box.{Memory, mostAnswer}
+use Rattle.interpreter.specs.Box.{mostAnswer}
 use Rattle.interpreter.specs.Reply.{identity, replyTo, inquiryText, joined}
 use Rattle.interpreter.specs.Perform.{perform}
 use Rattle.interpreter.specs.Line.{refuse}
-use Rattle.interpreter.specs.PresentParts.{coreIn, boxIn, boxAt}
+use Rattle.interpreter.specs.PresentParts.{Around, coreIn, boxIn, boxAt}
 use Rattle.interpreter.specs.PerformParts.{After}
 use Rattle.interpreter.specs.declared.deed.Deed.{Deed}
-use Rattle.interpreter.specs.declared.deed.Deed.the-variants.{Change, Complete, Clear, Query, Inquire, Saving}
+use Rattle.interpreter.specs.declared.deed.Deed.the-variants.{Change, Complete, Clear, Query, Inquire, Saving, Block}
 use Rattle.interpreter.specs.declared.present.Present.{Present}
 use Rattle.interpreter.specs.declared.reply.Reply.{Reply}
 use Rattle.interpreter.specs.declared.reply.Reply.the-variants.{Nothing, Identity, Word, Tenths, Whole, Number, Error, Label}
@@ -61,7 +61,7 @@ pub record RepliesWith (label t : Text) (r : Reply) : Type 0 where
   pub is : textOf label r ≡ t
   pub some : said r ≡ true
 
--- a deed that sees nothing of the memory: any but *SAV and *RCL
+-- a deed that sees nothing of the memory: any but *SAV, *RCL and a block
 abbrev pub ordinary : Deed → Bool
 ordinary (Change x) = true
 ordinary Complete = true
@@ -69,6 +69,7 @@ ordinary Clear = true
 ordinary (Query q) = true
 ordinary (Inquire q) = true
 ordinary (Saving x p) = false
+ordinary (Block here) = false
 
 -- what a deed answers
 abbrev pub ReplyTo : Deed → Present → Bool → Reply → Type 0
@@ -78,6 +79,7 @@ ReplyTo Clear p answers r = r ≡ Nothing
 ReplyTo (Query q) p answers r = RepliesWith (displayed (p .settings)) (replyTo q (coreIn (p .settings) (p .status))) r
 ReplyTo (Inquire q) p answers r = RepliesWith (displayed (p .settings)) (inquiryText q (registersOf (p .status)) (troubleOf (p .status)) answers) r
 ReplyTo (Saving x n) p answers r = r ≡ Nothing
+ReplyTo (Block here) p answers r = r ≡ Nothing
 
 -- the answers so far with a reply after them
 unfoldable pub answeredWith : Text → Reply → Text → Text
@@ -94,6 +96,6 @@ pub record GivenTo (label : Text) (reply : Reply) (answered : ℕ) (out : Text) 
 abbrev pub Answered : Deed → Text → Present → Text → Told → Text → Type 0
 Answered d t p out (Until end) out′ =
     (end < mostAnswer)
-    × ((r : Present) (m : Memory) → Allowed (p .settings) d → After d t p r → perform d t (boxAt p out m) ≡ passed (boxIn r (take end out′) m))
+    × ((r : Present) (m : Around) → Allowed (p .settings) d → After d t p r → perform d t (boxAt p out m) ≡ passed (boxIn r (take end out′) m))
 Answered d t p out (Refused e) out′ =
-    (m : Memory) → (perform d t (boxAt p out m) ≡ refused (numberOf e)) × (refuse (numberOf e) (boxAt p out′ m) ≡ refuse (numberOf e) (boxAt p out m))
+    (m : Around) → (perform d t (boxAt p out m) ≡ refused (numberOf e)) × (refuse (numberOf e) (boxAt p out′ m) ≡ refuse (numberOf e) (boxAt p out m))

@@ -13,10 +13,10 @@ use Rattle.registers.specs.declared.status.RegisterSet.{RegisterSet}
 use Rattle.registers.specs.declared.status.RegisterSet.the-variants.{Operation, Lock, Warning}
 use Rattle.interpreter.specs.Header.{spells, suffixIn}
 use Rattle.interpreter.specs.declared.deed.Role.{Role}
-use Rattle.interpreter.specs.declared.deed.Role.the-variants.{Setting as setting, Register as register, Only, Saving as saving, Label as label}
+use Rattle.interpreter.specs.declared.deed.Role.the-variants.{Setting as setting, Register as register, Only, Saving as saving, Label as label, Waveform as waveform}
 use Rattle.interpreter.specs.declared.deed.Saving.the-variants.{Save, Recall}
 use Rattle.interpreter.specs.declared.deed.Deed.{Deed}
-use Rattle.interpreter.specs.declared.deed.Deed.the-variants.{Change, Complete, Clear, Query, Inquire, Saving}
+use Rattle.interpreter.specs.declared.deed.Deed.the-variants.{Change, Complete, Clear, Query, Inquire, Saving, Block}
 use Rattle.interpreter.specs.declared.deed.Change.the-variants.{Nothing, Reset}
 use Rattle.interpreter.specs.declared.deed.Query.the-variants.{Identity, SelfTest, Completed, Condition, SetEvents}
 use Rattle.interpreter.specs.declared.deed.Inquiry.the-variants.{StandardEvents, StatusByte, NextError}
@@ -47,7 +47,7 @@ unfoldable pub settingRows : ℕ → List Setting → List Row
 settingRows i [] = []
 settingRows i (s ∷ ss) = plain (s .nodes) (setting i) ∷ settingRows (suc i) ss
 
--- "Registers and queue", and what 02 adds: *SAV and *RCL (#108), DISPlay:TEXT (#109), and two sets (#104)
+-- "Registers and queue", and what 02 adds: *SAV and *RCL (#108), DISPlay:TEXT (#109), TRACe:DATA (#110), and two sets (#104)
 unfoldable pub otherRows : List Row
 otherRows =
     starred "IDN" (Only (Query Identity))
@@ -65,6 +65,7 @@ otherRows =
     ∷ starred "SAV" (saving Save)
     ∷ starred "RCL" (saving Recall)
     ∷ plain (must "DISPlay" ∷ must "TEXT" ∷ []) label
+    ∷ plain (must "TRACe" ∷ must "DATA" ∷ []) waveform
     ∷ ofSet Operation "OPERation" ++ ofSet Lock "LOCK" ++ ofSet Warning "WARNing"
 
 unfoldable pub rows : List Row
@@ -78,6 +79,7 @@ isQuery Clear = false
 isQuery (Query q) = true
 isQuery (Inquire q) = true
 isQuery (Saving x p) = false
+isQuery (Block here) = false
 
 -- "a query or a setting form the row lacks"
 abbrev pub hasForm : Bool → Role → Bool
@@ -86,6 +88,7 @@ hasForm asked (register r) = true
 hasForm asked label = true
 hasForm asked (Only d) = sameBool asked (isQuery d)
 hasForm asked (saving x) = sameBool asked false
+hasForm asked waveform = sameBool asked false
 
 unfoldable pub fitsRow : Bool → List Text → Bool → Row → Bool
 fitsRow star names asked r = sameBool star (r .star) && (hasForm asked (r .role) && spells (r .nodes) names)
@@ -116,6 +119,7 @@ onSecond (register r) = refused 114
 onSecond (Only d) = refused 114
 onSecond (saving x) = refused 114
 onSecond label = refused 114
+onSecond waveform = refused 114
 
 -- "a numeric suffix 1 or 2 .., none meaning 1"; "other suffixes there give -114"
 unfoldable pub onChannel : Text → Role → Checked Role

@@ -3,19 +3,20 @@ use mathlib.Core.Path.{_≡_}
 use mathlib.Core.Bool.{true, false}
 use mathlib.Core.List.{List, [], _∷_, _++_}
 use Prim.Native.Nat.{ℕ, _+_, _≤_}
-use lib.Dec.{eqb, leb}
+use lib.Dec.{leb}
 use lib.ListN.{length, take, drop}
 use Rattle.registers.specs.Text.{Text, if_then_else_, empty}
 use Rattle.interpreter.specs.Cuts.{joinFirst}
-use Rattle.interpreter.specs.Box.{Memory, rightSize, Box, answerIs, mostAnswer}
+use Rattle.interpreter.specs.Box.{Memory, rightSize, Box, answerIs, mostAnswer, Line, noLine}
+use Rattle.interpreter.specs.Line.{grown, endsLine}
 use Rattle.interpreter.specs.Events.{Event, Happened, happens, received, take as takes}
 use Rattle.interpreter.specs.State.{boxOf, possibleState}
 use Rattle.interpreter.specs.declared.state.State.{State}
 
--- the bytes cut after every newline
-unfoldable pub linesOf : Text → List Text
-linesOf [] = []
-linesOf (x ∷ xs) = if eqb x 10 then (x ∷ []) ∷ linesOf xs else joinFirst x (linesOf xs)
+-- the bytes cut after every newline that ends a line, where so much of the first line has come
+unfoldable pub linesOf : Line → Text → List Text
+linesOf l [] = []
+linesOf l (x ∷ xs) = if endsLine x l then (x ∷ []) ∷ linesOf noLine xs else joinFirst x (linesOf (grown x l) xs)
 
 -- how far it got: the box, the bytes read, the answers, and the output's bytes after them
 pub record Service : Type 0 where
@@ -53,9 +54,18 @@ unfoldable pub heard : Box → List Text → Box
 heard b [] = b
 heard b (line ∷ more) = heard (heardLine b line) more
 
+-- so much of a line has come after these bytes
+unfoldable pub lineAfter : Line → Text → Line
+lineAfter l [] = l
+lineAfter l (x ∷ xs) = if endsLine x l then lineAfter noLine xs else lineAfter (grown x l) xs
+
 -- the first n bytes end where a line does
-abbrev pub WholeLines : ℕ → Text → Type 0
-WholeLines n t = linesOf t ≡ linesOf (take n t) ++ linesOf (drop n t)
+abbrev pub WholeLines : Line → ℕ → Text → Type 0
+WholeLines l n t = linesOf l t ≡ linesOf l (take n t) ++ linesOf (lineAfter l (take n t)) (drop n t)
+
+-- the lines of a text that comes to a box
+abbrev pub linesTo : Box → Text → List Text
+linesTo b t = linesOf (b .core .line) t
 
 -- ---- the same as lists of events
 
@@ -88,7 +98,7 @@ pub record Serves (s : State) (m : Memory) (input output : Text) (number read wr
       → (possibleState t ≡ true)
       × (number ≡ 0)
       × (written ≤ length left)
-      × (service (boxOf t n) read (take written left) (drop written left) ≡ serves (begun s m output) (linesOf input))
+      × (service (boxOf t n) read (take written left) (drop written left) ≡ serves (begun s m output) (linesOf (boxOf s m .core .line) input))
       × (rightSize n ≡ true)
   pub impossible : rightSize m ≡ true → possibleState s ≡ false → (t ≡ s) × (number ≡ 4) × (read ≡ 0) × (written ≡ 0) × (left ≡ output) × (n ≡ m)
   pub wrong : rightSize m ≡ false → (t ≡ s) × (number ≡ 5) × (read ≡ 0) × (written ≡ 0) × (left ≡ output) × (n ≡ m)

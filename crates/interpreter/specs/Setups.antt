@@ -11,7 +11,7 @@ use Rattle.registers.specs.Label.{mostText}
 use Rattle.registers.specs.Settings.{tableCount, displayed, AsLong, possibleSettings}
 use Rattle.registers.specs.Setup.{places, blockSize, checks, savedText, readIn, marked, settingsIn, blockOf, blockAt, savedAt}
 use Rattle.registers.specs.declared.settings.Settings.{Settings}
-use Rattle.interpreter.specs.Box.{rightSize, alteredIn, Core, withSettings, withMemory}
+use Rattle.interpreter.specs.Box.{rightSize, alteredIn, Core, withSettings, withMemory, withStore}
 use Rattle.interpreter.specs.Perform.{setUp}
 use Rattle.interpreter.specs.declared.deed.Saving.the-variants.{Save, Recall}
 
@@ -44,7 +44,7 @@ OlderHasNoText =
 -- a block whose check holds, with another byte at one place, is not recalled
 abbrev pub AlteredIsNoticed : Type 0
 AlteredIsNoticed =
-    (p i x : ℕ) (c : Core) → i < blockSize → (x ≡ getD (blockAt p (c .memory .store)) i 0 → ⊥)
+    (p i x : ℕ) (c : Core) → p < places → i < blockSize → (x ≡ getD (blockAt p (c .memory .store)) i 0 → ⊥)
     → checks (blockAt p (c .memory .store)) ≡ true
     → setUp Recall p (withMemory (alteredIn (blockSize * p + i) x (c .memory)) c) ≡ refused 314
 
@@ -56,7 +56,7 @@ pub record OnlyItsBlock (p : ℕ) (c d : Core) : Type 0 where
 
 abbrev pub SavesOnlyItsBlock : Type 0
 SavesOnlyItsBlock =
-    (p : ℕ) (c d : Core) → p < places → rightSize (c .memory) ≡ true → d .memory .store ≡ savedAt p (c .settings) (c .memory .store) → OnlyItsBlock p c d
+    (p : ℕ) (c d : Core) → p < places → rightSize (c .memory) ≡ true → d .memory ≡ withStore (savedAt p (c .settings) (c .memory .store)) (c .memory) → OnlyItsBlock p c d
 
 pub record Setups : Type 0 where
   pub recalled : SavedIsRecalled

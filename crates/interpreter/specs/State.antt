@@ -1,4 +1,4 @@
--- "What can happen to the box", for the code: what a State means, and what each of the five events says of it; refusals 4 and 5.
+-- "What can happen to the box", for the code: what a State means, and what each event says of it; refusals 4 and 5.
 use mathlib.Core.Path.{_≡_}
 use mathlib.Core.Bool.{Bool, true, false, _&&_}
 use Prim.Native.Nat.{ℕ}
@@ -8,8 +8,8 @@ use Rattle.registers.specs.Settings.{possibleSettings}
 use Rattle.registers.specs.Status.{registersOf, troubleOf, possibleStatus}
 use Rattle.registers.specs.declared.settings.Settings.{Settings}
 use Rattle.registers.specs.declared.status.Status.{Status}
-use Rattle.interpreter.specs.Box.{Memory, rightSize, Box, box, powerUp, mostLine, mostAnswer}
-use Rattle.interpreter.specs.Events.{Event, started, received, take as takes, condition, look, altered, mislent, Sort, anew, carries, fetches, aside, sortOf, Result, result, happened, happens, lent}
+use Rattle.interpreter.specs.Box.{Memory, rightSize, Box, box, powerUp, mostLine, mostAnswer, lineIs, mostBlock}
+use Rattle.interpreter.specs.Events.{Event, started, received, take as takes, condition, look, altered, mislent, Sort, anew, carries, fetches, finishes, aside, sortOf, Result, result, happened, happens, lent, ended}
 use Rattle.interpreter.specs.declared.state.State.{State}
 use Rattle.interpreter.specs.declared.state.Outcome.{Outcome}
 use Rattle.interpreter.specs.declared.state.Outcome.the-variants.{Done, BufferTooShort, NoAnswer, ConditionTooWide, ImpossibleState, WrongStore}
@@ -29,27 +29,27 @@ boxOf s m =
     box (record {
       settings = s .settings;
       registers = registersOf (s .status);
-      line = take (s .filled) (s .line);
-      overlong = s .overlong;
+      line = lineIs (take (s .filled) (s .line)) (s .overlong) (take (s .held) (s .block)) (s .coming);
       answer = take (s .waiting) (s .answer);
       memory = m;
     }) (troubleOf (s .status))
 
 -- number 4 on the record's own numbers: "a setting outside its limits, a queue above 16 .., a line above 512, an answer
 -- above 1,024, a register above its width .., *SRE with bit 6, a voltage above its range; not otherwise"; line and answer by 02 (#106)
--- above 4,096
-unfoldable pub possibleParts : Settings → Status → ℕ → ℕ → Bool
-possibleParts settings status filled waiting =
-    possibleSettings settings && possibleStatus status && leb filled mostLine && leb waiting mostAnswer
+-- above 4,096; by 02 (#110) "more than 8,192 waiting block bytes"
+unfoldable pub possibleParts : Settings → Status → ℕ → ℕ → ℕ → Bool
+possibleParts settings status filled held waiting =
+    possibleSettings settings && possibleStatus status && leb filled mostLine && leb held mostBlock && leb waiting mostAnswer
 
 abbrev pub possibleState : State → Bool
-possibleState s = possibleParts (s .settings) (s .status) (s .filled) (s .waiting)
+possibleState s = possibleParts (s .settings) (s .status) (s .filled) (s .held) (s .waiting)
 
 -- number 4 is for "any but power-up": a power-up looks at no state, and is never refused
 abbrev pub admittedAs : State → Sort → Bool
 admittedAs s anew = true
 admittedAs s (carries xs) = possibleState s
 admittedAs s (fetches buffer) = possibleState s
+admittedAs s finishes = possibleState s
 admittedAs s aside = possibleState s
 
 abbrev pub admitted : State → Event → Bool
@@ -62,6 +62,7 @@ rightly m (received xs) = rightSize m
 rightly m (takes buffer) = rightSize m
 rightly m (condition x n) = rightSize m
 rightly m look = rightSize m
+rightly m ended = rightSize m
 rightly m (altered i x) = true
 rightly m (mislent buffer) = false
 

@@ -6,12 +6,11 @@ use mathlib.Core.Path.{_≡_}
 use mathlib.Core.Bool.{Bool, true}
 use mathlib.Core.List.{List, [], _∷_, _++_}
 use Prim.Native.Nat.{ℕ}
-use lib.Dec.{eqb}
 use Rattle.registers.specs.Text.{Text, if_then_else_, empty}
 use Rattle.registers.specs.Check.{Checked, refused, passed}
 use Rattle.interpreter.specs.Box.{Memory, Box}
-use Rattle.interpreter.specs.Line.{Obeyed, attempt, unitsOf, atNewline, byte}
-use Rattle.interpreter.specs.Events.{Event, Sort, anew, carries, fetches, aside, sortOf, Result, happens, after}
+use Rattle.interpreter.specs.Line.{Obeyed, attempt, unitsOf, atNewline, noneCame, endsLine, byte}
+use Rattle.interpreter.specs.Events.{Event, Sort, anew, carries, fetches, finishes, aside, sortOf, Result, happens, after}
 use Rattle.interpreter.specs.Histories.{Recut}
 use Rattle.interpreter.specs.State.{boxOf, possibleState}
 use Rattle.interpreter.specs.Calls.{Calls}
@@ -46,9 +45,9 @@ unitSteps (u ∷ us) path b = tries path b u ∷ stepsNext (λ p c. unitSteps us
 unfoldable pub lineSteps : Text → Bool → Box → List Step
 lineSteps line overlong b = if overlong then overruns b ∷ [] else unitSteps (unitsOf line) [] b
 
--- of the line that waits, at its newline
+-- of the line that waits, at its end
 abbrev pub ownSteps : Box → List Step
-ownSteps b = lineSteps (b .core .line) (b .core .overlong) (atNewline b)
+ownSteps b = lineSteps (b .core .line .text) (b .core .line .overlong) (atNewline b)
 
 unfoldable pub endSteps : Box → List Step
 endSteps b = (if empty (b .core .answer) then [] else discards b ∷ []) ++ ownSteps b
@@ -56,7 +55,7 @@ endSteps b = (if empty (b .core .answer) then [] else discards b ∷ []) ++ ownS
 -- ---- histories
 
 unfoldable pub byteSteps : Box → ℕ → List Step
-byteSteps b x = if eqb x 10 then endSteps b else []
+byteSteps b x = if endsLine x (b .core .line) then endSteps b else []
 
 unfoldable pub pieceSteps : Box → Text → List Step
 pieceSteps b [] = []
@@ -66,6 +65,7 @@ abbrev pub sortSteps : Box → Sort → List Step
 sortSteps b anew = powersUp b ∷ []
 sortSteps b (carries xs) = pieceSteps b xs
 sortSteps b (fetches buffer) = if empty (b .core .answer) then findsNone b ∷ [] else []
+sortSteps b finishes = if noneCame (b .core .line) then [] else endSteps b
 sortSteps b aside = []
 
 unfoldable pub eventSteps : Box → Event → List Step

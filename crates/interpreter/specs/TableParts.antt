@@ -20,11 +20,11 @@ nodeList =
     "OUTPut" ∷ "VOLTage" ∷ "FREQuency" ∷ "CURRent" ∷ "STATe" ∷ "PON" ∷ "RELay" ∷ "MONitor" ∷ "MODE" ∷ "SOURce" ∷ "LEVel" ∷ "IMMediate"
     ∷ "AMPLitude" ∷ "RANGe" ∷ "LIMit" ∷ "RMS" ∷ "PEAK" ∷ "TIME" ∷ "HIGH" ∷ "LOW" ∷ "DISPlay" ∷ "BRIGhtness" ∷ "SYSTem" ∷ "KLOCk"
     ∷ "IDN" ∷ "TST" ∷ "OPC" ∷ "WAI" ∷ "RST" ∷ "CLS" ∷ "ESE" ∷ "SRE" ∷ "ESR" ∷ "STB" ∷ "STATus" ∷ "OPERation" ∷ "CONDition" ∷ "EVENt"
-    ∷ "ENABle" ∷ "NTRansition" ∷ "PTRansition" ∷ "ERRor" ∷ "EXAM" ∷ "LOCK" ∷ "WARNing" ∷ "SAV" ∷ "RCL" ∷ "TEXT" ∷ []
+    ∷ "ENABle" ∷ "NTRansition" ∷ "PTRansition" ∷ "ERRor" ∷ "EXAM" ∷ "LOCK" ∷ "WARNing" ∷ "SAV" ∷ "RCL" ∷ "TEXT" ∷ "TRACe" ∷ "DATA" ∷ []
 
 -- how many there are, and how many of them, the first, take a suffix
 abbrev pub nodeCount : ℕ
-nodeCount = 48
+nodeCount = 50
 
 abbrev pub numberedCount : ℕ
 numberedCount = 4

@@ -13,7 +13,7 @@ use Rattle.registers.specs.declared.settings.Settings.{Settings}
 use Rattle.interpreter.specs.Cuts.{trim}
 use Rattle.interpreter.specs.Header.{header, fullNames, pathAfter, isCommon}
 use Rattle.interpreter.specs.Rows.{findRole}
-use Rattle.interpreter.specs.Parameter.{parameters, noneEmpty, least, greatest, deedOf}
+use Rattle.interpreter.specs.Parameter.{parameters, noneEmpty, least, greatest, given}
 use Rattle.interpreter.specs.declared.deed.Deed.{Deed}
 
 -- the numbers that a unit can be refused by: all that 01 and 02 put into the queue but -350, which a full queue makes, -363 and -410, which
@@ -38,7 +38,7 @@ parameterText u = trim (after visible (after white u))
 abbrev pub allowed : ℕ → Bool
 allowed b = white b || printable b
 
--- the checks in 01's order: 1, 2, 3, 4, then 5 to 7 in deedOf
+-- the checks in 01's order: 1, 2, 3, 4, then 5 to 7 in given
 unfoldable pub readUnit : Settings → List Text → Text → Checked Read
 readUnit s path u =
     check 101 (every allowed u) >>
@@ -48,5 +48,5 @@ readUnit s path u =
     findRole (isCommon (h .place)) (fullNames (h .place) path (h .names)) (h .query) >>= λ r.
     check 108 (leb (length ps) (greatest r (h .query))) >>
     check 109 (leb (least r (h .query)) (length ps)) >>
-    deedOf s r (h .query) ps >>= λ d.
+    given s r (h .query) ps >>= λ d.
     passed (record { deed = d; text = textIn (parameterText u); path = pathAfter (h .place) path (h .names) })

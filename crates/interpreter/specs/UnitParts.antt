@@ -13,12 +13,12 @@ use Rattle.registers.specs.Label.{mostText, mayStand, textIn}
 use Rattle.registers.specs.Status.{widest}
 use Rattle.registers.specs.declared.settings.Settings.{Settings}
 use Rattle.interpreter.specs.Cuts.{trim}
-use Rattle.interpreter.specs.Parameter.{parameters, noneEmpty, least, greatest, deedOf}
+use Rattle.interpreter.specs.Parameter.{parameters, noneEmpty, least, greatest, given}
 use Rattle.interpreter.specs.DeedParts.{placeCount, nowhere, roleAt}
 use Rattle.interpreter.specs.HeaderParts.{Holds}
 use Rattle.interpreter.specs.Unit.{allowed, readUnit}
 use Rattle.interpreter.specs.declared.deed.Deed.{Deed}
-use Rattle.interpreter.specs.declared.deed.Deed.the-variants.{Change as change, Complete, Clear, Query as query, Inquire, Saving}
+use Rattle.interpreter.specs.declared.deed.Deed.the-variants.{Change as change, Complete, Clear, Query as query, Inquire, Saving, Block}
 use Rattle.registers.specs.Setup.{places}
 use Rattle.interpreter.specs.declared.deed.Change.{Change}
 use Rattle.interpreter.specs.declared.deed.Change.the-variants.{Nothing, Put, Reset, Store, Label as labelled}
@@ -40,7 +40,7 @@ decided s row asked t =
     roleFound row >>= λ r.
     check 108 (leb (length (parameters t)) (greatest r asked)) >>
     check 109 (leb (least r asked) (length (parameters t))) >>
-    deedOf s r asked (parameters t)
+    given s r asked (parameters t)
 
 -- check 1 on the text after a header, and then those
 unfoldable pub decidedText : Settings → ℕ → Bool → Text → Checked Deed
@@ -101,6 +101,7 @@ Allowed s Clear = Unit {0}
 Allowed s (query q) = AllowedQuery q
 Allowed s (Inquire q) = Unit {0}
 Allowed s (Saving x p) = p < places
+Allowed s (Block here) = Unit {0}
 
 -- and the text that it stores is within its limits
 abbrev pub AllowedLabel : Change → Text → Type 0
@@ -117,3 +118,4 @@ AllowedText Clear t = Unit {0}
 AllowedText (query q) t = Unit {0}
 AllowedText (Inquire q) t = Unit {0}
 AllowedText (Saving x p) t = Unit {0}
+AllowedText (Block here) t = Unit {0}

@@ -52,7 +52,7 @@ pub enum Saving {
     Recall,
 }
 
-// What an accepted unit does.
+// What an accepted unit does. A block (02, #110) is here on TRACe:DATA's row, or on another's, where it is refused when it is looked at.
 pub enum Deed {
     Change(Change),
     Complete,
@@ -60,6 +60,7 @@ pub enum Deed {
     Query(Query),
     Inquire(Inquiry),
     Saving { saving: Saving, place: usize },
+    Block { here: bool },
 }
 
 // What a header comes to: its place, and whether it asks. The place is its setting's slot, or after the slots its row among the
@@ -69,13 +70,14 @@ pub(crate) struct Heading {
     pub(crate) asked: bool,
 }
 
-// A setting, a register or the display's text is set and asked; every other header has only one form, and one deed, or is given a place.
+// A setting, a register or the display's text is set and asked; every other header has only one form, and one deed, or is given a place or a block.
 pub enum Role {
     Setting(usize),
     Register(Register),
     Only(Deed),
     Saving(Saving),
     Label,
+    Waveform,
 }
 
 // Names a register set by its place; past the last place it is the last set.
@@ -103,7 +105,7 @@ fn of_set(set: RegisterSet, place: usize) -> Role
 }
 
 // How many rows of 'Registers and queue' stand before those of the register sets, and how many a set has.
-const COMMON_ROWS: usize = 15;
+const COMMON_ROWS: usize = 16;
 
 const SET_ROWS: usize = 5;
 
@@ -112,9 +114,9 @@ const MONITOR: usize = 3;
 
 const BRIGHTNESS: usize = 14;
 
-pub(crate) const NOWHERE: usize = 60;
+pub(crate) const NOWHERE: usize = 61;
 
-pub(crate) const NO_CHANNEL: usize = 61;
+pub(crate) const NO_CHANNEL: usize = 62;
 
 // Finds the place of a row on the channel that a suffix names.
 pub(crate) fn place_of(row: usize, suffix: u64) -> usize
@@ -167,6 +169,7 @@ pub(crate) fn role_of(place: usize) -> Role
         11 => return Role::Only(Deed::Inquire(Inquiry::NextError)),
         12 => return Role::Saving(Saving::Save),
         13 => return Role::Saving(Saving::Recall),
-        _ => return Role::Label,
+        14 => return Role::Label,
+        _ => return Role::Waveform,
     }
 }

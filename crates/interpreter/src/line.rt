@@ -9,6 +9,7 @@ use crate::perform;
 use crate::present::Present;
 use crate::reply;
 use crate::reply::Told;
+use crate::sizes::BLOCK;
 use crate::unit;
 use registers::error::Error;
 use registers::setup;
@@ -23,9 +24,9 @@ ghost use Rattle.registers.specs.Check.{passed};
 ghost use Rattle.registers.specs.Queue.{most};
 ghost use Rattle.registers.specs.Setup.{places};
 ghost use Rattle.registers.specs.Label.{textIn};
-ghost use Rattle.interpreter.specs.Box.{mostAnswer, storeSize, Memory, memory};
+ghost use Rattle.interpreter.specs.Box.{mostAnswer, mostBlock, storeSize};
 ghost use Rattle.interpreter.specs.Perform.{permitted};
-ghost use Rattle.interpreter.specs.PresentParts.{coreIn};
+ghost use Rattle.interpreter.specs.PresentParts.{coreIn, Around, around};
 ghost use Rattle.interpreter.specs.ReplyParts.{ordinary};
 ghost use Rattle.interpreter.specs.TableParts.{commandTable};
 ghost use Rattle.interpreter.specs.HeaderParts.{Holds, Held};
@@ -54,7 +55,7 @@ fn stop(present: Present, error: Error) -> Done
 fn set_up(present: Present, saving: Saving, place: usize, used: usize, store: &mut [u8]) -> Done
     requires { ⌜ (permitted (Deed.Saving saving place) (coreIn (present .settings) (present .status)) ≡ passed tt) × (place < places) × (length (now store) ≡ storeSize) ⌝ }
     requires { ⌜ (present .answered < mostAnswer) × (present .status .queued ≤ most) ⌝ }
-    ensures { λ r. ⌜ ((t out : Text) → CarriedOut (Deed.Saving saving place) t used present out (memory (now (store .entry))) r out (memory (now (store .exit)))) ⌝ }
+    ensures { λ r. ⌜ ((t out w a : Text) → CarriedOut (Deed.Saving saving place) t used present out (around w (now (store .entry)) a) r out (around w (now (store .exit)) a)) ⌝ }
 {
     let at = place * setup::BLOCK;
     match saving {
@@ -81,6 +82,8 @@ fn set_up(present: Present, saving: Saving, place: usize, used: usize, store: &m
                     settings,
                     status,
                     answered: present.answered,
+                    held: present.held,
+                    stored: present.stored,
                 },
                 used,
                 obeyed: true,
@@ -89,12 +92,35 @@ fn set_up(present: Present, saving: Saving, place: usize, used: usize, store: &m
     }
 }
 
+// Takes a block to the area, or refuses its unit: "-161 comes before -104", and the lock after both. The bytes are laid there as the line ends.
+fn take_block(mut present: Present, here: bool, used: usize) -> Done
+    requires { ⌜ (present .answered < mostAnswer) × (present .status .queued ≤ most) ⌝ }
+    ensures { λ r. ⌜ ((t out : Text) (m : Around) → length (m .block) ≡ mostBlock → CarriedOut (Deed.Block here) t used present out m r out m) ⌝ }
+{
+    if present.held < BLOCK {
+        return stop(present, Error::InvalidBlockData);
+    }
+    if !here {
+        return stop(present, Error::DataType);
+    }
+    if present.status.is_locked() {
+        return stop(present, Error::SettingsConflict);
+    }
+    present.held = 0;
+    present.stored = true;
+    Done {
+        present,
+        used,
+        obeyed: true,
+    }
+}
+
 // Carries out any other unit that the lock and check 8 let pass: what it does, and check 9. Where check 9 refuses, "the query isn't
 // performed", and what it would have left is forgotten. The string is the unit's parameter, if it has one.
 fn do_deed(present: Present, deed: Deed, string: &[u8], used: usize, out: &mut [u8]) -> Done
     requires { ⌜ (permitted deed (coreIn (present .settings) (present .status)) ≡ passed tt) × Allowed (present .settings) deed × (ordinary deed ≡ true) ⌝ }
     requires { ⌜ (present .answered < mostAnswer) × (length (now out) ≡ mostAnswer) × (present .status .queued ≤ most) × AllowedText deed (textIn (now string)) ⌝ }
-    ensures { λ r. ⌜ ((m : Memory) → CarriedOut deed (textIn (now (string .entry))) used present (now (out .entry)) m r (now (out .exit)) m) ⌝ }
+    ensures { λ r. ⌜ ((m : Around) → CarriedOut deed (textIn (now (string .entry))) used present (now (out .entry)) m r (now (out .exit)) m) ⌝ }
 {
     let mut next = perform::after(present, deed, string);
     let told = reply::answer(present, deed, out);
@@ -122,13 +148,14 @@ fn carry_out(
 ) -> Done
     requires { ⌜ Allowed (present .settings) deed × (present .answered < mostAnswer) × AllowedText deed (textIn (now string)) ⌝ }
     requires { ⌜ (length (now out) ≡ mostAnswer) × (present .status .queued ≤ most) × (length (now store) ≡ storeSize) ⌝ }
-    ensures { λ r. ⌜ CarriedOut deed (textIn (now (string .entry))) used present (now (out .entry)) (memory (now (store .entry))) r (now (out .exit)) (memory (now (store .exit))) ⌝ }
+    ensures { λ r. ⌜ ((w a : Text) → length w ≡ mostBlock → CarriedOut deed (textIn (now (string .entry))) used present (now (out .entry)) (around w (now (store .entry)) a) r (now (out .exit)) (around w (now (store .exit)) a)) ⌝ }
 {
     if !perform::is_permitted(present, deed) {
         return stop(present, Error::SettingsConflict);
     }
     match deed {
         Deed::Saving { saving, place } => return set_up(present, saving, place, used, store),
+        Deed::Block { here } => return take_block(present, here, used),
         _ => return do_deed(present, deed, string, used, out),
     }
 }
@@ -144,7 +171,7 @@ fn run_unit(
 ) -> Done
     requires { ⌜ (now table ≡ commandTable) × Held (now path) (done .used) ⌝ }
     requires { ⌜ (done .present .answered < mostAnswer) × (length (now out) ≡ mostAnswer) × (done .present .status .queued ≤ most) × (length (now store) ≡ storeSize) ⌝ }
-    ensures { λ r. ⌜ ((names : List Text) → Holds names (now (path .entry)) (done .used) → UnitRan done names (now (unit .entry)) (now (out .entry)) (memory (now (store .entry))) r (now (path .exit)) (now (out .exit)) (memory (now (store .exit)))) ⌝ }
+    ensures { λ r. ⌜ ((names : List Text) (w a : Text) → Holds names (now (path .entry)) (done .used) → length w ≡ mostBlock → UnitRan done names (now (unit .entry)) (now (out .entry)) (around w (now (store .entry)) a) r (now (path .exit)) (now (out .exit)) (around w (now (store .exit)) a)) ⌝ }
 {
     let present = done.present;
     let reading = unit::read(table, present.settings, path, done.used, unit);
@@ -171,7 +198,7 @@ fn run_units(
 ) -> Present
     requires { ⌜ (now table ≡ commandTable) × (present .answered ≡ 0) ⌝ }
     requires { ⌜ (length (now out) ≡ mostAnswer) × (present .status .queued ≤ most) × (length (now store) ≡ storeSize) ⌝ }
-    ensures { λ r. ⌜ UnitsRan present (now (line .entry)) (memory (now (store .entry))) r (now (out .exit)) (memory (now (store .exit))) ⌝ }
+    ensures { λ r. ⌜ ((w a : Text) → length w ≡ mostBlock → UnitsRan present (now (line .entry)) (around w (now (store .entry)) a) r (now (out .exit)) (around w (now (store .exit)) a)) ⌝ }
 {
     let mut done = Done {
         present,
@@ -203,7 +230,7 @@ pub(crate) fn run_line(
 ) -> Present
     requires { ⌜ (now table ≡ commandTable) × (present .answered ≡ 0) ⌝ }
     requires { ⌜ (length (now out) ≡ mostAnswer) × (present .status .queued ≤ most) × (length (now store) ≡ storeSize) ⌝ }
-    ensures { λ r. ⌜ LineRan present (now (line .entry)) overlong (memory (now (store .entry))) r (now (out .exit)) (memory (now (store .exit))) ⌝ }
+    ensures { λ r. ⌜ ((w a : Text) → length w ≡ mostBlock → LineRan present (now (line .entry)) overlong (around w (now (store .entry)) a) r (now (out .exit)) (around w (now (store .exit)) a)) ⌝ }
 {
     if overlong {
         return present.raise(Error::InputBufferOverrun);

@@ -201,6 +201,7 @@ pub(crate) fn most(role: Role, asked: bool) -> usize
         Role::Only(_) => 0,
         Role::Saving(_) => !asked as usize,
         Role::Label => !asked as usize,
+        Role::Waveform => !asked as usize,
     }
 }
 

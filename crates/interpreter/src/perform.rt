@@ -85,6 +85,7 @@ fn status_after(status: Status, deed: Deed) -> Status
             Inquiry::NextError => return status.read_oldest(),
         },
         Deed::Saving { .. } => return status,
+        Deed::Block { .. } => return status,
     }
 }
 
@@ -99,5 +100,7 @@ pub(crate) fn after(present: Present, deed: Deed, string: &[u8]) -> Present
         settings,
         status,
         answered: present.answered,
+        held: present.held,
+        stored: present.stored,
     }
 }

@@ -5,12 +5,15 @@ use registers::status::Status;
 ghost use mathlib.Core.Path.{_≡_};
 ghost use Rattle.interpreter.specs.PresentParts.{raisedWith, RefusedWith, Discarded};
 
-// The settings, the status, and how many bytes of the answer's buffer are written. It is small and goes by value; the line and
-// the answer's buffer are lent beside it.
+// The settings, the status, how many bytes of the answer's buffer are written; of the line's block, how many bytes wait for its unit, and
+// whether that took them, so that they belong in the area (02, #110). It is small and goes by value; the line, its block and the answer's
+// buffer are lent beside it.
 pub(crate) struct Present {
     pub(crate) settings: Settings,
     pub(crate) status: Status,
     pub(crate) answered: usize,
+    pub(crate) held: usize,
+    pub(crate) stored: bool,
 }
 
 impl Present {

@@ -1,6 +1,7 @@
-// The box's state, and the five events that can happen to it.
+// The box's state, and the events that can happen to it: 01's five, and END (02, #110).
 use crate::flow;
 use crate::flow::Flow;
+use crate::flow::Intake;
 use crate::present::Present;
 use crate::sizes;
 use registers::error::Error;
@@ -11,7 +12,7 @@ use registers::status::Status;
 ghost use mathlib.Core.Path.{_≡_};
 ghost use mathlib.Core.List.{[]};
 ghost use Rattle.interpreter.specs.Box.{memory};
-ghost use Rattle.interpreter.specs.Events.{received, take, condition, look, result};
+ghost use Rattle.interpreter.specs.Events.{received, take, condition, look, ended, result};
 ghost use Rattle.interpreter.specs.State.{numberOf, Happens, Started};
 ghost use Rattle.interpreter.specs.StateParts.{Tested, flowOf, stateOf};
 
@@ -23,6 +24,12 @@ pub const ANSWER: usize = sizes::ANSWER;
 // The store that every event but power-up is lent (02, #108): ten blocks of 512 bytes. Of another length it is refusal 5.
 pub const STORE: usize = sizes::STORE;
 
+// The area that every event but power-up is lent (02, #110): 8,192 bytes, those of a block. Of another length it is refusal 5.
+pub const AREA: usize = sizes::AREA;
+
+// The bytes of a waveform block (02, #110).
+pub const BLOCK: usize = sizes::BLOCK;
+
 // Everything that the box keeps from one event to the next.
 pub struct State {
     pub settings: Settings,
@@ -30,6 +37,9 @@ pub struct State {
     pub line: [u8; LINE],
     pub filled: usize,
     pub overlong: bool,
+    pub block: [u8; BLOCK],
+    pub held: usize,
+    pub coming: usize,
     pub answer: [u8; ANSWER],
     pub waiting: usize,
 }
@@ -58,7 +68,7 @@ pub struct Taken {
     pub state: State,
 }
 
-// What a report of a condition leaves.
+// What a report of a condition or of END leaves.
 pub struct Reported {
     pub outcome: Outcome,
     pub state: State,
@@ -97,17 +107,28 @@ pub(crate) fn flow_of(state: State) -> Flow
             settings,
             status,
             answered: state.waiting,
+            held: 0,
+            stored: false,
         },
-        filled: state.filled,
-        overlong: state.overlong,
-        read: 0,
-        count: 0,
+        intake: Intake {
+            filled: state.filled,
+            overlong: state.overlong,
+            held: state.held,
+            coming: state.coming,
+            read: 0,
+            count: 0,
+        },
     }
 }
 
 // Puts a state together again from its small part and its arrays.
-pub(crate) fn state_of(flow: Flow, line: [u8; LINE], answer: [u8; ANSWER]) -> State
-    ensures { λ r. ⌜ r ≡ stateOf flow line answer ⌝ }
+pub(crate) fn state_of(
+    flow: Flow,
+    line: [u8; LINE],
+    block: [u8; BLOCK],
+    answer: [u8; ANSWER],
+) -> State
+    ensures { λ r. ⌜ r ≡ stateOf flow line block answer ⌝ }
 {
     let settings = flow.present.settings;
     let status = flow.present.status;
@@ -115,8 +136,11 @@ pub(crate) fn state_of(flow: Flow, line: [u8; LINE], answer: [u8; ANSWER]) -> St
         settings,
         status,
         line,
-        filled: flow.filled,
-        overlong: flow.overlong,
+        filled: flow.intake.filled,
+        overlong: flow.intake.overlong,
+        block,
+        held: flow.intake.held,
+        coming: flow.intake.coming,
         answer,
         waiting: flow.present.answered,
     }
@@ -128,7 +152,7 @@ impl State {
         ensures { λ r. ⌜ Tested self r ⌝ }
     {
         let good = self.settings.possible() & self.status.possible();
-        good & (self.filled <= LINE) & (self.waiting <= ANSWER)
+        good & (self.filled <= LINE) & (self.held <= BLOCK) & (self.waiting <= ANSWER)
     }
 
     // Makes the first state.
@@ -141,16 +165,19 @@ impl State {
             line: [0u8; LINE],
             filled: 0,
             overlong: false,
+            block: [0u8; BLOCK],
+            held: 0,
+            coming: 0,
             answer: [0u8; ANSWER],
             waiting: 0,
         }
     }
 
     // Takes in bytes of any number, also none; the count is that of their newlines.
-    pub fn piece(self, store: &mut [u8], bytes: &[u8]) -> Fed
-        ensures { λ r. ⌜ Happens self (memory (now (store .entry))) (received (now (bytes .entry))) (result (numberOf (r .outcome)) (r .count) []) (r .state) (memory (now (store .exit))) ⌝ }
+    pub fn piece(self, store: &mut [u8], area: &mut [u8], bytes: &[u8]) -> Fed
+        ensures { λ r. ⌜ Happens self (memory (now (store .entry)) (now (area .entry))) (received (now (bytes .entry))) (result (numberOf (r .outcome)) (r .count) []) (r .state) (memory (now (store .exit)) (now (area .exit))) ⌝ }
     {
-        if store.len() != STORE {
+        if (store.len() != STORE) | (area.len() != AREA) {
             return Fed {
                 outcome: Outcome::WrongStore,
                 count: 0,
@@ -165,20 +192,55 @@ impl State {
             };
         }
         let mut line = self.line;
+        let mut block = self.block;
         let mut answer = self.answer;
-        let flow = flow::feed(flow_of(self), &mut line, &mut answer, store, bytes);
+        let flow = flow::feed(
+            flow_of(self),
+            &mut line,
+            &mut block,
+            &mut answer,
+            store,
+            area,
+            bytes,
+        );
         Fed {
             outcome: Outcome::Done,
-            count: flow.count,
-            state: state_of(flow, line, answer),
+            count: flow.intake.count,
+            state: state_of(flow, line, block, answer),
+        }
+    }
+
+    // Takes in END, which the port reports: it ends a line as a newline does, and does nothing on an empty one.
+    pub fn end(self, store: &mut [u8], area: &mut [u8]) -> Reported
+        ensures { λ r. ⌜ Happens self (memory (now (store .entry)) (now (area .entry))) ended (result (numberOf (r .outcome)) 0 []) (r .state) (memory (now (store .exit)) (now (area .exit))) ⌝ }
+    {
+        if (store.len() != STORE) | (area.len() != AREA) {
+            return Reported {
+                outcome: Outcome::WrongStore,
+                state: self,
+            };
+        }
+        if !self.possible() {
+            return Reported {
+                outcome: Outcome::ImpossibleState,
+                state: self,
+            };
+        }
+        let line = self.line;
+        let block = self.block;
+        let mut answer = self.answer;
+        let flow = flow::end(flow_of(self), &line, &block, &mut answer, store, area);
+        Reported {
+            outcome: Outcome::Done,
+            state: state_of(flow, line, block, answer),
         }
     }
 
     // Copies the waiting answer to the start of the buffer; it is then gone.
-    pub fn take(mut self, store: &[u8], buffer: &mut [u8]) -> Taken
-        ensures { λ r. ⌜ Happens self (memory (now (store .entry))) (take (now (buffer .entry))) (result (numberOf (r .outcome)) (r .length) (now (buffer .exit))) (r .state) (memory (now (store .entry))) ⌝ }
+    pub fn take(mut self, store: &[u8], area: &[u8], buffer: &mut [u8]) -> Taken
+        ensures { λ r. ⌜ Happens self (memory (now (store .entry)) (now (area .entry))) (take (now (buffer .entry))) (result (numberOf (r .outcome)) (r .length) (now (buffer .exit))) (r .state) (memory (now (store .entry)) (now (area .entry))) ⌝ }
     {
-        if store.len() != STORE {
+        if (store.len() != STORE) | (area.len() != AREA) {
             return Taken {
                 outcome: Outcome::WrongStore,
                 length: 0,
@@ -219,10 +281,10 @@ impl State {
     }
 
     // Takes in the condition that the box reports for a register set.
-    pub fn condition(mut self, store: &[u8], set: RegisterSet, value: u16) -> Reported
-        ensures { λ r. ⌜ Happens self (memory (now (store .entry))) (condition set value) (result (numberOf (r .outcome)) 0 []) (r .state) (memory (now (store .entry))) ⌝ }
+    pub fn condition(mut self, store: &[u8], area: &[u8], set: RegisterSet, value: u16) -> Reported
+        ensures { λ r. ⌜ Happens self (memory (now (store .entry)) (now (area .entry))) (condition set value) (result (numberOf (r .outcome)) 0 []) (r .state) (memory (now (store .entry)) (now (area .entry))) ⌝ }
     {
-        if store.len() != STORE {
+        if (store.len() != STORE) | (area.len() != AREA) {
             return Reported {
                 outcome: Outcome::WrongStore,
                 state: self,
@@ -248,10 +310,10 @@ impl State {
     }
 
     // Gives the status byte. It changes nothing, so the state is not handed back.
-    pub fn look(self, store: &[u8]) -> Seen
-        ensures { λ r. ⌜ Happens self (memory (now (store .entry))) look (result (numberOf (r .outcome)) (r .byte) []) self (memory (now (store .entry))) ⌝ }
+    pub fn look(self, store: &[u8], area: &[u8]) -> Seen
+        ensures { λ r. ⌜ Happens self (memory (now (store .entry)) (now (area .entry))) look (result (numberOf (r .outcome)) (r .byte) []) self (memory (now (store .entry)) (now (area .entry))) ⌝ }
     {
-        if store.len() != STORE {
+        if (store.len() != STORE) | (area.len() != AREA) {
             return Seen {
                 outcome: Outcome::WrongStore,
                 byte: 0,

@@ -1,4 +1,5 @@
 // Checks 1 to 7 on one unit, a part of the line where it stands.
+use crate::blocks;
 use crate::deed;
 use crate::deed::Heading;
 use crate::deed::NO_CHANNEL;
@@ -93,6 +94,9 @@ fn decide(table: &[u8], settings: Settings, heading: Heading, text: &[u8]) -> De
     if !asked & (counted.parts < most) {
         return Decision::Refused(Error::MissingParameter);
     }
+    if blocks::begins(text) {
+        return blocks::decide(role, text);
+    }
     match role {
         Role::Setting(_) => {
             return parameter::decide_setting(table, settings, heading, text);
@@ -103,6 +107,7 @@ fn decide(table: &[u8], settings: Settings, heading: Heading, text: &[u8]) -> De
         Role::Only(deed) => return Decision::Obey(deed),
         Role::Saving(saving) => return parameter::decide_place(table, saving, asked, text),
         Role::Label => return quoted::decide(asked, text),
+        Role::Waveform => return Decision::Refused(blocks::other_error(text)),
     }
 }
 

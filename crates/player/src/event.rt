@@ -38,8 +38,8 @@ fn power_up(out: &mut [u8]) -> Played {
 }
 
 // Plays a piece, and reports how many newlines it had.
-fn receive(state: State, store: &mut [u8], piece: &[u8], out: &mut [u8]) -> Played {
-    let fed = state.piece(store, piece);
+fn receive(state: State, store: &mut [u8], area: &mut [u8], piece: &[u8], out: &mut [u8]) -> Played {
+    let fed = state.piece(store, area, piece);
     let outcome = fed.outcome;
     let number = report::outcome(out, b'p', outcome);
     let length = report::number(out, number, fed.count as u64);
@@ -51,18 +51,18 @@ fn receive(state: State, store: &mut [u8], piece: &[u8], out: &mut [u8]) -> Play
 }
 
 // Plays the piece that a text of hex digits spells.
-fn receive_hex(state: State, store: &mut [u8], text: &[u8], out: &mut [u8]) -> Played {
+fn receive_hex(state: State, store: &mut [u8], area: &mut [u8], text: &[u8], out: &mut [u8]) -> Played {
     let mut bytes = [0u8; PIECE];
     let n = script::unhex(text, &mut bytes);
     if PIECE < n {
         return unreadable(state);
     }
-    receive(state, store, &bytes[0..n], out)
+    receive(state, store, area, &bytes[0..n], out)
 }
 
 // Plays a take, and reports all of the buffer, so that a byte that was touched shows.
-fn take_into(state: State, store: &[u8], buffer: &mut [u8], out: &mut [u8]) -> Played {
-    let taken = state.take(store, buffer);
+fn take_into(state: State, store: &[u8], area: &[u8], buffer: &mut [u8], out: &mut [u8]) -> Played {
+    let taken = state.take(store, area, buffer);
     let outcome = taken.outcome;
     let number = report::outcome(out, b't', outcome);
     let answer = report::number(out, number, taken.length as u64);
@@ -75,14 +75,14 @@ fn take_into(state: State, store: &[u8], buffer: &mut [u8], out: &mut [u8]) -> P
 }
 
 // Plays a take into a buffer of the length that a text spells.
-fn take(state: State, store: &[u8], text: &[u8], out: &mut [u8]) -> Played {
+fn take(state: State, store: &[u8], area: &[u8], text: &[u8], out: &mut [u8]) -> Played {
     let n = script::decimal(text);
     if (BUFFER as u64) < n {
         return unreadable(state);
     }
     let mut buffer = [UNTOUCHED; BUFFER];
     let end = n as usize;
-    take_into(state, store, &mut buffer[0..end], out)
+    take_into(state, store, area, &mut buffer[0..end], out)
 }
 
 // Gives the letter of the event that reports a set's condition.
@@ -95,12 +95,12 @@ fn letter_of(set: RegisterSet) -> u8 {
 }
 
 // Plays the report of a set's condition, which a text spells.
-fn condition(state: State, store: &[u8], set: RegisterSet, text: &[u8], out: &mut [u8]) -> Played {
+fn condition(state: State, store: &[u8], area: &[u8], set: RegisterSet, text: &[u8], out: &mut [u8]) -> Played {
     let value = script::decimal(text);
     if script::WIDEST < value {
         return unreadable(state);
     }
-    let reported = state.condition(store, set, value as u16);
+    let reported = state.condition(store, area, set, value as u16);
     let outcome = reported.outcome;
     let length = report::outcome(out, letter_of(set), outcome);
     let after = reported.state;
@@ -110,9 +110,21 @@ fn condition(state: State, store: &[u8], set: RegisterSet, text: &[u8], out: &mu
     }
 }
 
+// Plays END, which the port reports.
+fn end(state: State, store: &mut [u8], area: &mut [u8], out: &mut [u8]) -> Played {
+    let ended = state.end(store, area);
+    let outcome = ended.outcome;
+    let length = report::outcome(out, b'e', outcome);
+    let after = ended.state;
+    Played {
+        state: after,
+        length,
+    }
+}
+
 // Plays a look, and reports the status byte.
-fn look(state: State, store: &[u8], out: &mut [u8]) -> Played {
-    let seen = state.look(store);
+fn look(state: State, store: &[u8], area: &[u8], out: &mut [u8]) -> Played {
+    let seen = state.look(store, area);
     let outcome = seen.outcome;
     let number = report::outcome(out, b'l', outcome);
     let length = report::number(out, number, seen.byte as u64);
@@ -199,41 +211,42 @@ fn overwrite(state: State, text: &[u8], out: &mut [u8]) -> Played {
 }
 
 // Plays a line of one letter; `p` alone is an empty piece.
-fn play_letter(state: State, store: &mut [u8], letter: u8, out: &mut [u8]) -> Played {
+fn play_letter(state: State, store: &mut [u8], area: &mut [u8], letter: u8, out: &mut [u8]) -> Played {
     match letter {
         b'u' => power_up(out),
-        b'p' => receive_hex(state, store, &[], out),
-        b'l' => look(state, store, out),
+        b'p' => receive_hex(state, store, area, &[], out),
+        b'l' => look(state, store, area, out),
+        b'e' => end(state, store, area, out),
         b's' => show(state, out),
         _ => unreadable(state),
     }
 }
 
 // Plays a letter that a text follows.
-fn play_text(state: State, store: &mut [u8], letter: u8, text: &[u8], out: &mut [u8]) -> Played {
+fn play_text(state: State, store: &mut [u8], area: &mut [u8], letter: u8, text: &[u8], out: &mut [u8]) -> Played {
     match letter {
-        b'p' => receive_hex(state, store, text, out),
-        b't' => take(state, store, text, out),
-        b'c' => condition(state, store, RegisterSet::Operation, text, out),
-        b'k' => condition(state, store, RegisterSet::Lock, text, out),
-        b'w' => condition(state, store, RegisterSet::Warning, text, out),
+        b'p' => receive_hex(state, store, area, text, out),
+        b't' => take(state, store, area, text, out),
+        b'c' => condition(state, store, area, RegisterSet::Operation, text, out),
+        b'k' => condition(state, store, area, RegisterSet::Lock, text, out),
+        b'w' => condition(state, store, area, RegisterSet::Warning, text, out),
         b'x' => overwrite(state, text, out),
         _ => unreadable(state),
     }
 }
 
 // Plays the event that a line names by its letter; a blank parts the letter from what follows.
-pub(crate) fn play(state: State, store: &mut [u8], text: &[u8], out: &mut [u8]) -> Played {
+pub(crate) fn play(state: State, store: &mut [u8], area: &mut [u8], text: &[u8], out: &mut [u8]) -> Played {
     if text.len() == 0 {
         return unreadable(state);
     }
     let letter = text[0];
     if text.len() == 1 {
-        return play_letter(state, store, letter, out);
+        return play_letter(state, store, area, letter, out);
     }
     let blank = text[1];
     if blank != b' ' {
         return unreadable(state);
     }
-    play_text(state, store, letter, &text[2..], out)
+    play_text(state, store, area, letter, &text[2..], out)
 }

@@ -37,6 +37,7 @@ mod field;
 mod report;
 mod script;
 
+use interpreter::state::AREA;
 use interpreter::state::STORE;
 use interpreter::state::State;
 
@@ -69,7 +70,7 @@ fn write_front(out: &[u8], length: usize) -> bool {
 
 // Plays the event of the line that is held. One that was too long can't be read, like one without a
 // letter; the second test only tells the prover that the line has so many bytes.
-fn play_line(player: Player, store: &mut [u8], line: &[u8], out: &mut [u8]) -> event::Played {
+fn play_line(player: Player, store: &mut [u8], area: &mut [u8], line: &[u8], out: &mut [u8]) -> event::Played {
     if player.overlong {
         return event::unreadable(player.state);
     }
@@ -77,13 +78,13 @@ fn play_line(player: Player, store: &mut [u8], line: &[u8], out: &mut [u8]) -> e
     if line.len() < end {
         return event::unreadable(player.state);
     }
-    event::play(player.state, store, &line[0..end], out)
+    event::play(player.state, store, area, &line[0..end], out)
 }
 
 // Plays and answers the line that has ended, and makes room for the next.
-fn end_line(player: Player, store: &mut [u8], line: &[u8], out: &mut [u8]) -> Player {
+fn end_line(player: Player, store: &mut [u8], area: &mut [u8], line: &[u8], out: &mut [u8]) -> Player {
     let lines = next(player.lines);
-    let played = play_line(player, store, line, out);
+    let played = play_line(player, store, area, line, out);
     let length = report::ended(out, played.length, lines);
     let written = write_front(out, length);
     let after = played.state;
@@ -100,6 +101,7 @@ fn end_line(player: Player, store: &mut [u8], line: &[u8], out: &mut [u8]) -> Pl
 fn play_bytes(
     start: Player,
     store: &mut [u8],
+    area: &mut [u8],
     line: &mut [u8],
     out: &mut [u8],
     bytes: &[u8],
@@ -110,7 +112,7 @@ fn play_bytes(
         let b = bytes[i];
         i += 1;
         if b == b'\n' {
-            player = end_line(player, store, line, out);
+            player = end_line(player, store, area, line, out);
             continue;
         }
         let at = player.filled;
@@ -129,6 +131,7 @@ fn play_bytes(
 fn play_some(
     mut player: Player,
     store: &mut [u8],
+    area: &mut [u8],
     chunk: &mut [u8],
     line: &mut [u8],
     out: &mut [u8],
@@ -139,7 +142,7 @@ fn play_some(
         player.open = false;
         return player;
     }
-    play_bytes(player, store, line, out, &chunk[0..n])
+    play_bytes(player, store, area, line, out, &chunk[0..n])
 }
 
 // Plays until the player is closed. A proved loop has to end, so it counts its turns down, from a
@@ -147,6 +150,7 @@ fn play_some(
 fn play_all(
     start: Player,
     store: &mut [u8],
+    area: &mut [u8],
     chunk: &mut [u8],
     line: &mut [u8],
     out: &mut [u8],
@@ -155,7 +159,7 @@ fn play_all(
     let mut turns = u64::MAX;
     while turns > 0 {
         turns -= 1;
-        player = play_some(player, store, chunk, line, out);
+        player = play_some(player, store, area, chunk, line, out);
         let open = player.open;
         if !open {
             return player;
@@ -167,6 +171,8 @@ fn play_all(
 fn main() {
     // the saved setups: they outlive a power-up
     let mut store = [0u8; STORE];
+    // the waveform, which outlives it too
+    let mut area = [0u8; AREA];
     let mut chunk = io::large_buffer();
     let mut line = [0u8; ROOM];
     let mut out = [0u8; ROOM];
@@ -178,9 +184,9 @@ fn main() {
         lines: 0,
         open: true,
     };
-    let last = play_all(start, &mut store, &mut chunk, &mut line, &mut out);
+    let last = play_all(start, &mut store, &mut area, &mut chunk, &mut line, &mut out);
     // the last line lacks its newline
     if last.filled != 0 {
-        end_line(last, &mut store, &line, &mut out);
+        end_line(last, &mut store, &mut area, &line, &mut out);
     }
 }

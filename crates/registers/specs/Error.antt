@@ -8,9 +8,9 @@ use lib.Dec.{ltb, eqb}
 use Rattle.registers.specs.Text.{Text, if_then_else_, bytes}
 use Rattle.registers.specs.Answer.{decimal}
 use Rattle.registers.specs.declared.error.Error.{Error}
-use Rattle.registers.specs.declared.error.Error.the-variants.{InvalidCharacter, Syntax, DataType, ParameterNotAllowed, MissingParameter, UndefinedHeader, HeaderSuffix, InvalidCharacterInNumber, ExponentTooLarge, TooManyDigits, InvalidSuffix, SuffixNotAllowed, InvalidCharacterData, StringDataError, InvalidStringData, SettingsConflict, DataOutOfRange, TooMuchData, SaveRecallMemoryLost, InputBufferOverrun, QueryInterrupted, QueryUnterminated, QueryDeadlocked}
+use Rattle.registers.specs.declared.error.Error.the-variants.{InvalidCharacter, Syntax, DataType, ParameterNotAllowed, MissingParameter, UndefinedHeader, HeaderSuffix, InvalidCharacterInNumber, ExponentTooLarge, TooManyDigits, InvalidSuffix, SuffixNotAllowed, InvalidCharacterData, StringDataError, InvalidStringData, InvalidBlockData, SettingsConflict, DataOutOfRange, TooMuchData, SaveRecallMemoryLost, InputBufferOverrun, QueryInterrupted, QueryUnterminated, QueryDeadlocked}
 
--- the number of each error that can be raised: 01's, and of 02 -131 (#101), -114 (#111), -150, -151 and -223 (#109), and -314 (#108)
+-- the number of each error that can be raised: 01's, and of 02 -131 (#101), -114 (#111), -150, -151 and -223 (#109), -161 (#110), and -314 (#108)
 abbrev pub numberOf : Error → ℕ
 numberOf InvalidCharacter = 101
 numberOf Syntax = 102
@@ -27,6 +27,7 @@ numberOf SuffixNotAllowed = 138
 numberOf InvalidCharacterData = 141
 numberOf StringDataError = 150
 numberOf InvalidStringData = 151
+numberOf InvalidBlockData = 161
 numberOf SettingsConflict = 221
 numberOf DataOutOfRange = 222
 numberOf TooMuchData = 223
@@ -63,6 +64,7 @@ messages =
     ∷ (141, "Invalid character data")
     ∷ (150, "String data error")
     ∷ (151, "Invalid string data")
+    ∷ (161, "Invalid block data")
     ∷ (221, "Settings conflict")
     ∷ (222, "Data out of range")
     ∷ (223, "Too much data")

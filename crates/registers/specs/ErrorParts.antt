@@ -17,7 +17,7 @@ abbrev pub messageSize : ℕ
 messageSize = 33
 
 abbrev pub messageCount : ℕ
-messageCount = 25
+messageCount = 26
 
 -- a row: a number's high and low byte, the length of what stands after the number in an answer, that itself, and zeros
 unfoldable pub messageRow : ℕ × String → Text

@@ -25,6 +25,7 @@ pub enum Error {
     InvalidCharacterData,
     StringDataError,
     InvalidStringData,
+    InvalidBlockData,
     SettingsConflict,
     DataOutOfRange,
     TooMuchData,
@@ -56,6 +57,7 @@ impl Error {
             Error::InvalidCharacterData => 141,
             Error::StringDataError => 150,
             Error::InvalidStringData => 151,
+            Error::InvalidBlockData => 161,
             Error::SettingsConflict => 221,
             Error::DataOutOfRange => 222,
             Error::TooMuchData => 223,
@@ -87,7 +89,7 @@ pub(crate) fn event_bit(number: u16) -> u16
 // in an answer, and zeros. The last row is for every number that has no text.
 
 // How many messages there are, and how many bytes the row of one has.
-const MESSAGES: usize = 25;
+const MESSAGES: usize = 26;
 
 const MESSAGE_SIZE: usize = 33;
 
@@ -139,6 +141,7 @@ pub fn write_error(number: u16, tail: &mut [u8]) -> usize
         \x00\x8d\x19,\"Invalid character data\"\0\0\0\0\0\
         \x00\x96\x14,\"String data error\"\0\0\0\0\0\0\0\0\0\0\
         \x00\x97\x16,\"Invalid string data\"\0\0\0\0\0\0\0\0\
+        \x00\xa1\x15,\"Invalid block data\"\0\0\0\0\0\0\0\0\0\
         \x00\xdd\x14,\"Settings conflict\"\0\0\0\0\0\0\0\0\0\0\
         \x00\xde\x14,\"Data out of range\"\0\0\0\0\0\0\0\0\0\0\
         \x00\xdf\x10,\"Too much data\"\0\0\0\0\0\0\0\0\0\0\0\0\0\0\

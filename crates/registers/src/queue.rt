@@ -12,7 +12,7 @@ pub(crate) const MOST: usize = 16;
 pub(crate) const LAST: usize = MOST - 1;
 
 // The numbers that 01 and 02 put into the queue.
-const QUEUEABLE: [u16; 24] = [
+const QUEUEABLE: [u16; 25] = [
     101,
     102,
     104,
@@ -28,6 +28,7 @@ const QUEUEABLE: [u16; 24] = [
     141,
     150,
     151,
+    161,
     221,
     222,
     223,

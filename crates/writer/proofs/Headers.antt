@@ -16,6 +16,7 @@ use Rattle.registers.proofs.Tests.{below-at}
 use Rattle.interpreter.specs.Cuts.{cutAt}
 use Rattle.interpreter.specs.Header.{Header, here, name, placed, header, numbered, nodeMatches, suffixIn, spells, bodyOf, byFirst}
 use Rattle.interpreter.specs.Rows.{settingRows, otherRows, rows, fitsRow, findRow, secondOf, onChannel, findRole}
+use Rattle.interpreter.specs.FlowParts.{ordinary}
 use Rattle.interpreter.specs.Demand2.{tabled, display, Spelling}
 use Rattle.interpreter.specs.declared.deed.Role.{Role}
 use Rattle.interpreter.specs.declared.deed.Role.the-variants.{Setting}
@@ -89,3 +90,10 @@ all-inside = refl
 
 pub header-inside : (i : ℕ) → i < count → every inside (headerFor i) ≡ true
 header-inside i h = below-at count (λ i. every inside (headerFor i)) all-inside i h
+
+all-ordinary : below count (λ i. every ordinary (headerFor i)) ≡ true
+unfolding if_then_else_ bytes same small shortForm table slots settingAt numbered shortNames joinedNames headerFor
+all-ordinary = refl
+
+pub header-ordinary : (i : ℕ) → i < count → every ordinary (headerFor i) ≡ true
+header-ordinary i h = below-at count (λ i. every ordinary (headerFor i)) all-ordinary i h

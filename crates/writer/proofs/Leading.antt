@@ -21,7 +21,7 @@ use Rattle.registers.proofs.settings.Possible.{Good, good-from, text-from, unde
 use Rattle.registers.specs.Label.{mostText, mayStand, padded, possibleText}
 use Rattle.registers.proofs.label.Record.{HeldRight, held-right}
 use Rattle.interpreter.proofs.Lists.{same-eq}
-use Rattle.interpreter.specs.Box.{Core, Box, box, withSettings, withLine, withAnswer}
+use Rattle.interpreter.specs.Box.{Line, noLine, Core, Box, box, withSettings, withLine, withAnswer}
 use Rattle.interpreter.specs.Line.{interrupted, piece}
 use Rattle.interpreter.specs.Events.{Event, received, Result, result, happens, after}
 use Rattle.interpreter.specs.State.{boxOf}
@@ -65,16 +65,16 @@ unfolding interrupted
 discard-trouble b = if₂ (λ (x : Box) (t : Trouble). x .trouble ≡ t) (empty (b .core .answer)) refl refl
 
 line-leads : (i : ℕ) → i < count → (v : ℤ) (c : Core) (t : Trouble) → locked (c .registers) ≡ false → within (c .settings) i v ≡ true → conflict (c .settings) i v ≡ false
-    → piece (box (withLine [] false c) t) (lineFor i v) ≡ box (withSettings (withValue i v (c .settings)) (withAnswer [] (withLine [] false c))) (leftOf (c .answer) t)
+    → piece (box (withLine noLine c) t) (lineFor i v) ≡ box (withSettings (withValue i v (c .settings)) (withAnswer [] (withLine noLine c))) (leftOf (c .answer) t)
 line-leads i h v c t free w clear =
     line-runs i h v c t free w clear
-    ∙ ap (λ (u : Trouble). box (withSettings (withValue i v (c .settings)) (withAnswer [] (withLine [] false c))) u) (discard-trouble (box (withLine [] false c) t))
+    ∙ ap (λ (u : Trouble). box (withSettings (withValue i v (c .settings)) (withAnswer [] (withLine noLine c))) u) (discard-trouble (box (withLine noLine c) t))
 
 label-leads : (x : Text) → every mayStand x ≡ true → length x ≤ mostText → (c : Core) (t : Trouble) → locked (c .registers) ≡ false
-    → piece (box (withLine [] false c) t) (labelFor x) ≡ box (withSettings (withText x (c .settings)) (withAnswer [] (withLine [] false c))) (leftOf (c .answer) t)
+    → piece (box (withLine noLine c) t) (labelFor x) ≡ box (withSettings (withText x (c .settings)) (withAnswer [] (withLine noLine c))) (leftOf (c .answer) t)
 label-leads x accepted few c t free =
     label-runs x accepted few c t free
-    ∙ ap (λ (u : Trouble). box (withSettings (withText x (c .settings)) (withAnswer [] (withLine [] false c))) u) (discard-trouble (box (withLine [] false c) t))
+    ∙ ap (λ (u : Trouble). box (withSettings (withText x (c .settings)) (withAnswer [] (withLine noLine c))) u) (discard-trouble (box (withLine noLine c) t))
 
 still-some : (s t : Text) → empty s ≡ false → empty (s ++ t) ≡ false
 still-some [] t e = absurd (false≢true (sym e))
@@ -301,10 +301,10 @@ module _ (p w : Settings) (channel : ℕ) (lp : Whole p) (good : Good w) where
 
   module _ (c : Core) (t : Trouble) (free : locked (c .registers) ≡ false) where
     abbrev start : Box
-    start = box (withLine [] false (withSettings p c)) t
+    start = box (withLine noLine (withSettings p c)) t
 
     abbrev clean : Core
-    clean = withAnswer [] (withLine [] false c)
+    clean = withAnswer [] (withLine noLine c)
 
     -- after the first n rows no line was written, or one was and the box has those rows' values
     data Reached (n : ℕ) : Type 0 where
@@ -390,7 +390,7 @@ module _ (p w : Settings) (channel : ℕ) (lp : Whole p) (good : Good w) where
                 (moved-text p w channel wideNow tableCount ∙ same-eq (p .text) (w .text) q)
 
             by : Reached tableCount → Led start
-            by (none e m) = rw (is, e) (ap (λ (s : Settings). box (withLine [] false (withSettings s c)) t) (sym m ∙ there))
+            by (none e m) = rw (is, e) (ap (λ (s : Settings). box (withLine noLine (withSettings s c)) t) (sym m ∙ there))
             by (some f g) = led-some rows is f (g ∙ ap (λ (s : Settings). box (withSettings s clean) (leftOf (c .answer) t)) there)
         go false q r = by r
           where
@@ -425,10 +425,8 @@ writable-text p w channel e =
 leads : Leads
 leads p w channel lp lw ok b ready =
     let c = b .core in
-    let rebuilt : Settings → Text → Bool → Box = λ s l o. box (withLine l o (withSettings s c)) (b .trouble) in
-    let is : b ≡ rebuilt p [] false =
-    ap (λ (s : Settings). rebuilt s (c .line) (c .overlong)) (ready .present) ∙ ap (λ (l : Text). rebuilt p l (c .overlong)) (ready .fresh .0)
-    ∙ ap (λ (o : Bool). rebuilt p [] o) (ready .fresh .1) in
+    let rebuilt : Settings → Line → Box = λ s l. box (withLine l (withSettings s c)) (b .trouble) in
+    let is : b ≡ rebuilt p noLine = ap (λ (s : Settings). rebuilt s (c .line)) (ready .present) ∙ ap (rebuilt p) (ready .fresh) in
     subst (λ (x : Box). let d = discarded (linesFor p w channel) x in piece x (linesFor p w channel) ≡ box (withSettings (aimed p w channel) (d .core)) (d .trouble)) (sym is)
     (start-led p w channel lp (writable-good p w channel ok) c (b .trouble) (ready .free) (writable-text p w channel ok) (lw .text))
 

@@ -3,13 +3,14 @@
 use mathlib.Core.Path.{_≡_, refl, sym, _∙_, ap}
 use mathlib.Core.Bool.{Bool, true, false, not, _&&_, and-false, false≢true}
 use mathlib.Core.List.{List, [], _∷_, _++_, append-assoc, append-nil}
-use Prim.Native.Nat.{ℕ, _+_, _≤_, _<_}
+use Prim.Native.Nat.{ℕ, _+_, _-_, _≤_, _<_, zero-le}
 use Prim.Native.Char.{code}
 use native.Mathlib.Omega.{arith}
 use lib.Dec.{leb, ltb, eqb}
-use lib.ListN.{length, length-append}
+use lib.ListN.{length, take, length-append}
+use lib.Seq.{take-all}
 use lib.IntN.{ℤ}
-use borrow.Author.Tests.{leb-true, lt-ltb, not-true, ne-eqb}
+use borrow.Author.Tests.{leb-true, le-ltb, not-true, ne-eqb}
 use Rattle.registers.specs.Text.{Text, if_then_else_, bytes, white, printable, every, empty}
 use Rattle.registers.specs.Check.{passed, check, _>>=_, _>>_}
 use Rattle.registers.specs.Settings.{count, kindOf, valueAt, withValue, withText, within, conflict, answerOf}
@@ -18,36 +19,46 @@ use Rattle.registers.specs.declared.rounding.Side.the-variants.{On}
 use Rattle.registers.specs.declared.settings.Settings.{Settings}
 use Rattle.registers.proofs.Tests.{and-both, every-append}
 use Rattle.interpreter.specs.Header.{here, pathAfter}
-use Rattle.interpreter.specs.Box.{Core, Box, box, withSettings, withLine, withAnswer, mostLine}
+use Rattle.interpreter.specs.Box.{Line, lineIs, noLine, Core, Box, box, withSettings, withLine, withAnswer, mostLine}
+use Rattle.interpreter.specs.Blocks.{openings}
+use Rattle.interpreter.specs.FlowParts.{ordinary}
 use Rattle.interpreter.specs.Unit.{readUnit}
 use Rattle.interpreter.specs.Demand2.{tabled, display}
 use Rattle.interpreter.proofs.demands.trip.ShownText.{quoted-means, label-sets}
 use Rattle.registers.specs.Label.{mostText, mayStand, textIn, quotedText}
 use Rattle.interpreter.specs.Parameter.{deedOf}
 use Rattle.interpreter.specs.Perform.{blocked, permitted, changed, perform}
-use Rattle.interpreter.specs.Line.{attempt, runUnits, interrupted, finished, runLine, endLine, held, byte, piece}
+use Rattle.interpreter.specs.Line.{attempt, runUnits, interrupted, finished, runLine, endLine, byte, piece, newlines}
 use Rattle.interpreter.specs.declared.deed.Deed.the-variants.{Change}
 use Rattle.interpreter.specs.declared.deed.Change.the-variants.{Put, Label}
 use Rattle.interpreter.proofs.Choices.{if-elim}
 use Rattle.interpreter.proofs.Lists.{is-empty}
+use Rattle.interpreter.proofs.blocks.Marks.{shut-run}
+use Rattle.interpreter.proofs.blocks.Runs.{piece-held}
+use Rattle.interpreter.proofs.blocks.Quoted.{quoted-shut}
 use Rattle.interpreter.proofs.demands.Demand2.{demand2}
 use Rattle.interpreter.proofs.demands.trip.ReadBack.{plainByte, plainText, answer-sets, answer-plain}
 use Rattle.interpreter.proofs.demands.trip.SentUnit as sent
 use Rattle.writer.specs.Lines.{headerFor, lineFor, labelHeader, labelFor}
-use Rattle.writer.proofs.Headers.{spelling-for, label-spelling, mostHeader, header-short, inside, header-inside}
+use Rattle.writer.proofs.Headers.{spelling-for, label-spelling, mostHeader, header-short, inside, header-inside, header-ordinary}
 
 -- ---- the bytes of a line
 
--- bytes that have room in the line are held
-held-whole : (c : Core) (t : Trouble) (o : Bool) (text l : Text) → every inside text ≡ true → length l + length text ≤ mostLine
-    → piece (box (withLine l o c) t) text ≡ box (withLine (l ++ text) o c) t
-unfolding piece byte held if_then_else_
-held-whole c t o [] l h room = ap (λ (x : Text). box (withLine x o c) t) (sym (append-nil l))
-held-whole c t o (x ∷ text) l h room =
-    let p = and-both (inside x) (every inside text) h in
-    let fits : length (l ++ x ∷ []) + length text ≤ mostLine = rw length-append (omega arith) in
-    rw (not-true (eqb x 10) (p .0), lt-ltb (length l) mostLine (omega arith))
-    (held-whole c t o text (l ++ x ∷ []) (p .1) fits ∙ ap (λ (y : Text). box (withLine y o c) t) (append-assoc l (x ∷ []) text))
+-- bytes that have room in the line and open no block are held
+inside-none : (t : Text) → every inside t ≡ true → newlines t ≡ 0
+unfolding newlines if_then_else_
+inside-none [] h = refl
+inside-none (x ∷ t) h = let p = and-both (inside x) (every inside t) h in rw (not-true (eqb x 10) (p .0)) (inside-none t (p .1))
+
+abbrev textLine : Text → Line
+textLine t = lineIs t false [] 0
+
+held-whole : (c : Core) (t : Trouble) (text : Text) → every inside text ≡ true → openings [] text ≡ 0 → length text ≤ mostLine
+    → piece (box (withLine noLine c) t) text ≡ box (withLine (textLine text) c) t
+held-whole c t text h shut room =
+    let fits : take (mostLine - 0) text ≡ text = take-all (mostLine - 0) text (omega arith) in
+    let few : ltb (mostLine - 0) (length text) ≡ false = le-ltb (mostLine - 0) (length text) (omega arith) in
+    piece-held text noLine (box c t) refl (inside-none text h) shut zero-le ∙ rw (fits, few)
 
 plain-inside : (x : ℕ) → plainByte x ≡ true → inside x ≡ true
 unfolding printable
@@ -59,6 +70,19 @@ plain-inside x e =
 every-inside : (t : Text) → every plainByte t ≡ true → every inside t ≡ true
 every-inside [] h = refl
 every-inside (x ∷ t) h = let p = and-both (plainByte x) (every plainByte t) h in rw (plain-inside x (p .0)) (every-inside t (p .1))
+
+plain-ordinary : (x : ℕ) → plainByte x ≡ true → ordinary x ≡ true
+unfolding printable
+plain-ordinary x e =
+    let p = and-both (printable x) _ e in
+    let h = leb-true 33 x (and-both (leb 33 x) (leb x 126) (p .0) .0) in
+    let q = and-both (not (eqb x (code ","))) _ (p .1) in
+    let r = and-both (not (eqb x (code ";"))) _ (q .1) in
+    rw (ne-eqb x 10 (λ z. omega arith)) (r .1)
+
+every-ordinary : (t : Text) → every plainByte t ≡ true → every ordinary t ≡ true
+every-ordinary [] h = refl
+every-ordinary (x ∷ t) h = let p = and-both (plainByte x) (every plainByte t) h in rw (plain-ordinary x (p .0)) (every-ordinary t (p .1))
 
 -- the core once a waiting answer is discarded
 pub discard-core : (b : Box) → interrupted b .core ≡ withAnswer [] (b .core)
@@ -119,6 +143,11 @@ module _ (i : ℕ) (h : i < count) (v : ℤ) (c : Core) (t : Trouble) (free : lo
       every-append inside (headerFor i) (code " " ∷ value ++ []) (header-inside i h)
       (every-append inside value [] (every-inside value (value-bytes .0)) refl)
 
+  text-ordinary : every ordinary text ≡ true
+  text-ordinary =
+      every-append ordinary (headerFor i) (code " " ∷ value ++ []) (header-ordinary i h)
+      (every-append ordinary value [] (every-ordinary value (value-bytes .0)) refl)
+
   short : length text ≤ mostLine
   short =
       let a = header-short i h in
@@ -131,24 +160,24 @@ module _ (i : ℕ) (h : i < count) (v : ℤ) (c : Core) (t : Trouble) (free : lo
 
   -- the box that waits for the line's newline, and the one in which its unit runs
   abbrev start : Box
-  start = box (withLine [] false c) t
+  start = box (withLine noLine c) t
 
   abbrev discarding : Trouble
   discarding = interrupted start .trouble
 
   abbrev clean : Core
-  clean = withAnswer [] (withLine [] false c)
+  clean = withAnswer [] (withLine noLine c)
 
-  held-is : piece start text ≡ box (withLine text false c) t
-  held-is = held-whole c t false text [] text-inside (let s = short in omega arith)
+  held-is : piece start text ≡ box (withLine (textLine text) c) t
+  held-is = held-whole c t text text-inside (shut-run text [] refl text-ordinary) short
 
-  newline-is : endLine (box (withLine text false c) t) ≡ box (withSettings (withValue i v (c .settings)) clean) discarding
+  newline-is : endLine (box (withLine (textLine text) c) t) ≡ box (withSettings (withValue i v (c .settings)) clean) discarding
   unfolding endLine runLine if_then_else_ deedOf
   newline-is =
       let n : interrupted start ≡ box clean discarding = ap (λ (x : Core). box x discarding) (discard-core start) in
       let r = sent.reads-line (tabled i) [] (headerFor i) (code " " ∷ []) value [] parts (c .settings) (Change (Put i v On)) (answer-sets (c .settings) i h v w) in
       rw (n, sent.alone (tabled i) [] (headerFor i) (code " " ∷ []) value [] parts, put-value i v clean discarding text _ _ r free clear)
-      (none-finished (withSettings (withValue i v (c .settings)) (withLine [] false c)) discarding)
+      (none-finished (withSettings (withValue i v (c .settings)) (withLine noLine c)) discarding)
 
   pub line-runs : piece start (lineFor i v) ≡ box (withSettings (withValue i v (c .settings)) clean) discarding
   unfolding piece byte if_then_else_
@@ -180,6 +209,11 @@ module _ (x : Text) (accepted : every mayStand x ≡ true) (few : length x ≤ m
   unfolding bytes
   label-inside = every-append inside (x ++ 34 ∷ []) [] (every-append inside x (34 ∷ []) (stands-inside x accepted) refl) refl
 
+  -- the quote is open from its first byte on, and the last one completes no mark
+  label-shut : openings [] labelText ≡ 0
+  unfolding bytes
+  label-shut = quoted-shut (labelHeader ++ code " " ∷ []) x refl refl accepted
+
   label-short : length labelText ≤ mostLine
   unfolding bytes
   label-short = simp (length-append) (omega arith)
@@ -189,13 +223,13 @@ module _ (x : Text) (accepted : every mayStand x ≡ true) (few : length x ≤ m
   label-is = sym (append-assoc labelHeader (code " " ∷ quoted ++ []) (10 ∷ []) ∙ ap (λ (y : Text). labelHeader ++ code " " ∷ y) (append-assoc quoted [] (10 ∷ [])))
 
   abbrev labelStart : Box
-  labelStart = box (withLine [] false c) t
+  labelStart = box (withLine noLine c) t
 
   abbrev labelClean : Core
-  labelClean = withAnswer [] (withLine [] false c)
+  labelClean = withAnswer [] (withLine noLine c)
 
-  label-held : piece labelStart labelText ≡ box (withLine labelText false c) t
-  label-held = held-whole c t false labelText [] label-inside (let s = label-short in omega arith)
+  label-held : piece labelStart labelText ≡ box (withLine (textLine labelText) c) t
+  label-held = held-whole c t labelText label-inside label-shut label-short
 
   abbrev labelled : Text → Box
   labelled y = box (withSettings (withText y (c .settings)) labelClean) (interrupted labelStart .trouble)
@@ -205,13 +239,13 @@ module _ (x : Text) (accepted : every mayStand x ≡ true) (few : length x ≤ m
   unfolding runUnits attempt permitted perform changed _>>=_ _>>_ check
   label-puts path e = rw (e, free)
 
-  label-newline : endLine (box (withLine labelText false c) t) ≡ labelled x
+  label-newline : endLine (box (withLine (textLine labelText) c) t) ≡ labelled x
   unfolding endLine runLine if_then_else_ deedOf
   label-newline =
       let n : interrupted labelStart ≡ box labelClean (interrupted labelStart .trouble) = ap (λ (d : Core). box d (interrupted labelStart .trouble)) (discard-core labelStart) in
       let r = sent.reads-line display [] labelHeader (code " " ∷ []) quoted [] label-parts (c .settings) (Change Label) (label-sets x accepted few) in
       rw (n, sent.alone display [] labelHeader (code " " ∷ []) quoted [] label-parts, label-puts _ r, quoted-means x accepted)
-      (none-finished (withSettings (withText x (c .settings)) (withLine [] false c)) (interrupted labelStart .trouble))
+      (none-finished (withSettings (withText x (c .settings)) (withLine noLine c)) (interrupted labelStart .trouble))
 
   pub label-runs : piece labelStart (labelFor x) ≡ labelled x
   unfolding piece byte if_then_else_

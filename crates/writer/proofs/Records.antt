@@ -11,14 +11,14 @@ use lib.ListN.{length, length-append}
 use borrow.Author.Tests.{eqb-true, eqb-false, ne-eqb}
 use Rattle.registers.specs.Text.{Text, if_then_else_, empty, first, rest, same}
 use Rattle.interpreter.specs.Cuts.{front}
-use Rattle.interpreter.specs.Box.{Core, Box, box, withLine}
-use Rattle.interpreter.specs.Line.{finished, runLine, endLine, byte, piece}
+use Rattle.interpreter.specs.Box.{Memory, Core, Box, noLine, holding, powerUp, blank}
+use Rattle.interpreter.specs.Line.{finished, runLine, endLine, endsLine, byte, piece}
 use Rattle.interpreter.specs.Events.{received, happens}
-use Rattle.interpreter.specs.Server.{linesOf, heardLine}
+use Rattle.interpreter.specs.Server.{heardLine}
 use Rattle.interpreter.proofs.Choices.{if-elim}
 use Rattle.interpreter.proofs.Lists.{same-eq, same-refl, is-empty}
 use Rattle.interpreter.proofs.demands.Demand2.{demand2}
-use Rattle.writer.specs.Session.{atPowerUp, Marking, Verdict, agree, differs, broken, Stepped, goes, stops, lineSent, answerRead, lineRead, bare, nextLine, marked, verdictOn, asRecorded, answerTo, recordOf, NoAnswer, RightBehind, heardLines, Astray, AgreeingIsRight, DifferingIsAstray, BrokenAt, BrokenIsBroken, MarksRight}
+use Rattle.writer.specs.Session.{atPowerUp, Marking, Verdict, agree, differs, broken, Stepped, goes, stops, lineSent, answerRead, lineRead, bare, nextLine, linesIn, marked, verdictOn, asRecorded, answerTo, recordOf, NoAnswer, RightBehind, heardLines, Astray, AgreeingIsRight, DifferingIsAstray, BrokenAt, BrokenIsBroken, MarksRight}
 use Rattle.writer.proofs.OneLine.{discard-core}
 
 -- ---- texts
@@ -125,7 +125,7 @@ agrees-right (l ∷ ls) k n m e =
 agreeing : AgreeingIsRight
 unfolding if_then_else_
 agreeing session n e =
-    let r = agrees-right (linesOf session) (record { box = atPowerUp; sent = 0; answer = [] }) 0 n e in
+    let r = agrees-right (linesIn session) (record { box = atPowerUp; sent = 0; answer = [] }) 0 n e in
     let g = r .long in
     (omega arith, (r .sent, r .is))
 
@@ -146,13 +146,24 @@ finished-ended b =
 line-ended : (b : Box) → Ended (endLine b .core .answer)
 unfolding endLine runLine
 line-ended b =
-    if-elim (λ (c : Box). Ended (c .core .answer)) (b .core .overlong)
-    (λ _. none-ended _ (ap (λ (c : Core). c .answer) (discard-core (box (withLine [] false (b .core)) (b .trouble)))))
+    if-elim (λ (c : Box). Ended (c .core .answer)) (b .core .line .overlong)
+    (λ _. none-ended _ (ap (λ (c : Core). c .answer) (discard-core (holding noLine b))))
     (λ _. finished-ended _)
 
-answer-ended : (b : Box) (t : Text) → Ended (answerTo b t)
-unfolding happens piece byte if_then_else_
-answer-ended b t = subst (λ (c : Box). Ended (c .core .answer)) (sym (demand2 .parts b t (10 ∷ []) .0)) (line-ended (piece b t))
+start-ended : (m : Memory) → Ended (powerUp m .core .answer)
+unfolding powerUp
+start-ended m = none-ended [] refl
+
+-- a byte ends a line, or leaves the answer
+piece-ended : (t : Text) (b : Box) → Ended (b .core .answer) → Ended (piece b t .core .answer)
+unfolding piece byte
+piece-ended [] b h = h
+piece-ended (x ∷ t) b h =
+    piece-ended t (byte b x) (if-elim (λ (c : Box). Ended (c .core .answer)) (endsLine x (b .core .line)) (λ _. line-ended b) (λ _. h))
+
+answer-ended : (b : Box) (t : Text) → Ended (b .core .answer) → Ended (answerTo b t)
+unfolding happens
+answer-ended b t h = piece-ended (t ++ 10 ∷ []) b h
 
 -- ---- one differs
 
@@ -191,8 +202,8 @@ data Where (k : Marking) (n m : ℕ) (ls : List Text) : Type 0 where
   atHand : HereWrong k n m ls → Where k n m ls
   furtherOn : LaterWrong k n m ls → Where k n m ls
 
-module _ (ls : List Text) (k : Marking) (n m : ℕ) (l a′ l′ : Text) (ends : Ended (k .answer))
-    (ih : (j : Marking) (i : ℕ) → Ended (j .answer) → marked j (suc i) ls ≡ differs m a′ l′ → Where j i m ls) where
+module _ (ls : List Text) (k : Marking) (n m : ℕ) (l a′ l′ : Text) (ends : Ended (k .answer)) (still : Ended (k .box .core .answer))
+    (ih : (j : Marking) (i : ℕ) → Ended (j .answer) → Ended (j .box .core .answer) → marked j (suc i) ls ≡ differs m a′ l′ → Where j i m ls) where
   abbrev y : Text
   y = bare l
 
@@ -235,7 +246,7 @@ module _ (ls : List Text) (k : Marking) (n m : ℕ) (l a′ l′ : Text) (ends :
   sent-where : eqb (first y) 62 ≡ true → (t : Bool) → empty (k .answer) ≡ t
       → nextLine going (if t then goes sending else stops (differs (k .sent) (k .answer) y)) ≡ differs m a′ l′ → Where k n m (l ∷ ls)
   unfolding if_then_else_ going
-  sent-where q true e f = from-sending (eqb-true (first y) 62 q) (is-empty (k .answer) e) (ih sending (suc n) (answer-ended (k .box) (rest y)) f)
+  sent-where q true e f = from-sending (eqb-true (first y) 62 q) (is-empty (k .answer) e) (ih sending (suc n) (answer-ended (k .box) (rest y) still) (none-ended [] refl) f)
   sent-where q false e f =
       atHand (record {
         wrong = λ r.
@@ -292,7 +303,7 @@ module _ (ls : List Text) (k : Marking) (n m : ℕ) (l a′ l′ : Text) (ends :
       → nextLine going (if t then goes answering else stops (differs (if eqb (k .sent) 0 then suc n else k .sent) (k .answer) y)) ≡ differs m a′ l′
       → Where k n m (l ∷ ls)
   unfolding if_then_else_ going
-  answer-where q true e f = from-answering (eqb-true (first y) 60 q) e (ih answering (suc n) (none-ended [] refl) f)
+  answer-where q true e f = from-answering (eqb-true (first y) 60 q) e (ih answering (suc n) (none-ended [] refl) still f)
   answer-where q false e f =
       atHand (record {
         wrong = not-right (eqb-true (first y) 60 q) e;
@@ -308,9 +319,9 @@ module _ (ls : List Text) (k : Marking) (n m : ℕ) (l a′ l′ : Text) (ends :
   line-where false q true r f = answer-where r (same (k .answer) (rest y ++ 10 ∷ [])) refl f
   line-where false q false r f = absurd (never-broken _ _ _ _ f)
 
-differs-where : (ls : List Text) (k : Marking) (n m : ℕ) (a l : Text) → Ended (k .answer) → marked k (suc n) ls ≡ differs m a l → Where k n m ls
+differs-where : (ls : List Text) (k : Marking) (n m : ℕ) (a l : Text) → Ended (k .answer) → Ended (k .box .core .answer) → marked k (suc n) ls ≡ differs m a l → Where k n m ls
 unfolding marked lineRead if_then_else_ going
-differs-where [] k n m a l ends e = go (empty (k .answer)) refl e
+differs-where [] k n m a l ends still e = go (empty (k .answer)) refl e
   where
     go : (t : Bool) → empty (k .answer) ≡ t → (if t then agree n else differs (k .sent) (k .answer) []) ≡ differs m a l → Where k n m []
     go true q f = absurd (never-agree _ _ _ _ f)
@@ -323,8 +334,8 @@ differs-where [] k n m a l ends e = go (empty (k .answer)) refl e
           place = λ _. differs-number _ _ _ _ _ _ f;
           before = λ _ z. absurd (false≢true (sym q ∙ ap empty z));
         })
-differs-where (l ∷ ls) k n m a l′ ends e =
-    line-where ls k n m l a l′ ends (λ j i. differs-where ls j i m a l′) (eqb (first (bare l)) 62) refl (eqb (first (bare l)) 60) refl e
+differs-where (l ∷ ls) k n m a l′ ends still e =
+    line-where ls k n m l a l′ ends still (λ j i. differs-where ls j i m a l′) (eqb (first (bare l)) 62) refl (eqb (first (bare l)) 60) refl e
 
 -- a right record, and a line behind it, begin with a line that is sent
 begins-sent : (b : Box) (sent : List Text) (line : Text) (behind : List Text) → NoAnswer (recordOf b sent ++ (62 ∷ line) ∷ behind)
@@ -335,11 +346,11 @@ begins-sent b (t ∷ sent) line behind = λ e. omega arith
 differing : DifferingIsAstray
 unfolding if_then_else_
 differing session m a l e =
-    go (differs-where (linesOf session) (record { box = atPowerUp; sent = 0; answer = [] }) 0 m a l (none-ended [] refl) e)
+    go (differs-where (linesIn session) (record { box = atPowerUp; sent = 0; answer = [] }) 0 m a l (none-ended [] refl) (start-ended blank) e)
   where
-    go : Where (record { box = atPowerUp; sent = 0; answer = [] }) 0 m (linesOf session)
-        → (NoAnswer (map bare (linesOf session)) → Astray atPowerUp 0 (map bare (linesOf session)) m) × ((NoAnswer (map bare (linesOf session)) → ⊥) → m ≡ 1)
-    go (atHand p) = (λ no. absurd (p .wrong (map bare (linesOf session), refl, no)), λ _. p .before refl refl)
+    go : Where (record { box = atPowerUp; sent = 0; answer = [] }) 0 m (linesIn session)
+        → (NoAnswer (map bare (linesIn session)) → Astray atPowerUp 0 (map bare (linesIn session)) m) × ((NoAnswer (map bare (linesIn session)) → ⊥) → m ≡ 1)
+    go (atHand p) = (λ no. absurd (p .wrong (map bare (linesIn session), refl, no)), λ _. p .before refl refl)
     go (furtherOn w) = (
       (λ _. record { sent = w .sent; line = w .line; behind = w .behind; is = w .is; number = let z = w .number in omega arith; wrong = w .wrong }),
       (λ none. absurd (none (subst NoAnswer (sym (w .is)) (begins-sent atPowerUp (w .sent) (w .line) (w .behind))))),
@@ -459,7 +470,7 @@ broken-breaks (l ∷ ls) k n m e =
 breaking : BrokenIsBroken
 unfolding if_then_else_
 breaking session m e =
-    let r = broken-breaks (linesOf session) (record { box = atPowerUp; sent = 0; answer = [] }) 0 m e in
+    let r = broken-breaks (linesIn session) (record { box = atPowerUp; sent = 0; answer = [] }) 0 m e in
     let g = r .number in
     record {
       before = r .before;

@@ -17,15 +17,15 @@ use Rattle.registers.specs.Status.{raised, oldestRead, atStart}
 use Rattle.interpreter.specs.Cuts.{cutAt, quoteNext, cutOpen, trimEnd, trim}
 use Rattle.interpreter.specs.Header.{name, placed, header, spells, bodyOf, byFirst, numbered, nodeMatches, suffixIn}
 use Rattle.interpreter.specs.Rows.{settingRows, otherRows, rows, fitsRow, findRow, secondOf, onChannel, findRole}
-use Rattle.interpreter.specs.Parameter.{labelDeed, parameters, least, greatest, findWord, parameter, valueGiven, settingDeed, deedOf, readFigure, readWord}
+use Rattle.interpreter.specs.Parameter.{labelDeed, parameters, least, greatest, findWord, parameter, valueGiven, settingDeed, deedOf, isBlock, given, readFigure, readWord}
 use Rattle.interpreter.specs.Unit.{readUnit}
 use Rattle.interpreter.specs.Box.{powerUp}
 use Rattle.interpreter.specs.Perform.{permitted, changed, perform}
 use Rattle.interpreter.specs.Reply.{replyTo, inquiryText, joined, fitsAnswer, reply}
-use Rattle.interpreter.specs.Line.{attempt, refuse, runUnits, interrupted, finished, unitsOf, runLine, endLine, held, byte, piece}
+use Rattle.interpreter.specs.Line.{attempt, refuse, runUnits, interrupted, finished, unitsOf, runLine, endLine, grown, byte, piece}
+use Rattle.interpreter.specs.Blocks.{blockMark, behindLast, quoteAfter, givenSoFar, opens}
 use Rattle.interpreter.specs.Events.{happens}
-use Rattle.interpreter.specs.Server.{linesOf}
-use Rattle.writer.specs.Session.{Verdict, agree, differs, broken, lineRead, marked, verdictOn}
+use Rattle.writer.specs.Session.{Verdict, agree, differs, broken, lineRead, linesIn, marked, verdictOn}
 
 abbrev verdicts : List (String × Verdict)
 verdicts =
@@ -49,7 +49,7 @@ unfolding if_then_else_ bytes same white printable digit letter wordByte small c
     nearest sizeIn rounded sizeSide sideIn inPlaces decimal tenths eventBit messageIn errorText
     table slots settingAt atReset wideRange narrow lowest highest within conflict examined accepted answerOf raised oldestRead atStart
     mayStand closes undoubled padded labelDeed cutAt quoteNext cutOpen trimEnd trim name placed bodyOf byFirst header numbered nodeMatches suffixIn spells settingRows otherRows rows fitsRow findRow secondOf onChannel findRole
-    parameters least greatest findWord parameter readWord readFigure valueGiven settingDeed deedOf readUnit powerUp
+    parameters least greatest findWord parameter readWord readFigure valueGiven settingDeed deedOf isBlock given readUnit powerUp
     permitted changed replyTo inquiryText joined fitsAnswer reply perform
-    attempt refuse runUnits interrupted finished unitsOf runLine endLine held byte piece happens linesOf lineRead marked
+    attempt refuse runUnits interrupted finished unitsOf runLine endLine grown behindLast quoteAfter givenSoFar opens blockMark byte piece happens linesIn lineRead marked
 all-marked = refl

@@ -9,10 +9,10 @@ use Prim.Native.Char.{code}
 use lib.Dec.{eqb}
 use lib.ListN.{length}
 use Rattle.registers.specs.Text.{Text, if_then_else_, empty, first, rest, start, same}
-use Rattle.interpreter.specs.Cuts.{front}
+use Rattle.interpreter.specs.Cuts.{front, joinFirst}
 use Rattle.interpreter.specs.Box.{Box, powerUp, blank}
 use Rattle.interpreter.specs.Events.{received, happens}
-use Rattle.interpreter.specs.Server.{linesOf, heardLine}
+use Rattle.interpreter.specs.Server.{heardLine}
 
 -- ---- what is known as a line is read
 
@@ -54,6 +54,11 @@ lineRead k n x =
 
 -- ---- all lines
 
+-- a session is cut after every newline
+unfoldable pub linesIn : Text → List Text
+linesIn [] = []
+linesIn (x ∷ xs) = if eqb x 10 then (x ∷ []) ∷ linesIn xs else joinFirst x (linesIn xs)
+
 -- a line without its newline, which the last may lack
 abbrev pub bare : Text → Text
 bare l = start (λ x. not (eqb x 10)) l
@@ -67,12 +72,12 @@ unfoldable pub marked : Marking → ℕ → List Text → Verdict
 marked k n [] = if empty (k .answer) then agree (pred n) else differs (k .sent) (k .answer) []
 marked k n (l ∷ ls) = nextLine (λ j. marked j (suc n) ls) (lineRead k n (bare l))
 
--- "from power-up", with a store of zeros
+-- "from power-up", with a store and an area of zeros
 abbrev pub atPowerUp : Box
 atPowerUp = powerUp blank
 
 abbrev pub verdictOn : Text → Verdict
-verdictOn session = marked (record { box = atPowerUp; sent = 0; answer = [] }) 1 (linesOf session)
+verdictOn session = marked (record { box = atPowerUp; sent = 0; answer = [] }) 1 (linesIn session)
 
 -- ---- what a right record is
 
@@ -91,7 +96,7 @@ recordOf b (x ∷ xs) = (code ">" ∷ x) ∷ asRecorded (answerTo b x) ++ record
 -- a session whose lines all agree is the right record of some lines sent from power-up
 abbrev pub AgreeingIsRight : Type 0
 AgreeingIsRight = (session : Text) (n : ℕ) → verdictOn session ≡ agree n
-    → (n ≡ length (linesOf session)) × ((xs : List Text) × (map bare (linesOf session) ≡ recordOf atPowerUp xs))
+    → (n ≡ length (linesIn session)) × ((xs : List Text) × (map bare (linesIn session) ≡ recordOf atPowerUp xs))
 
 -- what stands behind a sent line is its answer and then no other
 abbrev pub NoAnswer : List Text → Type 0
@@ -118,7 +123,7 @@ pub record Astray (b : Box) (before : ℕ) (ls : List Text) (m : ℕ) : Type 0 w
 -- or the session begins with an answer
 abbrev pub DifferingIsAstray : Type 0
 DifferingIsAstray = (session : Text) (m : ℕ) (a l : Text) → verdictOn session ≡ differs m a l
-    → let ls = map bare (linesOf session) in (NoAnswer ls → Astray atPowerUp 0 ls m) × ((NoAnswer ls → ⊥) → m ≡ 1)
+    → let ls = map bare (linesIn session) in (NoAnswer ls → Astray atPowerUp 0 ls m) × ((NoAnswer ls → ⊥) → m ≡ 1)
 
 -- a broken line: it is empty or has another first byte, and what stands before it is a right record, or one that lacks its last answer
 pub record BrokenAt (b : Box) (ls : List Text) (m : ℕ) : Type 0 where
@@ -134,7 +139,7 @@ pub record BrokenAt (b : Box) (ls : List Text) (m : ℕ) : Type 0 where
   pub one : length missing ≤ 1
 
 abbrev pub BrokenIsBroken : Type 0
-BrokenIsBroken = (session : Text) (m : ℕ) → verdictOn session ≡ broken m → BrokenAt atPowerUp (map bare (linesOf session)) m
+BrokenIsBroken = (session : Text) (m : ℕ) → verdictOn session ≡ broken m → BrokenAt atPowerUp (map bare (linesIn session)) m
 
 pub record MarksRight : Type 0 where
   pub agreeing : AgreeingIsRight

@@ -6,7 +6,7 @@ use Prim.Native.Nat.{ℕ, _-_, _≤_}
 use lib.Dec.{eqb}
 use lib.ListN.{length, take, drop}
 use Rattle.registers.specs.Text.{Text, if_then_else_}
-use Rattle.interpreter.specs.Box.{Box, storeSize, memory, mostAnswer}
+use Rattle.interpreter.specs.Box.{Memory, rightSize, Box, mostAnswer}
 use Rattle.interpreter.specs.Events.{received, happens}
 use Rattle.interpreter.specs.Server.{heardLine}
 use Rattle.interpreter.specs.State.{boxOf, possibleState}
@@ -29,30 +29,30 @@ verdictIn Broken n a l = broken n
 abbrev pub verdictOf : Report → Text → Text → Verdict
 verdictOf r session room = verdictIn (r .found) (r .line) (take (r .waiting) room) (take (r .to - r .from) (drop (r .from) session))
 
--- the room holds the answer to the last line sent, and the store is lent
-abbrev pub markingOf : Marker → Text → Text → Marking
-markingOf m store room = record { box = boxOf (m .state) (memory store); sent = m .sent; answer = take (m .waiting) room }
+-- the room holds the answer to the last line sent, and the memory is lent
+abbrev pub markingOf : Marker → Memory → Text → Marking
+markingOf m lent room = record { box = boxOf (m .state) lent; sent = m .sent; answer = take (m .waiting) room }
 
-pub record Fits (m : Marker) (store room : Text) : Type 0 where
+pub record Fits (m : Marker) (lent : Memory) (room : Text) : Type 0 where
   pub possible : possibleState (m .state) ≡ true
-  pub sized : length store ≡ storeSize
+  pub sized : rightSize lent ≡ true
   pub waiting : m .waiting ≤ length room
   pub wide : mostAnswer ≤ length room
 
 -- a line was sent
-pub record SentTo (s : State) (store x : Text) (r : Sent) (store′ room : Text) : Type 0 where
-  pub sized : length store′ ≡ storeSize
+pub record SentTo (s : State) (lent : Memory) (x : Text) (r : Sent) (left : Memory) (room : Text) : Type 0 where
+  pub sized : rightSize left ≡ true
   pub possible : possibleState (r .state) ≡ true
   pub within : r .waiting ≤ length room
-  pub box : boxOf (r .state) (memory store′) ≡ heardLine (boxOf s (memory store)) (x ++ 10 ∷ [])
-  pub answer : take (r .waiting) room ≡ happens (boxOf s (memory store)) (received (x ++ 10 ∷ [])) .box .core .answer
+  pub box : boxOf (r .state) left ≡ heardLine (boxOf s lent) (x ++ 10 ∷ [])
+  pub answer : take (r .waiting) room ≡ happens (boxOf s lent) (received (x ++ 10 ∷ [])) .box .core .answer
 
 -- 0 goes on, 1 differs, 2 is broken
-abbrev pub stepOf : Step → Text → Text → Text → Stepped
-stepOf s x store room =
-    if eqb (s .stop) 0 then goes (markingOf (s .marker) store room)
+abbrev pub stepOf : Step → Text → Memory → Text → Stepped
+stepOf s x lent room =
+    if eqb (s .stop) 0 then goes (markingOf (s .marker) lent room)
     else (if eqb (s .stop) 1 then stops (differs (s .line) (take (s .marker .waiting) room) x) else stops (broken (s .line)))
 
-pub record LineRead (m : Marker) (n : ℕ) (x store room : Text) (r : Step) (store′ room′ : Text) : Type 0 where
-  pub fits : Fits (r .marker) store′ room′
-  pub is : stepOf r x store′ room′ ≡ lineRead (markingOf m store room) n x
+pub record LineRead (m : Marker) (n : ℕ) (x : Text) (lent : Memory) (room : Text) (r : Step) (left : Memory) (room′ : Text) : Type 0 where
+  pub fits : Fits (r .marker) left room′
+  pub is : stepOf r x left room′ ≡ lineRead (markingOf m lent room) n x

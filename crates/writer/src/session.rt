@@ -2,6 +2,7 @@
 // the box's.
 use interpreter::server;
 use interpreter::state::ANSWER;
+use interpreter::state::AREA;
 use interpreter::state::STORE;
 use interpreter::state::State;
 ghost use mathlib.Core.Path.{_≡_};
@@ -10,7 +11,7 @@ ghost use mathlib.Core.List.{[], _∷_, _++_};
 ghost use Prim.Native.Nat.{_≤_};
 ghost use lib.ListN.{length};
 ghost use Rattle.registers.specs.Text.{same};
-ghost use Rattle.interpreter.specs.Box.{storeSize, blank, mostAnswer};
+ghost use Rattle.interpreter.specs.Box.{memory, rightSize, blank, mostAnswer};
 ghost use Rattle.interpreter.specs.State.{possibleState};
 ghost use Rattle.writer.specs.Session.{verdictOn};
 ghost use Rattle.writer.specs.SessionParts.{verdictOf, Fits, SentTo, LineRead};
@@ -75,12 +76,12 @@ fn is_recorded(answer: &[u8], text: &[u8]) -> bool
 }
 
 // Sends a line with its newline, and takes its answer into the room.
-fn send(state: State, store: &mut [u8], text: &[u8], room: &mut [u8]) -> Sent
-    requires { ⌜ (possibleState state ≡ true) × (length (now store) ≡ storeSize) × (mostAnswer ≤ length (now room)) ⌝ }
-    ensures { λ r. ⌜ SentTo state (now (store .entry)) (now (text .entry)) r (now (store .exit)) (now (room .exit)) ⌝ }
+fn send(state: State, store: &mut [u8], area: &mut [u8], text: &[u8], room: &mut [u8]) -> Sent
+    requires { ⌜ (possibleState state ≡ true) × (rightSize (memory (now store) (now area)) ≡ true) × (mostAnswer ≤ length (now room)) ⌝ }
+    ensures { λ r. ⌜ SentTo state (memory (now (store .entry)) (now (area .entry))) (now (text .entry)) r (memory (now (store .exit)) (now (area .exit))) (now (room .exit)) ⌝ }
 {
-    let fed = state.piece(store, text);
-    let served = server::serve(fed.state, store, b"\n", room);
+    let fed = state.piece(store, area, text);
+    let served = server::serve(fed.state, store, area, b"\n", room);
     let state = served.state;
     Sent {
         state,
@@ -89,9 +90,16 @@ fn send(state: State, store: &mut [u8], text: &[u8], room: &mut [u8]) -> Sent
 }
 
 // Reads a line of the session, without its newline.
-fn read_line(marker: Marker, number: usize, text: &[u8], store: &mut [u8], room: &mut [u8]) -> Step
-    requires { ⌜ Fits marker (now store) (now room) ⌝ }
-    ensures { λ r. ⌜ LineRead marker number (now (text .entry)) (now (store .entry)) (now (room .entry)) r (now (store .exit)) (now (room .exit)) ⌝ }
+fn read_line(
+    marker: Marker,
+    number: usize,
+    text: &[u8],
+    store: &mut [u8],
+    area: &mut [u8],
+    room: &mut [u8],
+) -> Step
+    requires { ⌜ Fits marker (memory (now store) (now area)) (now room) ⌝ }
+    ensures { λ r. ⌜ LineRead marker number (now (text .entry)) (memory (now (store .entry)) (now (area .entry))) (now (room .entry)) r (memory (now (store .exit)) (now (area .exit))) (now (room .exit)) ⌝ }
 {
     let waiting = marker.waiting;
     let sent = marker.sent;
@@ -111,7 +119,7 @@ fn read_line(marker: Marker, number: usize, text: &[u8], store: &mut [u8], room:
                 line: sent,
             };
         }
-        let next = send(marker.state, store, &text[1..], room);
+        let next = send(marker.state, store, area, &text[1..], room);
         let state = next.state;
         return Step {
             marker: Marker {
@@ -158,8 +166,8 @@ fn read_line(marker: Marker, number: usize, text: &[u8], store: &mut [u8], room:
 }
 
 // Reads the lines of a session one after another, until one stops it.
-fn read_all(session: &[u8], store: &mut [u8], room: &mut [u8]) -> Report
-    requires { ⌜ (now store ≡ blank .store) × (mostAnswer ≤ length (now room)) ⌝ }
+fn read_all(session: &[u8], store: &mut [u8], area: &mut [u8], room: &mut [u8]) -> Report
+    requires { ⌜ (now store ≡ blank .store) × (now area ≡ blank .area) × (mostAnswer ≤ length (now room)) ⌝ }
     ensures { λ r. ⌜ verdictOf r (now (session .entry)) (now (room .exit)) ≡ verdictOn (now (session .entry)) ⌝ }
 {
     let mut marker = Marker {
@@ -172,7 +180,7 @@ fn read_all(session: &[u8], store: &mut [u8], room: &mut [u8]) -> Report
     while at < session.len() {
         let end = bytes::scan::find(session, at, session.len(), b'\n');
         number += 1;
-        let step = read_line(marker, number, &session[at..end], store, room);
+        let step = read_line(marker, number, &session[at..end], store, area, room);
         if step.stop == 1 {
             let waiting = step.marker.waiting;
             return Report {
@@ -220,7 +228,8 @@ fn read_all(session: &[u8], store: &mut [u8], room: &mut [u8]) -> Report
 pub fn mark(session: &[u8], room: &mut [u8; ANSWER]) -> Report
     ensures { λ r. ⌜ verdictOf r (now (session .entry)) (now (room .exit)) ≡ verdictOn (now (session .entry)) ⌝ }
 {
-    // the saved setups: zeros, as long as the session lasts
+    // the saved setups and the waveform: zeros, as long as the session lasts
     let mut store = [0u8; STORE];
-    read_all(session, &mut store, room)
+    let mut area = [0u8; AREA];
+    read_all(session, &mut store, &mut area, room)
 }

@@ -17,6 +17,6 @@ pub send-spec : {M : Type 1} → statement M
 send-spec =
     tie.close
     (tie.spec
-    (λ c κs. tt) (λ c κs. tt) (λ c. c .before .before .before .before .before .before .before .piece .kept .1 .0) (λ c. tt) (λ c κs. tt) (λ c κs. tt) (λ c. zero-le) (λ c. zero-le)
+    (λ c κs. tt) (λ c κs. tt) (λ c. c .before .before .before .before .before .before .before .before .before .before .piece .kept .1 .0) (λ c. c .before .before .before .before .before .before .before .before .before .before .piece .kept .1 .1 .0) (λ c. tt) (λ c κs. tt) (λ c κs. tt) (λ c. zero-le) (λ c. zero-le)
     part-write-all-end
-    (λ c κs. tt) (λ c. c .before .before .before .before .before .before .before .before .before .before .before .before .before .before .piece .kept .1 .0) (λ c. c .before .before .before .before .before .take .kept .1 .1 .0) (λ c. tt))
+    (λ c κs. tt) (λ c. c .before .before .before .before .before .before .before .before .before .before .before .before .before .before .before .before .before .before .piece .kept .1 .0) (λ c. c .before .before .before .before .before .before .before .before .before .before .before .before .before .before .before .before .before .before .piece .kept .1 .1 .0) (λ c. c .before .before .before .before .before .take .kept .1 .1 .1 .0) (λ c. tt))

@@ -19,16 +19,16 @@ use Rattle.interpreter.specs.Cuts.{last, front}
 use Rattle.interpreter.specs.Box.{Core, Memory, Box, box, raise, withLine, answerIs, powerUp}
 use Rattle.interpreter.specs.Unit.{Read, readUnit, raisable}
 use Rattle.interpreter.specs.Reply.{replyTo, inquiryReply, reply}
-use Rattle.interpreter.specs.Perform.{setUp, afterQuery, afterInquiry, permitted, perform}
-use Rattle.interpreter.specs.Line.{Obeyed, attempt, refuse, next, runUnits, unitsOf, interrupted, finished, runLine, endLine, atNewline, held, byte, piece}
-use Rattle.interpreter.specs.Events.{Event, started, received, take as takes, condition, look, altered, mislent, Happened, Result, taken, reported, happens, after}
+use Rattle.interpreter.specs.Perform.{setUp, takeIn, afterQuery, afterInquiry, permitted, perform}
+use Rattle.interpreter.specs.Line.{Obeyed, attempt, refuse, next, runUnits, unitsOf, interrupted, finished, runLine, endLine, atNewline, noneCame, endReported, endsLine, byte, piece}
+use Rattle.interpreter.specs.Events.{Event, started, received, take as takes, condition, look, altered, mislent, ended, Happened, Result, taken, reported, happens, after}
 use Rattle.interpreter.specs.State.{boxOf, possibleState, Started}
 use Rattle.interpreter.specs.Calls.{Calls}
 use Rattle.interpreter.specs.Steps.{Step, discards, overruns, stepsNext, unitSteps, lineSteps, ownSteps, endSteps, byteSteps, pieceSteps, eventSteps, steps}
 use Rattle.interpreter.specs.Account.{Act, raises, reads, starts, leaves, inquiryAct, deedAct, readAct, unitAct, actOf, waits, keptBy, kept, fullAtNext, fullBy, unlostBy, unlost, goesOn, readBy, readIn, struck, Accounted, waitingAt, queue, SincePowerUp, SinceStart, NoneUnaccounted}
 use Rattle.interpreter.specs.declared.state.State.{State}
 use Rattle.interpreter.specs.declared.deed.Deed.{Deed}
-use Rattle.interpreter.specs.declared.deed.Deed.the-variants.{Change, Complete, Clear, Query, Inquire, Saving}
+use Rattle.interpreter.specs.declared.deed.Deed.the-variants.{Change, Complete, Clear, Query, Inquire, Saving, Block}
 use Rattle.interpreter.specs.declared.deed.Inquiry as inquiries
 use Rattle.interpreter.specs.declared.deed.Inquiry.the-variants.{StandardEvents, StatusByte, NextError}
 use Rattle.interpreter.proofs.Choices.{if-elim, if₂}
@@ -118,6 +118,7 @@ module _ (run : List Text → Box → Box) (go : List Text → Box → List Step
   deed-leads path text (Query q) k = reply-leads path leaves tt (b .trouble) refl (reply (replyTo q (b .core)) (afterQuery q (b .core))) k
   deed-leads path text (Inquire q) k = inquiry-leads path text q k
   deed-leads path text (Saving x p) k = reply-leads path leaves tt (b .trouble) refl (setUp x p (b .core)) k
+  deed-leads path text (Block here) k = reply-leads path leaves tt (b .trouble) refl (takeIn here (b .core)) k
 
   -- the lock and check 8
   permitted-leads : (p : Checked (Unit {0})) (path : List Text) (text : Text) (d : Deed) → Leads (deedAct d) (p >> leaving path (perform d text b))
@@ -164,11 +165,11 @@ end-chain : (b : Box) → Chain (queue b) (endSteps b) (queue (endLine b))
 unfolding endSteps endLine
 end-chain b =
     chain-then (if empty (b .core .answer) then [] else discards b ∷ []) (ownSteps b) (queue b) (queue (atNewline b)) _
-    (discards-chain b) (line-chain (b .core .line) (b .core .overlong) (atNewline b))
+    (discards-chain b) (line-chain (b .core .line .text) (b .core .line .overlong) (atNewline b))
 
 byte-chain : (b : Box) (x : ℕ) → Chain (queue b) (byteSteps b x) (queue (byte b x))
 unfolding byteSteps byte
-byte-chain b x = if₂ (λ (ss : List Step) (c : Box). Chain (queue b) ss (queue c)) (eqb x 10) (end-chain b) refl
+byte-chain b x = if₂ (λ (ss : List Step) (c : Box). Chain (queue b) ss (queue c)) (endsLine x (b .core .line)) (end-chain b) refl
 
 piece-chain : (b : Box) (xs : Text) → Chain (queue b) (pieceSteps b xs) (queue (piece b xs))
 unfolding pieceSteps piece
@@ -176,7 +177,7 @@ piece-chain b [] = refl
 piece-chain b (x ∷ xs) = chain-then (byteSteps b x) (pieceSteps (byte b x) xs) _ _ _ (byte-chain b x) (piece-chain (byte b x) xs)
 
 event-chain : (b : Box) (e : Event) → Chain (queue b) (eventSteps b e) (queue (happens b e .box))
-unfolding eventSteps happens taken reported powerUp atStart actOf
+unfolding eventSteps happens taken reported endReported powerUp atStart actOf
 event-chain b started = (refl, tt, refl)
 event-chain b (received xs) = piece-chain b xs
 event-chain b (takes buffer) =
@@ -186,6 +187,7 @@ event-chain b (condition x n) = if-elim (λ (h : Happened). queue b ≡ queue (h
 event-chain b look = refl
 event-chain b (altered i x) = refl
 event-chain b (mislent buffer) = refl
+event-chain b ended = if₂ (λ (ss : List Step) (c : Box). Chain (queue b) ss (queue c)) (noneCame (b .core .line)) refl (end-chain b)
 
 history-chain : (b : Box) (es : List Event) → Chain (queue b) (steps b es) (queue (after b es))
 unfolding steps after

@@ -6,7 +6,7 @@ use mathlib.Core.Bool.{Bool, true, false, not, _||_, and-true, false≢true}
 use mathlib.Core.List.{List, [], _∷_, _++_}
 use Prim.Native.Nat.{ℕ, zero, suc}
 use native.Mathlib.Omega.{arith}
-use lib.Dec.{leb, ltb, eqb}
+use lib.Dec.{leb, eqb}
 use lib.ListN.{length, getD, set}
 use lib.Seq.{getD-set-other}
 use lib.IntN.{ℤ, pos, negsuc}
@@ -22,17 +22,17 @@ use Rattle.registers.specs.declared.status.RegisterSet.{RegisterSet}
 use Rattle.registers.specs.declared.status.RegisterSet.the-variants.{Operation, Lock, Warning}
 use Rattle.registers.proofs.Tests.{and-both, and-true as both-true}
 use Rattle.registers.proofs.status.Conditions.{conditionIn, stored-kept, event-kept, clear-kept, report-kept}
-use Rattle.interpreter.specs.Box.{Memory, Core, Box, withRegisters, mostLine}
+use Rattle.interpreter.specs.Box.{Memory, Core, Box, withRegisters}
 use Rattle.interpreter.specs.UnitParts.{Allowed, AllowedChange}
-use Rattle.interpreter.specs.Perform.{isOutput, blockedChange, blocked, changed, afterQuery, perform}
+use Rattle.interpreter.specs.Perform.{isOutput, blockedChange, blocked, changed, afterQuery, takeIn, perform}
 use Rattle.interpreter.specs.Reply.{reply}
-use Rattle.interpreter.specs.Line.{interrupted, endLine, held, byte, piece}
-use Rattle.interpreter.specs.Events.{Event, started, received, take, condition, look, altered, mislent, Happened, Result, taken, reported, happens, after}
+use Rattle.interpreter.specs.Line.{interrupted, endLine, byte, piece, noneCame, endReported, endsLine}
+use Rattle.interpreter.specs.Events.{Event, started, received, take, condition, look, altered, mislent, Happened, Result, taken, reported, happens, after, ended}
 use Rattle.interpreter.specs.State.{boxOf, possibleState, admitted, rightly, Happens}
 use Rattle.interpreter.specs.Calls.{Call, event, instead, chunk, noChunk, alters, Calls, done, call}
 use Rattle.interpreter.specs.Lock.{leavesKey, UnderLock, LockHolds}
 use Rattle.interpreter.specs.declared.deed.Deed.{Deed}
-use Rattle.interpreter.specs.declared.deed.Deed.the-variants.{Change, Complete, Clear, Query, Inquire, Saving}
+use Rattle.interpreter.specs.declared.deed.Deed.the-variants.{Change, Complete, Clear, Query, Inquire, Saving, Block}
 use Rattle.interpreter.specs.declared.deed.Change as changes
 use Rattle.interpreter.specs.declared.deed.Change.the-variants.{Nothing, Put, Reset, Store, Label as labelled}
 use Rattle.interpreter.specs.declared.deed.Query as queries
@@ -133,6 +133,10 @@ module _ (s : Settings) where
   unfolding reply mayBeQueued queueable
   reply-held t c h = hold-check HeldCore 430 _ _ refl (λ _. passes h)
 
+  block-held : (here : Bool) (c : Core) → HeldCore c → Holds HeldCore (takeIn here c)
+  unfolding takeIn mayBeQueued queueable
+  block-held here c h = hold-check HeldCore 161 _ _ refl (λ _. hold-check HeldCore 104 _ _ refl (λ _. hold-check HeldCore 221 _ _ refl (λ _. passes h)))
+
   perform-held : (d : Deed) (t : Text) (b : Box) → Allowed (b .core .settings) d → blocked d ≡ false → HeldBox b → Holds HeldBox (perform d t b)
   unfolding perform
   perform-held (Change x) t b a n h = passes (change-held x t (b .core) a n h)
@@ -141,22 +145,21 @@ module _ (s : Settings) where
   perform-held (Query q) t b a n h = hold-bind HeldCore HeldBox _ _ (reply-held _ _ (query-held q (b .core) h)) (λ c g. passes g)
   perform-held (Inquire q) t b a n h = hold-bind HeldCore HeldBox _ _ (reply-held _ _ h) (λ c g. passes g)
   perform-held (Saving x p) t b a n h = absurd (false≢true (sym n))
+  perform-held (Block here) t b a n h = hold-bind HeldCore HeldBox _ _ (block-held here (b .core) h) (λ c g. passes g)
 
   -- ---- lines
 
   newline-held : (b : Box) → HeldBox b → HeldBox (endLine b)
   unfolding interrupted
   newline-held b h =
-      line-keeps HeldBox (λ d t b a x l h. perform-held d t b a (let-pass d (b .core) l (h .still)) h) (λ n b e h. h) (λ b h. h) (λ a b h. h) b
+      line-keeps HeldBox (λ d t b a x l h. perform-held d t b a (let-pass d (b .core) l (h .still)) h) (λ n b e h. h) (λ b h. h) (λ a b h. h) (λ b h. h) b
       (if-elim HeldBox (empty (b .core .answer)) (λ _. h) (λ _. h))
 
   -- ---- bytes and events
 
   byte-held : (b : Box) (x : ℕ) → HeldBox b → HeldBox (byte b x)
-  unfolding byte held
-  byte-held b x h =
-      if-elim HeldBox (eqb x 10) (λ _. newline-held b h)
-      (λ _. if-elim HeldCore (ltb (length (b .core .line)) mostLine) (λ _. h) (λ _. h))
+  unfolding byte
+  byte-held b x h = if-elim HeldBox (endsLine x (b .core .line)) (λ _. newline-held b h) (λ _. h)
 
   piece-held : (b : Box) (xs : Text) → HeldBox b → HeldBox (piece b xs)
   unfolding piece
@@ -172,7 +175,7 @@ module _ (s : Settings) where
   reported-held x n b e h = if-elim HeldHappened (leb n widestGroup) (λ _. with-registers (b .core) _ e h) (λ _. h)
 
   event-held : (b : Box) (e : Event) → leavesKey e ≡ true → HeldBox b → HeldBox (happens b e .box)
-  unfolding happens taken
+  unfolding happens taken endReported
   event-held b started k h = absurd (false≢true k)
   event-held b (received xs) k h = piece-held b xs h
   event-held b (take buffer) k h =
@@ -184,6 +187,7 @@ module _ (s : Settings) where
   event-held b look k h = h
   event-held b (altered i x) k h = h
   event-held b (mislent buffer) k h = h
+  event-held b ended k h = if-elim HeldBox (noneCame (b .core .line)) (λ _. h) (λ _. newline-held b h)
 
   history-held : (b : Box) (es : List Event) → every leavesKey es ≡ true → HeldBox b → HeldBox (after b es)
   unfolding after

@@ -1,12 +1,12 @@
 -- The laws of a history's steps: part by part, in other pieces, and over calls.
 use mathlib.Core.Path.{_≡_, refl, sym, _∙_, ap, ap₂}
 use mathlib.Core.List.{List, [], _∷_, _++_, map, append-nil, append-assoc}
-use Prim.Native.Nat.{ℕ}
 use Rattle.registers.specs.Text.{Text, if_then_else_}
-use Rattle.interpreter.specs.Box.{Memory, Box, powerUp}
-use Rattle.interpreter.specs.Line.{endLine, byte, piece}
+use Rattle.interpreter.specs.Box.{Box, powerUp}
+use Rattle.interpreter.specs.Line.{endLine, endReported, byte, piece}
 use Rattle.interpreter.specs.Events.{Event, started, happens, after}
-use Rattle.interpreter.specs.Histories.{single, newline, moments}
+use Rattle.interpreter.specs.Histories.{single, moments}
+use Rattle.interpreter.specs.Demand3.{Ending, byNewline, byEnd, endOf, EndsBy}
 use Rattle.interpreter.specs.State.{boxOf}
 use Rattle.interpreter.specs.Steps.{Step, powersUp, endSteps, byteSteps, pieceSteps, eventSteps, steps, StepsOfParts, StepsRecut, StepLaws}
 use Rattle.interpreter.proofs.demands.histories.Sorts.{by-bytes}
@@ -20,10 +20,21 @@ steps-append b (e ∷ es) fs =
     ap (λ (l : List Step). eventSteps b e ++ l) (steps-append (happens b e .box) es fs)
     ∙ sym (append-assoc (eventSteps b e) (steps (happens b e .box) es) (steps (after (happens b e .box) es) fs))
 
--- a newline, and a power-up, begin what comes after them
-pub newline-steps : (b : Box) (h : List Event) → steps b (newline ∷ h) ≡ endSteps b ++ steps (endLine b) h
-unfolding steps eventSteps pieceSteps byteSteps happens piece byte if_then_else_
-newline-steps b h = ap (λ (l : List Step). l ++ steps (endLine b) h) (append-nil (endSteps b))
+-- the end of a line, and a power-up, begin what comes after them
+newline-own : (b : Box) → b .core .line .coming ≡ 0 → byteSteps b 10 ≡ endSteps b
+unfolding byteSteps if_then_else_
+newline-own b z = rw z
+
+newline-ends : (b : Box) → b .core .line .coming ≡ 0 → byte b 10 ≡ endLine b
+unfolding byte if_then_else_
+newline-ends b z = rw z
+
+pub line-end-steps : (x : Ending) (b : Box) → EndsBy x b → (h : List Event) → steps b (endOf x ∷ h) ≡ endSteps b ++ steps (endLine b) h
+unfolding steps eventSteps pieceSteps happens piece endReported if_then_else_
+line-end-steps byNewline b z h =
+    ap₂ (λ (l : List Step) (c : Box). (l ++ []) ++ steps c h) (newline-own b z) (newline-ends b z)
+    ∙ ap (λ (l : List Step). l ++ steps (endLine b) h) (append-nil (endSteps b))
+line-end-steps byEnd b z h = rw z
 
 pub started-steps : (b : Box) (h : List Event) → steps b (started ∷ h) ≡ powersUp b ∷ steps (powerUp (b .core .memory)) h
 unfolding steps eventSteps happens

@@ -1,4 +1,5 @@
 pub mod Sorts
 pub mod Pieces
+pub mod InLine
 pub mod NewlineCounts
 pub mod ResultCounts

@@ -19,7 +19,7 @@ use Rattle.interpreter.proofs.Lists.{every-map}
 
 -- ---- bytes of names
 
-unfoldable headerByte : ℕ → Bool
+unfoldable pub headerByte : ℕ → Bool
 headerByte b = wordByte b || (eqb b (code ":") || eqb b (code "*"))
 
 word-header : (b : ℕ) → wordByte b ≡ true → headerByte b ≡ true
@@ -51,7 +51,7 @@ all-solid : below 128 (λ b. not (headerByte b) || solid b) ≡ true
 unfolding headerByte solid wordByte letter small digit white printable
 all-solid = refl
 
-header-solid : (b : ℕ) → headerByte b ≡ true → solid b ≡ true
+pub header-solid : (b : ℕ) → headerByte b ≡ true → solid b ≡ true
 header-solid b e = rw e at (below-at 128 (λ b. not (headerByte b) || solid b) all-solid b (below-128 b e (ltb b 128) refl))
 
 -- nor does any open a quote
@@ -62,7 +62,7 @@ all-unquoted : below 128 (λ b. not (headerByte b) || unquoted b) ≡ true
 unfolding headerByte unquoted wordByte letter small digit
 all-unquoted = refl
 
-header-unquoted : (b : ℕ) → headerByte b ≡ true → unquoted b ≡ true
+pub header-unquoted : (b : ℕ) → headerByte b ≡ true → unquoted b ≡ true
 header-unquoted b e = rw e at (below-at 128 (λ b. not (headerByte b) || unquoted b) all-unquoted b (below-128 b e (ltb b 128) refl))
 
 -- ---- names joined by separators
@@ -123,7 +123,7 @@ led-by : (x : ℕ) → headerByte x ≡ true → (t : Text) → eqb (first t) x 
 led-by x a [] e k = refl
 led-by x a (b ∷ t) e k = and-true (ap headerByte (eqb-true b x e) ∙ a) k
 
-first-bytes : (t : Text) (q : Bool) (x : Header) → byFirst t q ≡ passed x → (every headerByte t ≡ true) × (q ≡ x .query)
+pub first-bytes : (t : Text) (q : Bool) (x : Header) → byFirst t q ≡ passed x → (every headerByte t ≡ true) × (q ≡ x .query)
 unfolding byFirst
 first-bytes t q x =
     let P : Checked Header → Type 0 = λ m. m ≡ passed x → (every headerByte t ≡ true) × (q ≡ x .query) in

@@ -49,7 +49,7 @@ unfolding if_then_else_
 asks-cons x [] e = e
 asks-cons x (y ∷ r) e = refl
 
-body-more : (x y : ℕ) (r : Text) → bodyOf (x ∷ y ∷ r) ≡ x ∷ bodyOf (y ∷ r)
+pub body-more : (x y : ℕ) (r : Text) → bodyOf (x ∷ y ∷ r) ≡ x ∷ bodyOf (y ∷ r)
 unfolding bodyOf if_then_else_
 body-more x y r = go (asks (y ∷ r))
   where

@@ -11,13 +11,13 @@ use Rattle.registers.specs.Label.{textIn}
 use Rattle.registers.specs.Check.{Checked, refused, passed, _>>=_, _>>_}
 use Rattle.registers.specs.Error.{numberOf}
 use Rattle.registers.specs.declared.error.Error.{Error}
-use Rattle.interpreter.specs.Box.{Memory, Box, mostAnswer}
+use Rattle.interpreter.specs.Box.{Box, mostAnswer}
 use Rattle.interpreter.specs.Unit.{Read, readUnit}
 use Rattle.interpreter.specs.Perform.{permitted, perform}
 use Rattle.interpreter.specs.Line.{attempt, refuse}
 use Rattle.interpreter.specs.UnitParts.{UnitRead, Accepted, partOf, Allowed, AllowedText}
 use Rattle.interpreter.specs.declared.unit.Span.{Span}
-use Rattle.interpreter.specs.PresentParts.{coreIn, boxAt}
+use Rattle.interpreter.specs.PresentParts.{Around, coreIn, boxAt}
 use Rattle.interpreter.specs.PerformParts.{After}
 use Rattle.interpreter.specs.ReplyParts.{Answered}
 use Rattle.interpreter.specs.LineParts.{StoppedWith, carried, CarriedOut, UnitRan}
@@ -34,7 +34,7 @@ use Rattle.interpreter.proofs.unit.Allowed.{read-allowed, text-allowed}
 
 -- ---- a unit that was read: it is barred, left unanswered, or done
 
-module _ (p : Present) (d : Deed) (t : Text) (used : ℕ) (out : Text) (m : Memory) where
+module _ (p : Present) (d : Deed) (t : Text) (used : ℕ) (out : Text) (m : Around) where
   abbrev b : Box
   b = boxAt p out m
 
@@ -69,7 +69,7 @@ module _ (p : Present) (d : Deed) (t : Text) (used : ℕ) (out : Text) (m : Memo
   pub deed-done : permitted d (coreIn (p .settings) (p .status)) ≡ passed tt → Allowed (p .settings) d
       → (next : Present) → After d t p next → (end : ℕ) (left : Text) (told : Told) → told ≡ Until end → Answered d t p out told left
       → CarriedOut d t used p out m
-      (record { present = record { settings = next .settings; status = next .status; answered = end }; used = used; obeyed = true }) left m
+      (record { present = record { settings = next .settings; status = next .status; answered = end; held = next .held; stored = next .stored }; used = used; obeyed = true }) left m
   unfolding _>>_
   deed-done l allowed next s end left told q says =
       let a = subst (λ (x : Told). Answered d t p out x left) q says in
@@ -110,7 +110,7 @@ module _ (d : Done) (path : List Text) (unit : Text) (keys : List ℕ) (res : De
   pub unit-said : (e : Deed) → res ≡ Obey e → AllowedText e said
   unit-said e q = text-allowed (d .present .settings) path unit (accepted e q .is)
 
-  module _ (out : Text) (m : Memory) where
+  module _ (out : Text) (m : Around) where
     abbrev start : Box
     start = boxAt (d .present) out m
 
@@ -126,7 +126,7 @@ module _ (d : Done) (path : List Text) (unit : Text) (keys : List ℕ) (res : De
           stops = λ _. (numberOf e, attempt-read path start unit (numberOf e) f, w .left .box out m);
         }
 
-    pub unit-carried : (a : Deed) → res ≡ Obey a → (r : Done) (left : Text) (m′ : Memory) → CarriedOut a said used (d .present) out m r left m′ → UnitRan d path unit out m r keys left m′
+    pub unit-carried : (a : Deed) → res ≡ Obey a → (r : Done) (left : Text) (m′ : Around) → CarriedOut a said used (d .present) out m r left m′ → UnitRan d path unit out m r keys left m′
     unfolding _>>=_
     unit-carried a q r left m′ c =
         let f = accepted a q in

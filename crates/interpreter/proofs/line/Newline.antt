@@ -12,9 +12,9 @@ use lib.Seq.{take-suc-set}
 use borrow.Author.Tests.{eq-eqb, ne-eqb}
 use Rattle.registers.specs.Text.{Text, if_then_else_, start, white, every}
 use Rattle.registers.specs.declared.error.Error.the-variants.{InputBufferOverrun}
-use Rattle.interpreter.specs.Box.{Memory, box, mostAnswer}
+use Rattle.interpreter.specs.Box.{Memory, box, mostAnswer, lineIs, noLine, holding}
 use Rattle.interpreter.specs.Line.{runUnits, finished, unitsOf, runLine, endLine}
-use Rattle.interpreter.specs.PresentParts.{boxIn, raisedWith}
+use Rattle.interpreter.specs.PresentParts.{Around, around, boxIn, raisedWith}
 use Rattle.interpreter.specs.PresentParts.{boxAt, Discarded}
 use Rattle.interpreter.specs.LineParts.{boxHolding, UnitsRan}
 use Rattle.interpreter.specs.declared.present.Present.{Present}
@@ -44,7 +44,7 @@ module _ (l : Text) (n : ℕ) (is : n ≡ 0 + length (start white l)) where
   pub not-blank : (n ≡ length l → ⊥) → every white l ≡ false
   not-blank ne = sym whole ∙ ne-eqb n (length l) ne
 
-module _ (p : Present) (line : Text) (o : Bool) (m : Memory) where
+module _ (p : Present) (line : Text) (o : Bool) (m : Around) where
   pub line-overlong : length (p .status .errors) ≡ most → o ≡ true → boxIn (raisedWith InputBufferOverrun p) [] m ≡ runLine line o (boxIn p [] m)
   unfolding runLine if_then_else_
   line-overlong long e = rw e (raised-box InputBufferOverrun p m long [])
@@ -53,7 +53,7 @@ module _ (p : Present) (line : Text) (o : Bool) (m : Memory) where
   unfolding runLine unitsOf finished runUnits if_then_else_
   line-blank e b = rw (e, b)
 
-  module _ (e : o ≡ false) (visible : every white line ≡ false) (r : Present) (out : Text) (m′ : Memory) (ran : UnitsRan p line m r out m′) where
+  module _ (e : o ≡ false) (visible : every white line ≡ false) (r : Present) (out : Text) (m′ : Around) (ran : UnitsRan p line m r out m′) where
     pub line-none : r .answered ≡ 0 → boxAt r out m′ ≡ runLine line o (boxIn p [] m)
     unfolding runLine unitsOf finished if_then_else_
     line-none z = rw (e, visible, ← ran .box, z)
@@ -67,8 +67,13 @@ module _ (p : Present) (line : Text) (o : Bool) (m : Memory) where
 
 -- ---- the newline
 
-module _ (p : Present) (out : Text) (m : Memory) where
-  pub ended : (q : Present) → Discarded p q → 0 < length out → (line : Text) (o : Bool)
-      → runLine line o (boxIn q [] m) ≡ endLine (boxHolding p line o (take (p .answered) out) m)
-  unfolding endLine
-  ended q w room line o = rw (w .box out m room)
+-- what a block's counters say as the line ends
+abbrev pub starting : Present → ℕ → Present
+starting p n = record { settings = p .settings; status = p .status; answered = p .answered; held = n; stored = false }
+
+module _ (p : Present) (out block : Text) (m : Memory) where
+  pub ended : (n : ℕ) (q : Present) → Discarded (starting p n) q → 0 < length out → (text : Text) (o : Bool) (coming : ℕ)
+      → holding noLine (runLine text o (boxIn q [] (around block (m .store) (m .area))))
+      ≡ endLine (boxHolding p (lineIs text o (take n block) coming) (take (p .answered) out) m)
+  unfolding endLine if_then_else_
+  ended n q w room text o coming = rw (w .box out (around block (m .store) (m .area)) room)

@@ -14,10 +14,10 @@ use Rattle.registers.specs.Setup.{blockSize, blockOf, settingsIn, recallable, b
 use Rattle.registers.specs.declared.error.Error.the-variants.{SaveRecallMemoryLost}
 use Rattle.registers.specs.declared.settings.Settings.{Settings}
 use Rattle.registers.proofs.setup.Laws.{block-long}
-use Rattle.interpreter.specs.Box.{Memory, memory, mostAnswer}
+use Rattle.interpreter.specs.Box.{mostAnswer}
 use Rattle.interpreter.specs.Perform.{permitted, setUp, perform}
 use Rattle.interpreter.specs.Line.{refuse}
-use Rattle.interpreter.specs.PresentParts.{coreIn, boxAt}
+use Rattle.interpreter.specs.PresentParts.{around, coreIn, boxAt}
 use Rattle.interpreter.specs.LineParts.{StoppedWith, carried, CarriedOut}
 use Rattle.interpreter.specs.declared.deed.Deed.the-variants.{Saving}
 use Rattle.interpreter.specs.declared.deed.Saving.the-variants.{Save, Recall}
@@ -45,34 +45,34 @@ block-read place at end store e f =
 
 module _ (p : Present) (place used : ℕ) (store : Text) (short : p .status .queued ≤ most) (room : p .answered < mostAnswer) where
   pub saved : permitted (Saving Save place) (coreIn (p .settings) (p .status)) ≡ passed tt → (left : Text) → left ≡ savedAt place (p .settings) store
-      → (t out : Text) → CarriedOut (Saving Save place) t used p out (memory store) (record { present = p; used = used; obeyed = true }) out (memory left)
+      → (t out w a : Text) → CarriedOut (Saving Save place) t used p out (around w store a) (record { present = p; used = used; obeyed = true }) out (around w left a)
   unfolding perform setUp _>>=_ _>>_
-  saved l left is t out =
+  saved l left is t out w a =
       record {
         queued = short;
         room = room;
-        goes = λ _. (rw (seen p (Saving Save place) t used out (memory store) l, is), refl);
+        goes = λ _. (rw (seen p (Saving Save place) t used out (around w store a) l, is), refl);
         stops = λ t. absurd (false≢true (sym t));
       }
 
   module _ (l : permitted (Saving Recall place) (coreIn (p .settings) (p .status)) ≡ passed tt) (good : Bool)
       (tells : good ≡ recallable (blockAt place store)) where
-    pub recalled : not good ≡ false → (s : Settings) → (good ≡ true → s ≡ settingsIn (blockAt place store)) → (t out : Text)
-        → CarriedOut (Saving Recall place) t used p out (memory store)
-        (record { present = record { settings = s; status = p .status; answered = p .answered }; used = used; obeyed = true }) out (memory store)
+    pub recalled : not good ≡ false → (s : Settings) → (good ≡ true → s ≡ settingsIn (blockAt place store)) → (t out w a : Text)
+        → CarriedOut (Saving Recall place) t used p out (around w store a)
+        (record { present = record { settings = s; status = p .status; answered = p .answered; held = p .held; stored = p .stored }; used = used; obeyed = true }) out (around w store a)
     unfolding perform setUp _>>=_ _>>_ check
-    recalled n s is t out =
+    recalled n s is t out w a =
         let yes = not-false good n in
         record {
           queued = short;
           room = room;
-          goes = λ _. (rw (seen p (Saving Recall place) t used out (memory store) l, sym tells ∙ yes, is yes), refl);
+          goes = λ _. (rw (seen p (Saving Recall place) t used out (around w store a) l, sym tells ∙ yes, is yes), refl);
           stops = λ t. absurd (false≢true (sym t));
         }
 
-    pub lost : not good ≡ true → (r : Done) → StoppedWith SaveRecallMemoryLost p r → (t out : Text)
-        → CarriedOut (Saving Recall place) t used p out (memory store) r out (memory store)
+    pub lost : not good ≡ true → (r : Done) → StoppedWith SaveRecallMemoryLost p r → (t out w a : Text)
+        → CarriedOut (Saving Recall place) t used p out (around w store a) r out (around w store a)
     unfolding perform setUp _>>=_ _>>_ check
-    lost n r w t out =
-        stopped p (Saving Recall place) t used out (memory store) short room SaveRecallMemoryLost r w out
-        (rw (seen p (Saving Recall place) t used out (memory store) l, sym tells ∙ not-true good n)) refl
+    lost n r v t out w a =
+        stopped p (Saving Recall place) t used out (around w store a) short room SaveRecallMemoryLost r v out
+        (rw (seen p (Saving Recall place) t used out (around w store a) l, sym tells ∙ not-true good n)) refl

@@ -16,10 +16,10 @@ use Rattle.registers.specs.Check.{refused, passed}
 use Rattle.registers.proofs.Tests.{and-both}
 use Rattle.interpreter.specs.Cuts.{quoteNext, separates, cutOpen}
 use Rattle.interpreter.specs.CutsParts.{placeOpen}
-use Rattle.interpreter.specs.Box.{Memory, memory, storeSize, Box, box, mostAnswer}
+use Rattle.interpreter.specs.Box.{storeSize, Box, box, mostAnswer}
 use Rattle.interpreter.specs.Line.{Obeyed, attempt, refuse, runUnits}
 use Rattle.interpreter.specs.HeaderParts.{Holds}
-use Rattle.interpreter.specs.PresentParts.{boxIn}
+use Rattle.interpreter.specs.PresentParts.{around, boxIn}
 use Rattle.interpreter.specs.PresentParts.{boxAt}
 use Rattle.interpreter.specs.LineParts.{UnitRan}
 use Rattle.interpreter.specs.declared.present.Present.{Present}
@@ -72,7 +72,7 @@ run-none path b = refl
 
 -- ---- the units of a line so far: what is left does what all of them do
 
-pub record Going (b : Box) (line : Text) (keys : List ℕ) (out store : Text) (d : Done) (at : ℕ) : Type 0 where
+pub record Going (b : Box) (line : Text) (keys : List ℕ) (out w store a : Text) (d : Done) (at : ℕ) : Type 0 where
   pub queued : d .present .status .queued ≤ most
   pub answers : d .present .answered < mostAnswer
   pub long : length out ≡ mostAnswer
@@ -80,22 +80,22 @@ pub record Going (b : Box) (line : Text) (keys : List ℕ) (out store : Text) (d
   pub within : at ≤ length line
   pub path : List Text
   pub holds : Holds path keys (d .used)
-  pub left : runUnits (cutOpen (code ";") 0 (drop at line)) path (boxAt (d .present) out (memory store)) ≡ runUnits (cutOpen (code ";") 0 line) [] b
+  pub left : runUnits (cutOpen (code ";") 0 (drop at line)) path (boxAt (d .present) out (around w store a)) ≡ runUnits (cutOpen (code ";") 0 line) [] b
 
-pub going-start : (p : Present) (o : Bool) (line : Text) (keys : List ℕ) (out store : Text) → p .answered ≡ 0 → p .status .queued ≤ most → length out ≡ mostAnswer
-    → length store ≡ storeSize → Going (boxIn p [] (memory store)) line keys out store (record { present = p; used = 0; obeyed = o }) 0
-going-start p o line keys out store z q l z′ =
+pub going-start : (p : Present) (o : Bool) (line : Text) (keys : List ℕ) (out w store a : Text) → p .answered ≡ 0 → p .status .queued ≤ most → length out ≡ mostAnswer
+    → length store ≡ storeSize → Going (boxIn p [] (around w store a)) line keys out w store a (record { present = p; used = 0; obeyed = o }) 0
+going-start p o line keys out w store a z q l z′ =
     record { queued = q; answers = omega arith; long = l; sized = z′; within = zero-le; path = []; holds = holds-none keys; left = rw z }
 
-module _ (b : Box) (line : Text) (keys : List ℕ) (out store : Text) (d : Done) (at : ℕ) (g : Going b line keys out store d at)
+module _ (b : Box) (line : Text) (keys : List ℕ) (out w store a : Text) (d : Done) (at : ℕ) (g : Going b line keys out w store a d at)
     (end : ℕ) (is : end ≡ at + placeOpen (code ";") 0 (drop at line)) (within : end ≤ length line)
-    (r : Done) (more : List ℕ) (left kept : Text) (w : UnitRan d (g .path) (take (end - at) (drop at line)) out (memory store) r more left (memory kept)) where
+    (r : Done) (more : List ℕ) (left kept : Text) (ran : UnitRan d (g .path) (take (end - at) (drop at line)) out (around w store a) r more left (around w kept a)) where
   -- the rest of the line, which begins with this unit, and the box before it
   abbrev here : Text
   here = drop at line
 
   abbrev before : Box
-  before = boxAt (d .present) out (memory store)
+  before = boxAt (d .present) out (around w store a)
 
   n : end - at ≡ placeOpen (code ";") 0 here
   n = omega (arith, is)
@@ -103,29 +103,29 @@ module _ (b : Box) (line : Text) (keys : List ℕ) (out store : Text) (d : Done)
   first : cutOpen (code ";") 0 here ≡ take (end - at) here ∷ others 0 here
   first = rw n (first-unit 0 here)
 
-  stopped : r .obeyed ≡ false → boxAt (r .present) left (memory kept) ≡ runUnits (cutOpen (code ";") 0 line) [] b
+  stopped : r .obeyed ≡ false → boxAt (r .present) left (around w kept a) ≡ runUnits (cutOpen (code ";") 0 line) [] b
   stopped f =
-      let s = w .stops f in
+      let s = ran .stops f in
       s .2 ∙ sym (run-stop (take (end - at) here) (others 0 here) (g .path) before (s .0) (s .1)) ∙ (rw first at (g .left))
 
-  passes : (t : r .obeyed ≡ true) → runUnits (others 0 here) (w .goes t .0) (boxAt (r .present) left (memory kept)) ≡ runUnits (cutOpen (code ";") 0 line) [] b
-  passes t = sym (run-on (take (end - at) here) (others 0 here) (g .path) before _ (w .goes t .1)) ∙ (rw first at (g .left))
+  passes : (t : r .obeyed ≡ true) → runUnits (others 0 here) (ran .goes t .0) (boxAt (r .present) left (around w kept a)) ≡ runUnits (cutOpen (code ";") 0 line) [] b
+  passes t = sym (run-on (take (end - at) here) (others 0 here) (g .path) before _ (ran .goes t .1)) ∙ (rw first at (g .left))
 
   pub going-less : (r .obeyed && ltb end (length line)) ≡ true → length line - (end + 1) < length line - at
   going-less e = let h = ltb-true end (length line) (and-both (r .obeyed) (ltb end (length line)) e .1) in omega (arith, is)
 
-  pub going-on : (r .obeyed && ltb end (length line)) ≡ true → length left ≡ length out → length kept ≡ length store → Going b line more left kept r (end + 1)
+  pub going-on : (r .obeyed && ltb end (length line)) ≡ true → length left ≡ length out → length kept ≡ length store → Going b line more left w kept a r (end + 1)
   going-on e l k =
       let both = and-both (r .obeyed) (ltb end (length line)) e in
       let h = ltb-true end (length line) (both .1) in
-      let o = w .goes (both .0) in
+      let o = ran .goes (both .0) in
       let m = n in
       let f = length-drop at line in
       let next : at + (placeOpen (code ";") 0 here + 1) ≡ end + 1 = omega arith in
       let rest : others 0 here ≡ cutOpen (code ";") 0 (drop (end + 1) line) = rw (others-more here (omega arith), drop-drop (placeOpen (code ";") 0 here + 1) at line, next) in
       record {
-        queued = w .queued;
-        answers = w .room;
+        queued = ran .queued;
+        answers = ran .room;
         long = l ∙ g .long;
         sized = k ∙ g .sized;
         within = omega arith;
@@ -134,10 +134,10 @@ module _ (b : Box) (line : Text) (keys : List ℕ) (out store : Text) (d : Done)
         left = rw rest at (passes (both .0));
       }
 
-  pub going-end : (r .obeyed && ltb end (length line)) ≡ false → boxAt (r .present) left (memory kept) ≡ runUnits (cutOpen (code ";") 0 line) [] b
+  pub going-end : (r .obeyed && ltb end (length line)) ≡ false → boxAt (r .present) left (around w kept a) ≡ runUnits (cutOpen (code ";") 0 line) [] b
   going-end e = go (r .obeyed) refl (ltb end (length line)) refl
     where
-      go : (t : Bool) → r .obeyed ≡ t → (u : Bool) → ltb end (length line) ≡ u → boxAt (r .present) left (memory kept) ≡ runUnits (cutOpen (code ";") 0 line) [] b
+      go : (t : Bool) → r .obeyed ≡ t → (u : Bool) → ltb end (length line) ≡ u → boxAt (r .present) left (around w kept a) ≡ runUnits (cutOpen (code ";") 0 line) [] b
       go false o u q = stopped o
       go true o true q = absurd (false≢true (sym e ∙ rw (o, q)))
       go true o false q =

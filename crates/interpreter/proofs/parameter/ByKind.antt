@@ -27,7 +27,7 @@ use Rattle.registers.proofs.settings.Values as values
 use Rattle.interpreter.specs.WordsParts.{wordCount}
 use Rattle.interpreter.specs.Parameter.{Word, Figure, least, greatest, asksLimits, wordsOf, limitAt, valueGiven, sideGiven, isNumber}
 use Rattle.interpreter.specs.declared.deed.Role.{Role}
-use Rattle.interpreter.specs.declared.deed.Role.the-variants.{Setting, Register, Only, Saving, Label}
+use Rattle.interpreter.specs.declared.deed.Role.the-variants.{Setting, Register, Only, Saving, Label, Waveform}
 use Rattle.interpreter.proofs.Lists.{listed, agree}
 
 -- ---- what two functions say of every row, by computing both for all settings
@@ -161,6 +161,7 @@ least-asked (Setting i) = refl
 least-asked (Register r) = refl
 least-asked (Only d) = refl
 least-asked (Saving x) = refl
+least-asked Waveform = refl
 least-asked Label = refl
 
 least-set : (r : Role) → greatest r false ≡ least r false
@@ -169,6 +170,7 @@ least-set (Setting i) = refl
 least-set (Register r) = refl
 least-set (Only d) = refl
 least-set (Saving x) = refl
+least-set Waveform = refl
 least-set Label = refl
 
 -- what the code compares
@@ -196,5 +198,7 @@ greatest-one (Register x) false = omega arith
 greatest-one (Only d) asked = omega arith
 greatest-one (Saving x) true = omega arith
 greatest-one (Saving x) false = omega arith
+greatest-one Waveform true = omega arith
+greatest-one Waveform false = omega arith
 greatest-one Label true = omega arith
 greatest-one Label false = omega arith

@@ -21,7 +21,7 @@ use Rattle.registers.specs.declared.status.Register.{Register}
 use Rattle.registers.proofs.status.Laws.{set-yes, set-no}
 use Rattle.interpreter.specs.PerformParts.{settingsChanged, settingsLeft, StatusLeft}
 use Rattle.interpreter.specs.declared.deed.Deed.{Deed}
-use Rattle.interpreter.specs.declared.deed.Deed.the-variants.{Change, Complete, Clear, Query, Inquire, Saving}
+use Rattle.interpreter.specs.declared.deed.Deed.the-variants.{Change, Complete, Clear, Query, Inquire, Saving, Block}
 use Rattle.interpreter.specs.declared.deed.Change as changes
 use Rattle.interpreter.specs.declared.deed.Change.the-variants.{Nothing as noChange, Put, Reset, Store, Label as labelled}
 use Rattle.interpreter.specs.declared.deed.Query as queries
@@ -39,13 +39,14 @@ same-settings Reset h t s = absurd (miss (0 ∷ 3 ∷ []) 2 tt h)
 same-settings (Store x n side) h t s = refl
 same-settings labelled h t s = absurd (miss (0 ∷ 3 ∷ []) 4 tt h)
 
-pub no-change : (d : Deed) → OneOf (1 ∷ 2 ∷ 3 ∷ 4 ∷ 5 ∷ []) (tagOf deeds.the-type d) → (t : Text) (s : Settings) → s ≡ settingsLeft d t s
-no-change (Change x) h t s = absurd (miss (1 ∷ 2 ∷ 3 ∷ 4 ∷ 5 ∷ []) 0 tt h)
+pub no-change : (d : Deed) → OneOf (1 ∷ 2 ∷ 3 ∷ 4 ∷ 5 ∷ 6 ∷ []) (tagOf deeds.the-type d) → (t : Text) (s : Settings) → s ≡ settingsLeft d t s
+no-change (Change x) h t s = absurd (miss (1 ∷ 2 ∷ 3 ∷ 4 ∷ 5 ∷ 6 ∷ []) 0 tt h)
 no-change Complete h t s = refl
 no-change Clear h t s = refl
 no-change (Query q) h t s = refl
 no-change (Inquire q) h t s = refl
 no-change (Saving x p) h t s = refl
+no-change (Block here) h t s = refl
 
 -- ---- a text that is within its limits is stored
 

@@ -17,7 +17,7 @@ use Rattle.registers.specs.declared.rounding.Side.{Side}
 use Rattle.interpreter.specs.Box.{Core}
 use Rattle.interpreter.specs.Perform.{isOutput, blocked, conflicting, permitted}
 use Rattle.interpreter.specs.declared.deed.Deed.{Deed}
-use Rattle.interpreter.specs.declared.deed.Deed.the-variants.{Change, Complete, Clear, Query, Inquire, Saving}
+use Rattle.interpreter.specs.declared.deed.Deed.the-variants.{Change, Complete, Clear, Query, Inquire, Saving, Block}
 use Rattle.interpreter.specs.declared.deed.Saving as savings
 use Rattle.interpreter.specs.declared.deed.Change as changes
 use Rattle.interpreter.specs.declared.deed.Change.the-variants.{Nothing, Put, Reset, Store, Label as labelled}
@@ -116,11 +116,12 @@ free-change Reset h c = absurd (miss (0 ∷ 3 ∷ []) 2 tt h)
 free-change (Store x n side) h c = refl
 free-change labelled h c = absurd (miss (0 ∷ 3 ∷ []) 4 tt h)
 
-pub free-other : (d : Deed) → OneOf (1 ∷ 2 ∷ 3 ∷ 4 ∷ []) (tagOf deeds.the-type d) → (c : Core) → permitted d c ≡ check 221 true
+pub free-other : (d : Deed) → OneOf (1 ∷ 2 ∷ 3 ∷ 4 ∷ 6 ∷ []) (tagOf deeds.the-type d) → (c : Core) → permitted d c ≡ check 221 true
 unfolding permitted check _>>_
-free-other (Change x) h c = absurd (miss (1 ∷ 2 ∷ 3 ∷ 4 ∷ []) 0 tt h)
+free-other (Change x) h c = absurd (miss (1 ∷ 2 ∷ 3 ∷ 4 ∷ 6 ∷ []) 0 tt h)
 free-other Complete h c = refl
 free-other Clear h c = refl
 free-other (Query q) h c = refl
 free-other (Inquire q) h c = refl
-free-other (Saving x p) h c = absurd (miss (1 ∷ 2 ∷ 3 ∷ 4 ∷ []) 5 tt h)
+free-other (Saving x p) h c = absurd (miss (1 ∷ 2 ∷ 3 ∷ 4 ∷ 6 ∷ []) 5 tt h)
+free-other (Block here) h c = refl

@@ -11,9 +11,9 @@ use Rattle.registers.specs.declared.error.Error.the-variants.{QueryInterrupted}
 use Rattle.registers.proofs.status.Meaning.{raised-trouble, raised-registers, raised-queued}
 use Rattle.registers.specs.Queue.{most}
 use Rattle.registers.proofs.Tests.{front-empty}
-use Rattle.interpreter.specs.Box.{Memory, raise}
+use Rattle.interpreter.specs.Box.{raise}
 use Rattle.interpreter.specs.Line.{refuse, interrupted}
-use Rattle.interpreter.specs.PresentParts.{boxIn, boxAt, raisedWith}
+use Rattle.interpreter.specs.PresentParts.{Around, boxIn, boxAt, raisedWith}
 use Rattle.interpreter.specs.declared.present.Present.{Present}
 
 module _ (e : Error) (p : Present) (long : length (p .status .errors) ≡ most) where
@@ -21,7 +21,7 @@ module _ (e : Error) (p : Present) (long : length (p .status .errors) ≡ most) 
   unfolding raisedWith
   raised-short h = raised-queued (numberOf e) (p .status) long h
 
-module _ (e : Error) (p : Present) (m : Memory) (long : length (p .status .errors) ≡ most) where
+module _ (e : Error) (p : Present) (m : Around) (long : length (p .status .errors) ≡ most) where
   pub raised-box : (a : Text) → boxIn (raisedWith e p) a m ≡ raise (numberOf e) (boxIn p a m)
   unfolding raisedWith
   raised-box a = rw (raised-trouble (numberOf e) (p .status) long, raised-registers (numberOf e) (p .status) long)
@@ -37,7 +37,7 @@ module _ (e : Error) (p : Present) (m : Memory) (long : length (p .status .error
 
 -- ---- an answer that waits
 
-module _ (p : Present) (out : Text) (m : Memory) where
+module _ (p : Present) (out : Text) (m : Around) where
   pub none-waits : p .answered ≡ 0 → boxIn p [] m ≡ interrupted (boxAt p out m)
   unfolding interrupted if_then_else_
   none-waits e = rw e

@@ -23,7 +23,7 @@ use Rattle.registers.proofs.settings.Values as values
 use Rattle.interpreter.specs.ReplyParts.{ordinary, textOf, RepliesWith, ReplyTo}
 use Rattle.interpreter.specs.Parameter.{wordsOf, limitWords}
 use Rattle.interpreter.specs.declared.deed.Deed.{Deed}
-use Rattle.interpreter.specs.declared.deed.Deed.the-variants.{Change, Complete, Clear, Query, Inquire, Saving}
+use Rattle.interpreter.specs.declared.deed.Deed.the-variants.{Change, Complete, Clear, Query, Inquire, Saving, Block}
 use Rattle.interpreter.specs.declared.present.Present.{Present}
 use Rattle.interpreter.specs.declared.reply.Reply.{Reply}
 use Rattle.interpreter.specs.declared.reply.Reply.the-variants.{Nothing, Whole as said-whole}
@@ -80,16 +80,17 @@ word-row i is e = go (ltb i count) refl
         let z : _≡_ {A = ℕ} 0 1 = cc in
         absurd (omega arith)
 
--- ---- a deed without an answer is a change, *OPC, *CLS, *SAV or *RCL
+-- ---- a deed without an answer is a change, *OPC, *CLS, *SAV, *RCL or a block
 
-pub nothing-said : (d : Deed) → OneOf (0 ∷ 1 ∷ 2 ∷ 5 ∷ []) (tagOf deeds.the-type d) → (p : Present) (answers : Bool)
+pub nothing-said : (d : Deed) → OneOf (0 ∷ 1 ∷ 2 ∷ 5 ∷ 6 ∷ []) (tagOf deeds.the-type d) → (p : Present) (answers : Bool)
     → ReplyTo d p answers Nothing
 nothing-said (Change x) h p answers = refl
 nothing-said Complete h p answers = refl
 nothing-said Clear h p answers = refl
-nothing-said (Query q) h p answers = absurd (miss (0 ∷ 1 ∷ 2 ∷ 5 ∷ []) 3 tt h)
-nothing-said (Inquire q) h p answers = absurd (miss (0 ∷ 1 ∷ 2 ∷ 5 ∷ []) 4 tt h)
+nothing-said (Query q) h p answers = absurd (miss (0 ∷ 1 ∷ 2 ∷ 5 ∷ 6 ∷ []) 3 tt h)
+nothing-said (Inquire q) h p answers = absurd (miss (0 ∷ 1 ∷ 2 ∷ 5 ∷ 6 ∷ []) 4 tt h)
 nothing-said (Saving x n) h p answers = refl
+nothing-said (Block here) h p answers = refl
 
 -- ---- any deed but *SAV and *RCL
 
@@ -100,3 +101,4 @@ ordinary-other Clear h = refl
 ordinary-other (Query q) h = refl
 ordinary-other (Inquire q) h = refl
 ordinary-other (Saving x n) h = absurd (miss (0 ∷ 1 ∷ 2 ∷ 3 ∷ 4 ∷ []) 5 tt h)
+ordinary-other (Block here) h = absurd (miss (0 ∷ 1 ∷ 2 ∷ 3 ∷ 4 ∷ []) 6 tt h)

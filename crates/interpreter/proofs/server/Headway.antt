@@ -8,9 +8,9 @@ use native.Mathlib.Omega.{arith}
 use lib.Dec.{leb}
 use lib.ListN.{length, drop}
 use Rattle.registers.specs.Text.{Text, empty}
-use Rattle.interpreter.specs.Box.{Memory, rightSize, mostAnswer}
+use Rattle.interpreter.specs.Box.{Memory, rightSize, mostAnswer, noLine}
 use Rattle.interpreter.specs.Events.{happens, received}
-use Rattle.interpreter.specs.State.{possibleState}
+use Rattle.interpreter.specs.State.{boxOf, possibleState}
 use Rattle.interpreter.specs.FlowParts.{firstLine}
 use Rattle.interpreter.specs.Server.{linesOf, Service, servedLine, serves, begun, Serves}
 use Rattle.interpreter.specs.declared.state.State.{State}
@@ -35,15 +35,15 @@ serves-read s (l ∷ ls) =
 
 module _ (s t : State) (m n : Memory) (input output left : Text) (number read written : ℕ) (w : Serves s m input output number read written t n left)
     (q : rightSize m ≡ true) (p : possibleState s ≡ true) where
-  is : read ≡ serves (begun s m output) (linesOf input) .read
+  is : read ≡ serves (begun s m output) (linesOf (boxOf s m .core .line) input) .read
   is = ap (λ (v : Service). v .read) (w .possible q p .3)
 
   pub reads-within : read ≤ length input
-  reads-within = let most = serves-read (begun s m output) (linesOf input) .1 in let all = lines-total input in rw is (omega (arith, most, all))
+  reads-within = let most = serves-read (begun s m output) (linesOf (boxOf s m .core .line) input) .1 in let all = lines-total input (boxOf s m .core .line) in rw is (omega (arith, most, all))
 
   pub reads-some : mostAnswer ≤ length output → 0 < length input → 0 < read
   reads-some room some =
-      let l = firstLine input in
-      let more = linesOf (drop (length l) input) in
-      rw (is, lines-first input some, serves-on (begun s m output) l more room)
-      (omega (arith, serves-read (servedLine (begun s m output) l) more .0, line-read (begun s m output) l, first-some input some))
+      let l = firstLine (boxOf s m .core .line) input in
+      let more = linesOf noLine (drop (length l) input) in
+      rw (is, lines-first input (boxOf s m .core .line) some, serves-on (begun s m output) l more room)
+      (omega (arith, serves-read (servedLine (begun s m output) l) more .0, line-read (begun s m output) l, first-some input (boxOf s m .core .line) some))

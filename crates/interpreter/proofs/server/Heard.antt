@@ -6,7 +6,7 @@ use mathlib.Core.Bool.{Bool, true, false}
 use mathlib.Core.List.{List, [], _∷_, _++_, append-assoc, append-nil, flatten}
 use Prim.Native.Nat.{ℕ, _+_, _≤_}
 use native.Mathlib.Omega.{arith}
-use lib.Dec.{eqb, leb, ltb}
+use lib.Dec.{eqb, leb}
 use lib.ListN as L
 use lib.ListN.{length, drop}
 use borrow.Author.Tests.{leb-true, le-leb}
@@ -14,12 +14,12 @@ use Rattle.registers.specs.Text.{Text, if_then_else_, empty}
 use Rattle.registers.specs.Settings.{AsLong}
 use Rattle.registers.proofs.Tests.{and-true}
 use Rattle.interpreter.specs.Cuts.{joinFirst}
-use Rattle.interpreter.specs.Box.{Memory, rightSize, Core, Box, answerIs, mostLine, mostAnswer}
-use Rattle.interpreter.specs.Line.{held, byte, piece}
+use Rattle.interpreter.specs.Box.{Memory, rightSize, Box, answerIs, mostAnswer, Line, noLine}
+use Rattle.interpreter.specs.Line.{byte, piece, grown, endsLine}
 use Rattle.interpreter.specs.Events.{Event, received, take as takes, result, Happened, happened, happens, taken, after, results}
 use Rattle.interpreter.specs.State.{boxOf, possibleState}
 use Rattle.interpreter.specs.Histories.{resultsOf, answers, sent, copied}
-use Rattle.interpreter.specs.Server.{linesOf, Service, service, tookAfter, servedLine, serves, heardLine, heard, WholeLines, takingFirst, eventsOf, hearing, begun, Serves}
+use Rattle.interpreter.specs.Server.{linesOf, linesTo, lineAfter, Service, service, tookAfter, servedLine, serves, heardLine, heard, WholeLines, takingFirst, eventsOf, hearing, begun, Serves}
 use Rattle.interpreter.specs.Calls.{Brings, ChunkHistory}
 use Rattle.interpreter.specs.declared.state.State.{State}
 use Rattle.interpreter.proofs.Choices.{if-elim}
@@ -28,6 +28,8 @@ use Rattle.interpreter.proofs.Bounds.{Fit, dropped-fit}
 use Rattle.interpreter.proofs.Possible.{event-fit, fit-from}
 use Rattle.interpreter.proofs.state.Records.{box-from}
 use Rattle.interpreter.proofs.server.Chunks.{line-fits, serves-fit}
+use Rattle.interpreter.proofs.line.Pieces.{byte-on}
+use Rattle.interpreter.proofs.server.Laws.{byte-ends, byte-line}
 use Rattle.interpreter.proofs.server.Headway.{line-read}
 use Rattle.interpreter.proofs.server.Bytes.{total, first-bytes, first-lines, first-whole}
 
@@ -158,27 +160,27 @@ module _ (s t : State) (m k : Memory) (input output left : Text) (number read wr
   fits : Fit mostAnswer (boxOf s m)
   fits = fit-from (boxOf s m) long (box-from s m p)
 
-  is : service (boxOf t k) read (L.take written left) (drop written left) ≡ serves (begun s m output) (linesOf input)
+  is : service (boxOf t k) read (L.take written left) (drop written left) ≡ serves (begun s m output) (linesTo (boxOf s m) input)
   is = w .possible q p .3
 
-  went : Goes (begun s m output) (linesOf input) (eventsOf (begun s m output) (linesOf input)) (service (boxOf t k) read (L.take written left) (drop written left))
-  went = rw is (goes (begun s m output) (linesOf input) fits)
+  went : Goes (begun s m output) (linesTo (boxOf s m) input) (eventsOf (begun s m output) (linesTo (boxOf s m) input)) (service (boxOf t k) read (L.take written left) (drop written left))
+  went = rw is (goes (begun s m output) (linesTo (boxOf s m) input) fits)
 
   n : read ≡ total (went .done)
   n = omega (arith, went .read)
 
   pub left-long : AsLong (t .settings)
-  left-long = rw (ap (λ (v : Service). v .box .core .settings) is) (serves-fit (begun s m output) (linesOf input) fits .core .long)
+  left-long = rw (ap (λ (v : Service). v .box .core .settings) is) (serves-fit (begun s m output) (linesTo (boxOf s m) input) fits .core .long)
 
   -- what was read was heard, in whole lines
-  pub part-heard : WholeLines read input × (boxOf t k ≡ heard (boxOf s m) (linesOf (L.take read input)))
+  pub part-heard : WholeLines (boxOf s m .core .line) read input × (boxOf t k ≡ heard (boxOf s m) (linesTo (boxOf s m) (L.take read input)))
   part-heard =
-      (rw n (first-whole input (went .done) (went .rest) (went .is)), rw (n, first-lines input (went .done) (went .rest) (went .is)) (went .hears))
+      (rw n (first-whole input (boxOf s m .core .line) (went .done) (went .rest) (went .is)), rw (n, first-lines input (boxOf s m .core .line) (went .done) (went .rest) (went .is)) (went .hears))
 
   -- a call is a history of pieces and takes: what it answers and leaves is what those events answer and leave
-  pub serves-history : ChunkHistory s t m k input left read written (eventsOf (begun s m output) (linesOf input))
+  pub serves-history : ChunkHistory s t m k input left read written (eventsOf (begun s m output) (linesTo (boxOf s m) input))
   serves-history =
-      record { events = rw (n, first-bytes input (went .done) (went .rest) (went .is)) (went .events); answers = went .answers }
+      record { events = rw (n, first-bytes input (boxOf s m .core .line) (went .done) (went .rest) (went .is)) (went .events); answers = went .answers }
 
 -- ---- lines heard
 
@@ -198,27 +200,57 @@ heard-history room long b (l ∷ ls) f =
 
 -- ---- however the bytes are cut: where no answer waits, chunks heard one after the other are heard as one
 
-plain-answer : (b : Box) (x : ℕ) → eqb x 10 ≡ false → byte b x .core .answer ≡ b .core .answer
-unfolding byte held if_then_else_
-plain-answer b x e =
-    rw e (if-elim (λ (c : Core). c .answer ≡ b .core .answer) (ltb (length (b .core .line)) mostLine) (λ _. refl) (λ _. refl))
+plain-answer : (b : Box) (x : ℕ) → endsLine x (b .core .line) ≡ false → byte b x .core .answer ≡ b .core .answer
+plain-answer b x e = ap (λ (c : Box). c .core .answer) (byte-on b x e)
+
+ended-line : (b : Box) (x : ℕ) → endsLine x (b .core .line) ≡ true → heardLine b (x ∷ []) .core .line ≡ noLine
+unfolding happens piece
+ended-line b x e = byte-ends b x e
 
 joined-heard : (b : Box) (x : ℕ) (ls : List Text) → byte b x .core .answer ≡ [] → heard b (joinFirst x ls) ≡ heard (byte b x) ls
 unfolding heard happens piece
 joined-heard b x [] e = no-answer (byte b x) e
 joined-heard b x (l ∷ ls) e = refl
 
-pub heard-on : (xs ys : Text) (b : Box) → b .core .answer ≡ [] → heard b (linesOf (xs ++ ys)) ≡ heard (heard b (linesOf xs)) (linesOf ys)
-unfolding linesOf heard if_then_else_
-heard-on [] ys b e = refl
-heard-on (x ∷ xs) ys b e = go (eqb x 10) refl (λ c k. heard-on xs ys c k)
+-- of the line that has come it tells the same whether an answer waits or not
+joined-line : (b : Box) (x : ℕ) (ls : List Text) → heard b (joinFirst x ls) .core .line ≡ heard (byte b x) ls .core .line
+unfolding heard happens piece
+joined-line b x [] = refl
+joined-line b x (l ∷ ls) = refl
+
+-- the line of the box after bytes are heard
+pub heard-line : (xs : Text) (b : Box) → heard b (linesTo b xs) .core .line ≡ lineAfter (b .core .line) xs
+unfolding linesOf lineAfter heard if_then_else_
+heard-line [] b = refl
+heard-line (x ∷ xs) b = go (endsLine x (b .core .line)) refl (λ c. heard-line xs c)
   where
-    go : (t : Bool) → eqb x 10 ≡ t → ((c : Box) → c .core .answer ≡ [] → heard c (linesOf (xs ++ ys)) ≡ heard (heard c (linesOf xs)) (linesOf ys))
-        → heard b (if t then (x ∷ []) ∷ linesOf (xs ++ ys) else joinFirst x (linesOf (xs ++ ys)))
-        ≡ heard (heard b (if t then (x ∷ []) ∷ linesOf xs else joinFirst x (linesOf xs))) (linesOf ys)
-    go true q more = more (heardLine b (x ∷ [])) refl
+    go : (t : Bool) → endsLine x (b .core .line) ≡ t → ((c : Box) → heard c (linesTo c xs) .core .line ≡ lineAfter (c .core .line) xs)
+        → heard b (if t then (x ∷ []) ∷ linesOf noLine xs else joinFirst x (linesOf (grown x (b .core .line)) xs)) .core .line
+        ≡ (if t then lineAfter noLine xs else lineAfter (grown x (b .core .line)) xs)
+    go true q more =
+        let c = heardLine b (x ∷ []) in
+        subst (λ (l : Line). heard c (linesOf l xs) .core .line ≡ lineAfter l xs) (ended-line b x q) (more c)
+    go false q more =
+        joined-line b x (linesOf (grown x (b .core .line)) xs)
+        ∙ subst (λ (l : Line). heard (byte b x) (linesOf l xs) .core .line ≡ lineAfter l xs) (byte-line b x q) (more (byte b x))
+
+pub heard-on : (xs ys : Text) (b : Box) → b .core .answer ≡ []
+    → heard b (linesTo b (xs ++ ys)) ≡ heard (heard b (linesTo b xs)) (linesOf (lineAfter (b .core .line) xs) ys)
+unfolding linesOf lineAfter heard if_then_else_
+heard-on [] ys b e = refl
+heard-on (x ∷ xs) ys b e = go (endsLine x (b .core .line)) refl (λ c k. heard-on xs ys c k)
+  where
+    go : (t : Bool) → endsLine x (b .core .line) ≡ t
+        → ((c : Box) → c .core .answer ≡ [] → heard c (linesTo c (xs ++ ys)) ≡ heard (heard c (linesTo c xs)) (linesOf (lineAfter (c .core .line) xs) ys))
+        → heard b (if t then (x ∷ []) ∷ linesOf noLine (xs ++ ys) else joinFirst x (linesOf (grown x (b .core .line)) (xs ++ ys)))
+        ≡ heard (heard b (if t then (x ∷ []) ∷ linesOf noLine xs else joinFirst x (linesOf (grown x (b .core .line)) xs)))
+        (linesOf (if t then lineAfter noLine xs else lineAfter (grown x (b .core .line)) xs) ys)
+    go true q more =
+        let c = heardLine b (x ∷ []) in
+        subst (λ (l : Line). heard c (linesOf l (xs ++ ys)) ≡ heard (heard c (linesOf l xs)) (linesOf (lineAfter l xs) ys)) (ended-line b x q) (more c refl)
     go false q more =
         let none = plain-answer b x q ∙ e in
-        joined-heard b x (linesOf (xs ++ ys)) none
-        ∙ more (byte b x) none
-        ∙ ap (λ (c : Box). heard c (linesOf ys)) (sym (joined-heard b x (linesOf xs) none))
+        let k = byte-line b x q in
+        joined-heard b x (linesOf (grown x (b .core .line)) (xs ++ ys)) none
+        ∙ subst (λ (l : Line). heard (byte b x) (linesOf l (xs ++ ys)) ≡ heard (heard (byte b x) (linesOf l xs)) (linesOf (lineAfter l xs) ys)) k (more (byte b x) none)
+        ∙ ap (λ (c : Box). heard c (linesOf (lineAfter (grown x (b .core .line)) xs) ys)) (sym (joined-heard b x (linesOf (grown x (b .core .line)) xs) none))

@@ -9,7 +9,7 @@ use lib.ListN.{length, take}
 use lib.Seq.{length-take-le}
 use Rattle.registers.specs.Text.{if_then_else_}
 use Rattle.registers.specs.Queue.{most}
-use Rattle.interpreter.specs.Box.{Memory, Box, mostLine, mostAnswer}
+use Rattle.interpreter.specs.Box.{Memory, Box, mostLine, mostAnswer, mostBlock}
 use Rattle.interpreter.specs.Events.{Event, Result, Happened}
 use Rattle.interpreter.specs.State.{numberOf, boxOf, possibleState, admitted, rightly, Happens, Started}
 use Rattle.interpreter.specs.declared.state.State.{State}
@@ -64,6 +64,7 @@ started-unique t t′ p q m = p .first m ∙ sym (q .first m)
 -- the arrays of a state are as long as the code makes them
 pub record Arrays (s : State) : Type 0 where
   pub line : length (s .line) ≡ mostLine
+  pub block : length (s .block) ≡ mostBlock
   pub answer : length (s .answer) ≡ mostAnswer
   pub errors : length (s .status .errors) ≡ most
 
@@ -72,13 +73,16 @@ front-long l n k e h = length-take-le n l (omega (arith, e, h))
 
 -- two states that could be the box's and mean the same have the same stored lengths, so that they differ only beyond them
 pub lengths-unique : (s t : State) (m n : Memory) → Arrays s → Arrays t → possibleState s ≡ true → possibleState t ≡ true → boxOf s m ≡ boxOf t n
-    → (s .filled ≡ t .filled) × (s .waiting ≡ t .waiting) × (s .status .queued ≡ t .status .queued)
+    → (s .filled ≡ t .filled) × (s .held ≡ t .held) × (s .waiting ≡ t .waiting) × (s .status .queued ≡ t .status .queued)
 lengths-unique s t m n a b p q e =
     let w = short-from s p in
     let x = short-from t q in (
       sym (front-long (s .line) (s .filled) mostLine (a .line) (w .filled))
-          ∙ ap (λ (y : Box). length (y .core .line)) e
+          ∙ ap (λ (y : Box). length (y .core .line .text)) e
           ∙ front-long (t .line) (t .filled) mostLine (b .line) (x .filled),
+      sym (front-long (s .block) (s .held) mostBlock (a .block) (w .held))
+          ∙ ap (λ (y : Box). length (y .core .line .block)) e
+          ∙ front-long (t .block) (t .held) mostBlock (b .block) (x .held),
       sym (front-long (s .answer) (s .waiting) mostAnswer (a .answer) (w .waiting))
           ∙ ap (λ (y : Box). length (y .core .answer)) e
           ∙ front-long (t .answer) (t .waiting) mostAnswer (b .answer) (x .waiting),

@@ -5,13 +5,14 @@ use mathlib.Core.Bool.{Bool, true, false, _&&_, false≢true}
 use mathlib.Core.List.{List, [], _∷_}
 use Prim.Native.Nat.{ℕ, suc, _+_, _-_, _≤_, _<_}
 use Prim.Native.String.{String}
-use lib.Dec.{leb, ltb}
+use Prim.Native.Char.{code}
+use lib.Dec.{leb, ltb, eqb}
 use lib.IntN.{ℤ, pos, negsuc, natAbs}
 use lib.Signed.{leZ}
 use native.Mathlib.Omega.{arith}
 use borrow.Author.Tests.{leb-true, ltb-true}
 use lib.ListN.{length}
-use Rattle.registers.specs.Text.{Text, if_then_else_, white, visible, every, after}
+use Rattle.registers.specs.Text.{Text, if_then_else_, white, visible, letter, every, first, after}
 use Rattle.registers.specs.Label.{mostText, textIn}
 use Rattle.registers.specs.Check.{refused, passed}
 use Rattle.registers.specs.Queue.{mayBeQueued, queueable}
@@ -27,21 +28,22 @@ use Rattle.registers.specs.declared.suffix.Quantity.the-variants.{Nothing as no
 use Rattle.registers.proofs.Tests.{and-both}
 use Rattle.interpreter.specs.Header.{Place, header, placed, bodyOf, byFirst}
 use Rattle.interpreter.specs.Rows.{Row, rows, settingRows, otherRows, findRow, monitor, brightness, secondOf, onSecond, onChannel, findRole}
-use Rattle.interpreter.specs.Parameter.{parameters, greatest, labelDeed, findWord, parameter, settingDeed, limitDeed, registerGiven, registerDeed, deedOf, storeGiven, placeGiven, savingDeed, readFigure, readWord}
+use Rattle.interpreter.specs.Parameter.{parameters, greatest, labelDeed, findWord, parameter, settingDeed, limitDeed, registerGiven, registerDeed, deedOf, noBlock, isBlock, blockTo, given, storeGiven, placeGiven, savingDeed, readFigure, readWord}
 use Rattle.interpreter.specs.Unit.{raisable, Read, parameterText, readUnit}
 use Rattle.interpreter.specs.Cuts.{trim}
 use Rattle.interpreter.specs.ParameterParts.{partsOf}
 use Rattle.interpreter.specs.UnitParts.{Allowed, AllowedLabel, AllowedText}
 use Rattle.interpreter.specs.declared.deed.Deed.{Deed}
-use Rattle.interpreter.specs.declared.deed.Deed.the-variants.{Change, Complete, Clear, Query, Inquire, Saving}
+use Rattle.interpreter.specs.declared.deed.Deed.the-variants.{Change, Complete, Clear, Query, Inquire, Saving, Block}
 use Rattle.interpreter.specs.declared.deed.Change as changes
 use Rattle.interpreter.specs.declared.deed.Change.the-variants.{Nothing, Put, Reset, Store, Label as labelled}
 use Rattle.interpreter.specs.declared.deed.Role.{Role}
-use Rattle.interpreter.specs.declared.deed.Role.the-variants.{Setting as setting, Register as register, Only, Saving as saving, Label as label}
+use Rattle.interpreter.specs.declared.deed.Role.the-variants.{Setting as setting, Register as register, Only, Saving as saving, Label as label, Waveform as waveform}
 use Rattle.interpreter.specs.declared.deed.Saving as savings
 use Rattle.interpreter.proofs.parameter.Cuts.{parts-one}
 use Rattle.interpreter.proofs.parameter.ByKind.{greatest-one}
 use Rattle.interpreter.proofs.unit.Trims.{trim-twice}
+use Rattle.interpreter.proofs.Choices.{if-elim}
 use Rattle.interpreter.proofs.Checks.{Holds, Any, refuses-by, passes, hold-bind, hold-check, hold-if, at-passed, at-refused}
 
 -- ---- each reader refuses by such a number
@@ -141,6 +143,7 @@ Proper s (setting i) = i < count
 Proper s (register r) = Unit {0}
 Proper s (Only d) = Allowed s d
 Proper s (saving x) = Unit {0}
+Proper s waveform = Unit {0}
 Proper s label = Unit {0}
 
 abbrev EachProper : Settings → List Row → Type 0
@@ -166,12 +169,14 @@ textless Clear = true
 textless (Query q) = true
 textless (Inquire q) = true
 textless (Saving x p) = true
+textless (Block here) = true
 
 abbrev plain : Role → Bool
 plain (setting i) = true
 plain (register r) = true
 plain (Only d) = textless d
 plain (saving x) = true
+plain waveform = true
 plain label = true
 
 rows-plain : every (λ (r : Row). plain (r .role)) rows ≡ true
@@ -192,6 +197,7 @@ any-text Clear e t = tt
 any-text (Query q) e t = tt
 any-text (Inquire q) e t = tt
 any-text (Saving x p) e t = tt
+any-text (Block here) e t = tt
 
 abbrev Known : Settings → Role → Type 0
 Known s r = Proper s r × (plain r ≡ true)
@@ -221,6 +227,7 @@ second-known s (setting i) = hold-bind (λ (j : ℕ). j < count) (Known s) _ _ (
 second-known s (register r) = refuses-by refl
 second-known s (Only d) = refuses-by refl
 second-known s (saving x) = refuses-by refl
+second-known s waveform = refuses-by refl
 second-known s label = refuses-by refl
 
 role-known : (s : Settings) (star : Bool) (names : List Text) (asked : Bool) → Holds (Known s) (findRole star names asked)
@@ -228,6 +235,12 @@ unfolding findRole onChannel mayBeQueued queueable
 role-known s star names asked =
     hold-bind (Known s) (Known s) _ _ (find-known s star names asked rows (rows-proper s) rows-plain) (λ r p.
     hold-if (Known s) _ _ _ (passes p) (hold-if (Known s) _ _ _ (second-known s r) (refuses-by refl)))
+
+other-known : (t : Text) → raisable (noBlock t) ≡ true
+unfolding noBlock mayBeQueued queueable
+other-known t =
+    if-elim (λ (n : ℕ). raisable n ≡ true) (letter (first t)) (λ _. refl)
+    (λ _. if-elim (λ (n : ℕ). raisable n ≡ true) (eqb (first t) (code "#")) (λ _. refl) (λ _. refl))
 
 -- of a text that is no parameter, or one
 deed-allowed : (s : Settings) (r : Role) (asked : Bool) (t : Text) → Known s r → Holds (Permits s (textIn t)) (deedOf s r asked (partsOf t))
@@ -245,14 +258,30 @@ deed-allowed s label false [] p = refuses-by refl
 deed-allowed s label false (b ∷ t) p = label-allowed s (b ∷ t)
 deed-allowed s (saving x) asked [] p = refuses-by refl
 deed-allowed s (saving x) asked (b ∷ t) p = place-allowed s _ x (b ∷ t)
+deed-allowed s waveform asked [] p = refuses-by (other-known [])
+deed-allowed s waveform asked (b ∷ t) p = refuses-by (other-known (b ∷ t))
+
+block-allowed : (s : Settings) (x : Text) (r : Role) (t : Text) → Holds (Permits s x) (blockTo r t)
+unfolding mayBeQueued queueable
+block-allowed s x (setting i) t = passes (tt, tt)
+block-allowed s x (register r) t = passes (tt, tt)
+block-allowed s x (Only d) t = passes (tt, tt)
+block-allowed s x (saving y) t = passes (tt, tt)
+block-allowed s x label t = passes (tt, tt)
+block-allowed s x waveform t = hold-check (Permits s x) 161 _ _ refl (λ _. passes (tt, tt))
+
+given-allowed : (s : Settings) (r : Role) (asked : Bool) (t : Text) → Known s r → Holds (Permits s (textIn t)) (given s r asked (partsOf t))
+unfolding given if_then_else_
+given-allowed s r asked [] p = deed-allowed s r asked [] p
+given-allowed s r asked (b ∷ t) p = hold-if (Permits s (textIn (b ∷ t))) (isBlock (b ∷ t)) _ _ (block-allowed s _ r (b ∷ t)) (deed-allowed s r asked (b ∷ t) p)
 
 -- ---- the whole unit
 
 -- check 4 lets at most one parameter pass, which is the whole text
 deed-reads : (s : Settings) (r : Role) (asked : Bool) (t : Text) → trim t ≡ t → Known s r → length (parameters t) ≤ greatest r asked
-    → Holds (Permits s (textIn t)) (deedOf s r asked (parameters t))
+    → Holds (Permits s (textIn t)) (given s r asked (parameters t))
 deed-reads s r asked t e p h =
-    subst (λ (ps : List Text). Holds (Permits s (textIn t)) (deedOf s r asked ps)) (parts-one t e (omega (arith, greatest-one r asked))) (deed-allowed s r asked t p)
+    subst (λ (ps : List Text). Holds (Permits s (textIn t)) (given s r asked ps)) (parts-one t e (omega (arith, greatest-one r asked))) (given-allowed s r asked t p)
 
 reads : (s : Settings) (path : List Text) (u : Text) → Holds (λ (r : Read). Permits s (r .text) (r .deed)) (readUnit s path u)
 unfolding readUnit mayBeQueued queueable

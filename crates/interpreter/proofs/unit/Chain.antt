@@ -18,7 +18,7 @@ use Rattle.interpreter.specs.Header.{Header, header, isCommon, fullNames
 use Rattle.interpreter.specs.HeaderParts.{Holds, FoundRow, LookedUp}
 use Rattle.interpreter.specs.Rows.{findRole}
 use Rattle.interpreter.specs.DeedParts.{placeCount, nowhere, noChannel}
-use Rattle.interpreter.specs.Parameter.{parameters, noneEmpty, least, greatest, deedOf}
+use Rattle.interpreter.specs.Parameter.{parameters, noneEmpty, least, greatest, given}
 use Rattle.interpreter.specs.Unit.{allowed, Read, headerText, parameterText, readUnit}
 use Rattle.interpreter.specs.ParameterParts.{meantDeed}
 use Rattle.interpreter.specs.UnitParts.{roleFound, decided, decidedText, headerRefusal, partOf, SpanOf, UnitRead}
@@ -92,14 +92,14 @@ module _ (s : Settings) (asked : Bool) (ps : List Text) where
 
   -- the checks after the header, with what is made of the deed
   abbrev checksWith : Checked Role → (Deed → Checked Read) → Checked Read
-  checksWith m k = full >> m >>= λ r. few r >> enough r >> deedOf s r asked ps >>= k
+  checksWith m k = full >> m >>= λ r. few r >> enough r >> given s r asked ps >>= k
 
 decided-then : (s : Settings) (row : ℕ) (asked : Bool) (t : Text) (k : Deed → Checked Read)
     → (decided s row asked t >>= k) ≡ checksWith s asked (parameters t) (roleFound row) k
 unfolding decided
 decided-then s row asked t k =
     let ps = parameters t in
-    joined (full s asked ps) (roleFound row) (few s asked ps) (enough s asked ps) (λ r. deedOf s r asked ps) k
+    joined (full s asked ps) (roleFound row) (few s asked ps) (enough s asked ps) (λ r. given s r asked ps) k
 
 -- what the checks after the header leave of a unit
 pub record Headed (s : Settings) (path : List Text) (u : Text) (st row used : ℕ) (asked : Bool) (end : ℕ) (keys : List ℕ) : Type 0 where

@@ -17,7 +17,7 @@ use Rattle.interpreter.specs.DeedParts.{rowCount, rowRole, placeCount, p
 use Rattle.interpreter.specs.RowsParts.{rowOf}
 use Rattle.interpreter.specs.UnitParts.{roleFound}
 use Rattle.interpreter.specs.declared.deed.Role.{Role}
-use Rattle.interpreter.specs.declared.deed.Role.the-variants.{Setting, Register, Only, Saving, Label}
+use Rattle.interpreter.specs.declared.deed.Role.the-variants.{Setting, Register, Only, Saving, Label, Waveform}
 use Rattle.interpreter.proofs.Lists.{listed, agree}
 use Rattle.interpreter.proofs.header.Laws.{found-none, found-role}
 
@@ -62,6 +62,7 @@ settled place (Setting i) = eqb i place && ltb place count
 settled place (Register r) = true
 settled place (Only d) = true
 settled row (Saving x) = true
+settled row Waveform = true
 settled row Label = true
 
 settled-at : (place : ℕ) → place < placeCount → settled place (roleAt place) ≡ true

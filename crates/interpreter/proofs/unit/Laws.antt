@@ -9,7 +9,7 @@ use borrow.Author.Tests.{lt-ltb}
 use Rattle.registers.specs.Text.{Text, if_then_else_}
 use Rattle.registers.specs.Check.{Checked, refused, check, _>>=_, _>>_}
 use Rattle.registers.specs.declared.settings.Settings.{Settings}
-use Rattle.interpreter.specs.Parameter.{parameters, least, greatest, deedOf}
+use Rattle.interpreter.specs.Parameter.{parameters, least, greatest, given}
 use Rattle.interpreter.specs.ParameterParts.{CountedIn}
 use Rattle.interpreter.specs.DeedParts.{placeCount, nowhere, noChannel, roleAt}
 use Rattle.interpreter.specs.UnitParts.{roleFound, decided}
@@ -19,7 +19,7 @@ use Rattle.interpreter.specs.declared.parameter.Counted.{Counted}
 
 -- checks 4 to 7, once the role and the number of parameters are known
 abbrev pub checked : Settings → Role → Bool → ℕ → List Text → Checked Deed
-checked s r asked n ps = check 108 (leb n (greatest r asked)) >> check 109 (leb (least r asked) n) >> deedOf s r asked ps
+checked s r asked n ps = check 108 (leb n (greatest r asked)) >> check 109 (leb (least r asked) n) >> given s r asked ps
 
 module _ (s : Settings) (row : ℕ) (asked : Bool) (t : Text) (n : Counted) (is : CountedIn t n) where
   pub has-empty : n .full ≡ false → decided s row asked t ≡ refused 102

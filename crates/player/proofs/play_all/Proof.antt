@@ -6,11 +6,11 @@ use Rattle.player.proofs.play_all.Statement.{statement}
 use Rattle.player.proofs.play_all.Tie as tie
 
 abbrev Inv-loop : tie.InvT-loop
-Inv-loop store₀ chunk₀ line₀ out₀ player₀ turns₀ store chunk line out player turns =
-    (length store ≡ length store₀) × (length chunk ≡ length chunk₀) × (length line ≡ length line₀) × (length out ≡ length out₀)
+Inv-loop store₀ area₀ chunk₀ line₀ out₀ player₀ turns₀ store area chunk line out player turns =
+    (length store ≡ length store₀) × (length area ≡ length area₀) × (length chunk ≡ length chunk₀) × (length line ≡ length line₀) × (length out ≡ length out₀)
 
 abbrev μ-loop : tie.MeasureT-loop
-μ-loop store₀ chunk₀ line₀ out₀ player₀ turns₀ store chunk line out player turns = turns
+μ-loop store₀ area₀ chunk₀ line₀ out₀ player₀ turns₀ store area chunk line out player turns = turns
 
 pub play-all-spec : {M : Type 1} → statement M
 play-all-spec =

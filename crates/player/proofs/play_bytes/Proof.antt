@@ -7,10 +7,10 @@ use Rattle.player.proofs.play_bytes.Statement.{statement}
 use Rattle.player.proofs.play_bytes.Tie as tie
 
 abbrev Inv-loop : tie.InvT-loop
-Inv-loop store₀ line₀ out₀ bytes player₀ i₀ store line out player i = (length store ≡ length store₀) × (length line ≡ length line₀) × (length out ≡ length out₀)
+Inv-loop store₀ area₀ line₀ out₀ bytes player₀ i₀ store area line out player i = (length store ≡ length store₀) × (length area ≡ length area₀) × (length line ≡ length line₀) × (length out ≡ length out₀)
 
 abbrev μ-loop : tie.MeasureT-loop
-μ-loop store₀ line₀ out₀ bytes player₀ i₀ store line out player i = length bytes - i
+μ-loop store₀ area₀ line₀ out₀ bytes player₀ i₀ store area line out player i = length bytes - i
 
 pub play-bytes-spec : {M : Type 1} → statement M
 play-bytes-spec =

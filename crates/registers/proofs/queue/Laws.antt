@@ -14,7 +14,7 @@ use Rattle.registers.specs.Text.{every}
 use Rattle.registers.specs.Error.{numberOf}
 use Rattle.registers.specs.Queue.{most, lastPlace, among, mayBeQueued, queueable}
 use Rattle.registers.specs.declared.error.Error.{Error}
-use Rattle.registers.specs.declared.error.Error.the-variants.{InvalidCharacter, Syntax, DataType, ParameterNotAllowed, MissingParameter, UndefinedHeader, HeaderSuffix, InvalidCharacterInNumber, ExponentTooLarge, TooManyDigits, InvalidSuffix, SuffixNotAllowed, InvalidCharacterData, StringDataError, InvalidStringData, SettingsConflict, DataOutOfRange, TooMuchData, SaveRecallMemoryLost, InputBufferOverrun, QueryInterrupted, QueryUnterminated, QueryDeadlocked}
+use Rattle.registers.specs.declared.error.Error.the-variants.{InvalidCharacter, Syntax, DataType, ParameterNotAllowed, MissingParameter, UndefinedHeader, HeaderSuffix, InvalidCharacterInNumber, ExponentTooLarge, TooManyDigits, InvalidSuffix, SuffixNotAllowed, InvalidCharacterData, StringDataError, InvalidStringData, InvalidBlockData, SettingsConflict, DataOutOfRange, TooMuchData, SaveRecallMemoryLost, InputBufferOverrun, QueryInterrupted, QueryUnterminated, QueryDeadlocked}
 use Rattle.registers.proofs.Tests.{every-skip, every-miss}
 
 -- ---- the numbers that may stand there
@@ -44,6 +44,7 @@ raised-queueable SuffixNotAllowed = refl
 raised-queueable InvalidCharacterData = refl
 raised-queueable StringDataError = refl
 raised-queueable InvalidStringData = refl
+raised-queueable InvalidBlockData = refl
 raised-queueable SettingsConflict = refl
 raised-queueable DataOutOfRange = refl
 raised-queueable TooMuchData = refl

@@ -1,7 +1,7 @@
 -- A line sent to the box: its bytes are received, then the newline is served, and the answer that then waits is taken.
 use mathlib.Core.Path.{_≡_, refl, sym, _∙_, ap, subst}
 use mathlib.Core.Bool.{Bool, true, false}
-use mathlib.Core.List.{[], _∷_, _++_}
+use mathlib.Core.List.{List, [], _∷_, _++_}
 use Prim.Native.Nat.{ℕ, _≤_, _<_}
 use native.Mathlib.Omega.{arith}
 use lib.Dec.{leb}
@@ -9,17 +9,23 @@ use lib.ListN.{length, take, drop, length-take}
 use lib.Seq.{take-append-seam}
 use borrow.Author.Tests.{le-leb, leb-false, eq-eqb, eqb-true}
 use Rattle.registers.specs.Text.{Text, if_then_else_, empty}
-use Rattle.interpreter.specs.Box.{storeSize, memory, rightSize, Box, answerIs, raise, mostAnswer}
-use Rattle.interpreter.specs.Line.{piece}
+use Rattle.interpreter.specs.Box.{Memory, rightSize, Line, Box, answerIs, raise, mostAnswer}
+use Rattle.interpreter.specs.Line.{endsLine, piece}
 use Rattle.interpreter.specs.Events.{received, take as takes, Result, result, Happened, happened, taken, happens}
 use Rattle.interpreter.specs.State.{boxOf, possibleState, Happens}
 use Rattle.interpreter.specs.Server.{linesOf, Service, service, tookAfter, servedLine, serves, begun, Serves}
 use Rattle.interpreter.specs.declared.state.State.{State}
+use Rattle.interpreter.proofs.Choices.{if-elim}
 use Rattle.interpreter.proofs.Lists.{is-empty}
 use Rattle.interpreter.proofs.state.Records.{short-from}
 use Rattle.interpreter.proofs.demands.Demand2.{demand2}
 use Rattle.writer.specs.SessionParts.{SentTo}
 use Rattle.writer.specs.declared.session.Sent.{Sent}
+
+-- a newline is one line, whether it ends one or stands in a block
+newline-line : (l : Line) → linesOf l (10 ∷ []) ≡ (10 ∷ []) ∷ []
+unfolding linesOf
+newline-line l = if-elim (λ (ls : List Text). ls ≡ (10 ∷ []) ∷ []) (endsLine 10 l) (λ _. refl) (λ _. refl)
 
 -- one line served to a box, whose answer then has room
 module _ (b : Box) (room : Text) (n : ℕ) where
@@ -43,36 +49,28 @@ module _ (b : Box) (room : Text) (n : ℕ) where
       go false q true r k = (refl, take-append-seam a (drop (length a) room))
       go false q false r k = let h = leb-false (length a) (length room) r in absurd (omega arith)
 
-module _ (s s₁ s₂ : State) (store store₁ store₂ text room left : Text) (r : Result) (number read written : ℕ) (p : possibleState s ≡ true)
-    (sized : length store ≡ storeSize) (wide : mostAnswer ≤ length room)
-    (fed : Happens s (memory store) (received text) r s₁ (memory store₁))
-    (served : Serves s₁ (memory store₁) (10 ∷ []) room number read written s₂ (memory store₂) left) where
-  right : rightSize (memory store) ≡ true
-  unfolding rightSize
-  right = eq-eqb (length store) storeSize sized
-
-  long : rightSize (memory store₂) ≡ true → length store₂ ≡ storeSize
-  unfolding rightSize
-  long e = eqb-true (length store₂) storeSize e
-
+module _ (s s₁ s₂ : State) (m m₁ m₂ : Memory) (text room left : Text) (r : Result) (number read written : ℕ) (p : possibleState s ≡ true)
+    (right : rightSize m ≡ true) (wide : mostAnswer ≤ length room)
+    (fed : Happens s m (received text) r s₁ m₁)
+    (served : Serves s₁ m₁ (10 ∷ []) room number read written s₂ m₂ left) where
   abbrev come : Box
-  come = piece (boxOf s (memory store)) (text ++ 10 ∷ [])
+  come = piece (boxOf s m) (text ++ 10 ∷ [])
 
-  pub line-sent : SentTo s store text (record { state = s₂; waiting = written }) store₂ left
-  unfolding happens linesOf serves servedLine if_then_else_
+  pub line-sent : SentTo s m text (record { state = s₂; waiting = written }) m₂ left
+  unfolding happens serves servedLine if_then_else_
   line-sent =
       let f = fed .possible right p in
       let g = served .possible (f .2 ∙ right) (f .0) in
-      let at : boxOf s₁ (memory store₁) ≡ piece (boxOf s (memory store)) text = ap (λ (h : Happened). h .box) (f .1) in
-      let is : piece (boxOf s₁ (memory store₁)) (10 ∷ []) ≡ come = ap (λ (b : Box). piece b (10 ∷ [])) at ∙ sym (demand2 .parts (boxOf s (memory store)) text (10 ∷ []) .0) in
-      let whole : service (boxOf s₂ (memory store₂)) read (take written left) (drop written left) ≡ serving (piece (boxOf s₁ (memory store₁)) (10 ∷ [])) room 1 =
-      g .3 ∙ rw (le-leb mostAnswer (length room) wide) in
-      let same : service (boxOf s₂ (memory store₂)) read (take written left) (drop written left) ≡ serving come room 1 = whole ∙ ap (λ (b : Box). serving b room 1) is in
+      let at : boxOf s₁ m₁ ≡ piece (boxOf s m) text = ap (λ (h : Happened). h .box) (f .1) in
+      let is : piece (boxOf s₁ m₁) (10 ∷ []) ≡ come = ap (λ (b : Box). piece b (10 ∷ [])) at ∙ sym (demand2 .parts (boxOf s m) text (10 ∷ []) .0) in
+      let whole : service (boxOf s₂ m₂) read (take written left) (drop written left) ≡ serving (piece (boxOf s₁ m₁) (10 ∷ [])) room 1 =
+      g .3 ∙ rw (newline-line (boxOf s₁ m₁ .core .line), le-leb mostAnswer (length room) wide) in
+      let same : service (boxOf s₂ m₂) read (take written left) (drop written left) ≡ serving come room 1 = whole ∙ ap (λ (b : Box). serving b room 1) is in
       let few = short-from s₂ (g .0) .waiting in
-      let short : length (boxOf s₂ (memory store₂) .core .answer) ≤ length room = rw length-take (omega arith) in
+      let short : length (boxOf s₂ m₂ .core .answer) ≤ length room = rw length-take (omega arith) in
       let one = served-one come room 1 (subst (λ (b : Box). length (b .core .answer) ≤ length room) (ap (λ (v : Service). v .box) same) short) in
       record {
-        sized = long (g .4);
+        sized = g .4;
         possible = g .0;
         within = g .2;
         box = ap (λ (v : Service). v .box) same ∙ one .0;

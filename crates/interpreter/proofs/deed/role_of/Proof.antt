@@ -28,15 +28,15 @@ returns-2 c =
     rw (c .of-set .ensures, c .before .set-at .ensures) (rw whole at (role-of-sets (row - count - commonRows) (omega (arith, s .pre))))
 
 -- the last arm is for the one place that is left
-returns-17 : tie.Need-returns-17
+returns-18 : tie.Need-returns-18
 unfolding roleAt settingRows otherRows slots table
-returns-17 c =
+returns-18 c =
     let place = c .before .before .before .args .place - count in
     let n = c .match .rest in
-    let from-4 : 4 ≤ place = omega (arith, n .0 .0 .0 .0 .0 .0 .0 .0 .0 .0 .0 .0 .0 .1, n .0 .0 .0 .0 .0 .0 .0 .0 .0 .0 .0 .0 .1, n .0 .0 .0 .0 .0 .0 .0 .0 .0 .0 .0 .1, n .0 .0 .0 .0 .0 .0 .0 .0 .0 .0 .1) in
-    let from-8 : 8 ≤ place = omega (arith, n .0 .0 .0 .0 .0 .0 .0 .0 .0 .1, n .0 .0 .0 .0 .0 .0 .0 .0 .1, n .0 .0 .0 .0 .0 .0 .0 .1, n .0 .0 .0 .0 .0 .0 .1) in
-    let from-12 : 12 ≤ place = omega (arith, n .0 .0 .0 .0 .0 .1, n .0 .0 .0 .0 .1, n .0 .0 .0 .1, n .0 .0 .1) in
-    let last : place ≡ 14 = omega (arith, c .before .if2 .left, n .0 .1, n .1) in
+    let from-4 : 4 ≤ place = omega (arith, n .0 .0 .0 .0 .0 .0 .0 .0 .0 .0 .0 .0 .0 .0 .1, n .0 .0 .0 .0 .0 .0 .0 .0 .0 .0 .0 .0 .0 .1, n .0 .0 .0 .0 .0 .0 .0 .0 .0 .0 .0 .0 .1, n .0 .0 .0 .0 .0 .0 .0 .0 .0 .0 .0 .1) in
+    let from-8 : 8 ≤ place = omega (arith, n .0 .0 .0 .0 .0 .0 .0 .0 .0 .0 .1, n .0 .0 .0 .0 .0 .0 .0 .0 .0 .1, n .0 .0 .0 .0 .0 .0 .0 .0 .1, n .0 .0 .0 .0 .0 .0 .0 .1) in
+    let from-12 : 12 ≤ place = omega (arith, n .0 .0 .0 .0 .0 .0 .1, n .0 .0 .0 .0 .0 .1, n .0 .0 .0 .0 .1, n .0 .0 .0 .1) in
+    let last : place ≡ 15 = omega (arith, c .before .if2 .left, n .0 .0 .1, n .0 .1, n .1) in
     rw (numbered (c .before .before .if1 .left) last)
 
 pub role-of-spec : {M : Type 1} → statement M
@@ -61,4 +61,5 @@ role-of-spec =
     (λ c. rw (numbered (c .before .before .if1 .left) (c .match .keys12)))
     (λ c. rw (numbered (c .before .before .if1 .left) (c .match .keys13)))
     (λ c. rw (numbered (c .before .before .if1 .left) (c .match .keys14)))
-    returns-17)
+    (λ c. rw (numbered (c .before .before .if1 .left) (c .match .keys15)))
+    returns-18)

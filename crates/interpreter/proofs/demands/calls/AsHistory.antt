@@ -8,7 +8,7 @@ use lib.Dec.{leb}
 use lib.ListN.{length}
 use Rattle.registers.specs.Text.{Text, if_then_else_, empty}
 use Rattle.interpreter.specs.Box.{Memory, rightSize, alteredIn, Box, mostAnswer}
-use Rattle.interpreter.specs.Events.{Event, started, received, take as takes, condition, look, altered, mislent, Sort, anew, carries, fetches, aside, sortOf, Result, result, lent, Happened, happened, happens, after, results}
+use Rattle.interpreter.specs.Events.{Event, started, received, take as takes, condition, look, altered, mislent, Sort, anew, carries, fetches, finishes, aside, sortOf, Result, result, lent, Happened, happened, happens, after, results, ended}
 use Rattle.interpreter.specs.State.{boxOf, possibleState, admittedAs, admitted, rightly, Happens, Started}
 use Rattle.interpreter.specs.Server.{linesOf, Service, service, tookAfter, servedLine, serves, takingFirst, eventsOf, begun, Serves}
 use Rattle.interpreter.specs.Calls.{Call, event, instead, chunk, noChunk, alters, Calls, done, call, History}
@@ -23,6 +23,7 @@ admits s e p = go (sortOf e)
     go anew = refl
     go (carries xs) = p
     go (fetches buffer) = p
+    go finishes = p
     go aside = p
 
 -- an event on a state that could be the box's, with a memory of the right size: what the definition says happens, whether the event was lent this
@@ -35,6 +36,7 @@ happens-there s t m n (received xs) r h p q = let o = h .possible q p in (o .0, 
 happens-there s t m n (takes buffer) r h p q = let o = h .possible q p in (o .0, o .1, o .2 ∙ q)
 happens-there s t m n (condition x v) r h p q = let o = h .possible q p in (o .0, o .1, o .2 ∙ q)
 happens-there s t m n look r h p q = let o = h .possible q p in (o .0, o .1, o .2 ∙ q)
+happens-there s t m n ended r h p q = let o = h .possible q p in (o .0, o .1, o .2 ∙ q)
 happens-there s t m n (altered i x) r h p q = let o = h .possible refl p in (o .0, o .1, o .2 ∙ q)
 happens-there s t m n (mislent buffer) r h p q =
     let o = h .wrong refl in (ap possibleState (o .0) ∙ p, rw (o .0, o .1, o .2), ap rightSize (o .2) ∙ q)
@@ -77,9 +79,9 @@ serves-after v (l ∷ ls) = go (leb mostAnswer (length (v .rest))) (serves-after
 
 -- a chunk on a state that could be the box's leaves what its events leave
 pub chunk-after : (s t : State) (m n : Memory) (input output left : Text) (number read written : ℕ) → Serves s m input output number read written t n left
-    → rightSize m ≡ true → possibleState s ≡ true → boxOf t n ≡ after (boxOf s m) (eventsOf (begun s m output) (linesOf input))
+    → rightSize m ≡ true → possibleState s ≡ true → boxOf t n ≡ after (boxOf s m) (eventsOf (begun s m output) (linesOf (boxOf s m .core .line) input))
 chunk-after s t m n input output left number read written w l p =
-    ap (λ (v : Service). v .box) (w .possible l p .3) ∙ serves-after (begun s m output) (linesOf input)
+    ap (λ (v : Service). v .box) (w .possible l p .3) ∙ serves-after (begun s m output) (linesOf (boxOf s m .core .line) input)
 
 -- ---- calls
 

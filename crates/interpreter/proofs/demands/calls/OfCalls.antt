@@ -3,7 +3,7 @@
 use mathlib.Core.Path.{_≡_, refl, sym, _∙_, ap, subst, subst₂}
 use mathlib.Core.Bool.{Bool, true, false}
 use mathlib.Core.List.{List, [], _∷_, _++_, append-assoc, head-eq-of-cons-eq}
-use Prim.Native.Nat.{_≤_}
+use Prim.Native.Nat.{_≤_, ℕ, _+_}
 use lib.ListN.{length, drop}
 use lib.Seq.{drop-at}
 use lib.Signed.{leZ}
@@ -12,12 +12,13 @@ use Rattle.registers.specs.Label.{mostText, mayStand}
 use Rattle.registers.specs.Settings.{valueAt, displayed, AsLong, within}
 use Rattle.interpreter.specs.Demand2.{InRange}
 use Rattle.interpreter.specs.Box.{Memory, Box, powerUp}
+use Rattle.interpreter.specs.Line.{newlines}
 use Rattle.interpreter.specs.Events.{Event, take, Result, happens, Own, after, results}
-use Rattle.interpreter.specs.Histories.{newline, Recut, isTake, isPiece, noPiece, howMany, resultsOf, chosen, summed}
+use Rattle.interpreter.specs.Histories.{newline, Recut, isTake, isPiece, noPiece, howMany, resultsOf, chosen, summed, sent}
 use Rattle.interpreter.specs.State.{boxOf, Started}
 use Rattle.interpreter.specs.Calls.{Calls, History}
 use Rattle.interpreter.specs.Demand2.{queried, takenFrom}
-use Rattle.interpreter.specs.Demand3.{asSent, watch, Agree, AgreeAnswers, others}
+use Rattle.interpreter.specs.Demand3.{lineSent, lineCut, asSent, asCut, watch, Agree, AgreeAnswers, others}
 use Rattle.interpreter.specs.OfCalls.{Ran, LimitsOfCalls, TextOfCalls, RangeOfCalls, PiecesOfCalls, AnsweredOfCalls, RoundTripOfCalls, Demand2OfCalls, Demand3OfCalls}
 use Rattle.interpreter.specs.declared.state.State.{State}
 use Rattle.interpreter.proofs.Possible.{power-up-own}
@@ -113,9 +114,9 @@ module _ (s t : State) (m n : Memory) (h : List Event) (rs : List Result) (first
   results-are p = ap (λ (b : Box). resultsOf p b h) (sym (first .first m)) ∙ sym (chosen-is s t m n h rs run p)
 
 pub demand3-of-calls : Demand3OfCalls
-demand3-of-calls m before during later h h′ line is is′ s s′ t t′ n n′ rs rs′ first first′ calls calls′ =
-    let d = demand3 m before during later h h′ line is is′ in
-    let w = watch (after (powerUp m) (asSent before during)) later in
+demand3-of-calls m x before during later h h′ line is is′ s s′ t t′ n n′ rs rs′ first first′ calls calls′ =
+    let d = demand3 m x before during later h h′ line is is′ in
+    let w = watch (after (powerUp m) (asSent x before during)) later in
     let r = results-are s t m n h rs first calls in
     let r′ = results-are s′ t′ m n′ h′ rs′ first′ calls′ in
     record {
@@ -123,7 +124,10 @@ demand3-of-calls m before during later h h′ line is is′ s s′ t t′ n n′
       state = subst₂ (Agree w) (box-is s t m n h rs first calls) (box-is s′ t′ m n′ h′ rs′ first′ calls′) (d .state);
       taken = subst₂ (AgreeAnswers w) (r isTake) (r′ isTake) (d .taken);
       results = λ meanwhile o split c.
-          let k = others (before ++ during ++ meanwhile) in
-          sym (ap (drop k) (r noPiece)) ∙ d .results meanwhile o split c ∙ ap (drop k) (r′ noPiece);
-      counts = sym (ap summed (r isPiece)) ∙ d .counts ∙ ap summed (r′ isPiece);
+          let k = others (asSent x before during ++ meanwhile) in
+          let k′ = others (asCut m before during ++ meanwhile) in
+          sym (ap (drop k) (r noPiece)) ∙ d .results meanwhile o split c ∙ ap (drop k′) (r′ noPiece);
+      counts =
+          sym (ap (λ (rs : List Result). summed rs + newlines (sent (lineCut m before during))) (r isPiece)) ∙ d .counts
+          ∙ ap (λ (rs : List Result). summed rs + newlines (sent (lineSent x during))) (r′ isPiece);
     }

@@ -1,11 +1,11 @@
 -- Each of the programs in specs/Dummies is the dummy that it stands for. The refuser and the fixed answer by an invariant of their memory
 -- (no answer waits; no answer but the one), the others by what a piece does to theirs.
 use mathlib.Core.Path.{_≡_, refl, sym, _∙_, ap, subst}
-use mathlib.Core.Bool.{Bool, true, false, true≢false}
+use mathlib.Core.Bool.{Bool, true, false, not}
 use mathlib.Core.List.{List, [], _∷_, _++_}
 use Prim.Native.Nat.{ℕ, zero, suc}
 use native.Mathlib.Omega.{arith}
-use lib.Dec.{eqb, leb, ltb}
+use lib.Dec.{leb}
 use lib.ListN as L
 use lib.ListN.{length, drop}
 use lib.Seq.{take-at}
@@ -13,12 +13,14 @@ use Rattle.registers.specs.Text.{Text, if_then_else_, empty}
 use Rattle.registers.specs.Number.{number}
 use Rattle.registers.specs.Group.{widestGroup}
 use Rattle.interpreter.specs.Box as lent
-use Rattle.interpreter.specs.Box.{Core, Box, box, powerUp, blank, mostLine}
-use Rattle.interpreter.specs.Line.{interrupted, unitsOf, held, byte, piece, newlines}
-use Rattle.interpreter.specs.Events.{Event, started, received, take, condition, look, altered, mislent, Happened, taken, reported, happens}
-use Rattle.interpreter.specs.Histories.{sentBy, isPiece}
-use Rattle.interpreter.specs.Dummies.{Program, reached, RefusesUnits, refusingByte, refusingPiece, refusing, refuser, AnswersAlike, answering, fixedAnswer, OnlyFirstLine, firstByte, firstPiece, firstLiner, Invents, inventor, AreSo}
+use Rattle.interpreter.specs.Box.{Box, powerUp, blank}
+use Rattle.interpreter.specs.Line.{interrupted, unitsOf, byte, piece, newlines, noneCame, endsLine, grown, goesOn}
+use Rattle.interpreter.specs.Events.{Event, started, received, take, condition, look, altered, mislent, Happened, taken, reported, happens, ended}
+use Rattle.interpreter.specs.Dummies.{Program, reached, RefusesUnits, refusingByte, refusingPiece, refusing, refuser, AnswersAlike, answering, fixedAnswer, OnlyFirstLine, firstByte, firstPiece, firstLiner, Invents, inventor, AreSo, refusingEnd}
+use borrow.Author.Tests.{not-true}
+use Rattle.registers.proofs.Tests.{and-both}
 use Rattle.interpreter.proofs.Choices.{if-elim}
+use Rattle.interpreter.proofs.line.Pieces.{byte-on}
 use Rattle.interpreter.proofs.Lists.{is-empty}
 
 -- what every event leaves holds in every history
@@ -41,17 +43,15 @@ interrupted-answerless : (b : Box) → Answerless (interrupted b)
 unfolding interrupted
 interrupted-answerless b = if-elim Answerless (empty (b .core .answer)) (λ e. is-empty (b .core .answer) e) (λ _. refl)
 
-held-answerless : (b : Box) (x : ℕ) → Answerless b → Answerless (box (held x (b .core)) (b .trouble))
-unfolding held
-held-answerless b x h = if-elim (λ (c : Core). c .answer ≡ []) (ltb (length (b .core .line)) mostLine) (λ _. h) (λ _. h)
+end-answerless : (b : Box) → Answerless (refusingEnd b)
+unfolding refusingEnd
+end-answerless b =
+    let c = interrupted-answerless _ in
+    if-elim Answerless (b .core .line .overlong) (λ _. c) (λ _. if-elim Answerless (empty (unitsOf (b .core .line .text))) (λ _. c) (λ _. c))
 
 byte-answerless : (b : Box) (x : ℕ) → Answerless b → Answerless (refusingByte b x)
 unfolding refusingByte
-byte-answerless b x h =
-    let c = interrupted-answerless _ in
-    if-elim Answerless (eqb x 10)
-    (λ _. if-elim Answerless (b .core .overlong) (λ _. c) (λ _. if-elim Answerless (empty (unitsOf (b .core .line))) (λ _. c) (λ _. c)))
-    (λ _. held-answerless b x h)
+byte-answerless b x h = if-elim Answerless (endsLine x (b .core .line)) (λ _. end-answerless b) (λ _. h)
 
 piece-answerless : (xs : Text) (b : Box) → Answerless b → Answerless (refusingPiece b xs)
 unfolding refusingPiece
@@ -67,19 +67,16 @@ taken-answerless b buffer h =
     if-elim AnswerlessHappened (empty (b .core .answer)) (λ _. h)
     (λ _. if-elim AnswerlessHappened (leb (length (b .core .answer)) (length buffer)) (λ _. refl) (λ _. h))
 
-event-answerless : (b : Box) (e : Event) → isPiece e ≡ false → Answerless b → Answerless (happens b e .box)
-unfolding happens reported
-event-answerless b started none h = start-answerless (b .core .memory)
-event-answerless b (received xs) none h = absurd (true≢false none)
-event-answerless b (take buffer) none h = taken-answerless b buffer h
-event-answerless b (condition x n) none h = if-elim AnswerlessHappened (leb n widestGroup) (λ _. h) (λ _. h)
-event-answerless b look none h = h
-event-answerless b (altered i x) none h = h
-event-answerless b (mislent buffer) none h = h
-
 refusing-answerless : (b : Box) (e : Event) → Answerless b → Answerless (refusing b e)
-refusing-answerless b e h =
-    if-elim Answerless (isPiece e) (λ _. piece-answerless (sentBy e) b h) (λ none. event-answerless b e none h)
+unfolding happens reported
+refusing-answerless b started h = start-answerless (b .core .memory)
+refusing-answerless b (received xs) h = piece-answerless xs b h
+refusing-answerless b (take buffer) h = taken-answerless b buffer h
+refusing-answerless b (condition x n) h = if-elim AnswerlessHappened (leb n widestGroup) (λ _. h) (λ _. h)
+refusing-answerless b look h = h
+refusing-answerless b (altered i x) h = h
+refusing-answerless b (mislent buffer) h = h
+refusing-answerless b ended h = if-elim Answerless (noneCame (b .core .line)) (λ _. h) (λ _. end-answerless b)
 
 none-taken : (b : Box) (buffer : Text) → Answerless b → taken buffer b .result .number ≡ 2
 unfolding taken if_then_else_
@@ -126,33 +123,51 @@ unfolding firstPiece firstByte if_then_else_
 dropped b [] = refl
 dropped b (x ∷ xs) = dropped b xs
 
--- after a newline the first line is over
-over : (m : Box × Bool) (l : Text) → firstPiece m (l ++ 10 ∷ []) .1 ≡ true
-unfolding firstPiece firstByte if_then_else_
-over m [] = go (m .1) refl
+-- until a line ends it is the box
+data First (b : Box) (l : Text) : Type 0 where
+  over : firstPiece (b, false) l .1 ≡ true → First b l
+  under : firstPiece (b, false) l ≡ (piece b l, false) → First b l
+
+first : (l : Text) (b : Box) → First b l
+unfolding firstPiece firstByte piece if_then_else_
+first [] b = under refl
+first (x ∷ l) b = go (endsLine x (b .core .line)) refl (first l (byte b x))
   where
-    go : (t : Bool) → m .1 ≡ t → firstByte m 10 .1 ≡ true
-    go true e = rw e
-    go false e = rw e
-over m (x ∷ l) = over (firstByte m x) l
+    go : (t : Bool) → endsLine x (b .core .line) ≡ t → First (byte b x) l → First b (x ∷ l)
+    go true e m = over (ap (λ (t : Bool). firstPiece (byte b x, t) l .1) e ∙ ap (λ (m : Box × Bool). m .1) (dropped (byte b x) l))
+    go false e (over m) = over (ap (λ (t : Bool). firstPiece (byte b x, t) l .1) e ∙ m)
+    go false e (under m) = under (ap (λ (t : Bool). firstPiece (byte b x, t) l) e ∙ m)
+
+first-append : (l r : Text) (m : Box × Bool) → firstPiece m (l ++ r) ≡ firstPiece (firstPiece m l) r
+unfolding firstPiece
+first-append [] r m = refl
+first-append (x ∷ l) r m = first-append l r (firstByte m x)
+
+-- after its newline, which is in no block, the first line is over
+ends-first : (l : Text) (b : Box) → piece b l .core .line .coming ≡ 0 → firstPiece (b, false) (l ++ 10 ∷ []) .1 ≡ true
+unfolding firstPiece firstByte if_then_else_
+ends-first l b z = rw (first-append l (10 ∷ []) (b, false)) (go (first l b))
+  where
+    go : First b l → firstByte (firstPiece (b, false) l) 10 .1 ≡ true
+    go (over m) = let e : firstPiece (b, false) l ≡ (firstPiece (b, false) l .0, true) = ap (λ (t : Bool). (firstPiece (b, false) l .0, t)) m in rw e
+    go (under m) = rw (m, z)
 
 first-is : OnlyFirstLine firstLiner
 unfolding reached
-first-is l xs =
+first-is l xs z =
     let m = firstPiece ((powerUp blank), false) (l ++ 10 ∷ []) in
-    let e : m ≡ (m .0, true) = ap (λ (t : Bool). (m .0, t)) (over ((powerUp blank), false) l) in
+    let e : m ≡ (m .0, true) = ap (λ (t : Bool). (m .0, t)) (ends-first l (powerUp blank) z) in
     subst (λ (x : Box × Bool). firstPiece x xs ≡ x) (sym e) (dropped (m .0) xs)
 
-obeyed-first : (l : Text) (b : Box) → newlines l ≡ 0 → firstPiece (b, false) (l ++ 10 ∷ []) ≡ (piece b (l ++ 10 ∷ []), true)
-unfolding firstPiece firstByte piece newlines if_then_else_
-obeyed-first [] b h = refl
-obeyed-first (x ∷ l) b h = go (eqb x 10) refl h (λ z. obeyed-first l (byte b x) z)
-  where
-    go : (t : Bool) → eqb x 10 ≡ t → (if t then suc (newlines l) else newlines l) ≡ 0
-        → (newlines l ≡ 0 → firstPiece (byte b x, false) (l ++ 10 ∷ []) ≡ (piece (byte b x) (l ++ 10 ∷ []), true))
-        → firstPiece (b, false) (x ∷ l ++ 10 ∷ []) ≡ (piece b (x ∷ l ++ 10 ∷ []), true)
-    go true e z more = absurd (omega (arith, z))
-    go false e z more = ap (λ (t : Bool). firstPiece (byte b x, t) (l ++ 10 ∷ [])) e ∙ more z
+obeyed-first : (l : Text) (b : Box) → goesOn (b .core .line) l ≡ true → piece b l .core .line .coming ≡ 0
+    → firstPiece (b, false) (l ++ 10 ∷ []) ≡ (piece b (l ++ 10 ∷ []), true)
+unfolding firstPiece firstByte piece goesOn if_then_else_
+obeyed-first [] b g z = rw z
+obeyed-first (x ∷ l) b g z =
+    let p = and-both (not (endsLine x (b .core .line))) _ g in
+    let e = not-true (endsLine x (b .core .line)) (p .0) in
+    ap (λ (t : Bool). firstPiece (byte b x, t) (l ++ 10 ∷ [])) e
+    ∙ obeyed-first l (byte b x) (rw (← ap (λ (c : Box). c .core .line) (byte-on b x e)) at (p .1)) z
 
 -- ---- no count is every piece's
 
@@ -169,6 +184,6 @@ are-so =
       ignorer = λ es xs. refl;
       fixedAnswer = fixed-is;
       firstLiner = first-is;
-      firstObeyed = λ l h. obeyed-first l (powerUp blank) h;
+      firstObeyed = λ l g z. obeyed-first l (powerUp blank) g z;
       inventor = inventor-is;
     }

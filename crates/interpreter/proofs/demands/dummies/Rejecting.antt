@@ -23,13 +23,15 @@ use Rattle.registers.specs.Label.{mayStand, closes, undoubled, padded}
 use Rattle.interpreter.specs.Cuts.{cutAt, quoteNext, cutOpen, trimEnd, trim}
 use Rattle.interpreter.specs.Header.{name, placed, header, spells, bodyOf, byFirst, numbered, nodeMatches, suffixIn}
 use Rattle.interpreter.specs.Rows.{settingRows, otherRows, rows, fitsRow, findRow, secondOf, onChannel, findRole}
-use Rattle.interpreter.specs.Parameter.{labelDeed, parameters, least, greatest, findWord, parameter, valueGiven, settingDeed, deedOf, readFigure, readWord}
+use Rattle.interpreter.specs.Parameter.{labelDeed, parameters, least, greatest, findWord, parameter, valueGiven, settingDeed, deedOf, isBlock, given, readFigure, readWord}
 use Rattle.interpreter.specs.Unit.{readUnit}
 use Rattle.interpreter.specs.Box as lent
-use Rattle.interpreter.specs.Box.{Box, box, powerUp, blank, rightSize, storeSize}
+use Rattle.registers.proofs.Tests.{and-true}
+use Rattle.interpreter.specs.Box.{Box, box, powerUp, blank, rightSize, storeSize, mostBlock}
 use Rattle.interpreter.specs.Perform.{permitted, changed, perform}
 use Rattle.interpreter.specs.Reply.{replyTo, joined, fitsAnswer, reply}
-use Rattle.interpreter.specs.Line.{attempt, runUnits, interrupted, finished, unitsOf, runLine, endLine, held, byte, piece}
+use Rattle.interpreter.specs.Blocks.{blockMark, behindLast, quoteAfter, givenSoFar, opens}
+use Rattle.interpreter.specs.Line.{attempt, runUnits, interrupted, finished, unitsOf, runLine, endLine, grown, byte, piece}
 use Rattle.interpreter.specs.Events.{Event, received, take, Result, Happened, taken, happens, after, results}
 use Rattle.interpreter.specs.State.{boxOf, possibleState}
 use Rattle.interpreter.specs.declared.state.State.{State}
@@ -75,7 +77,7 @@ functions-tell begins does h s m p q (e ∷ es) =
 
 blank-size : rightSize blank ≡ true
 unfolding rightSize blank
-blank-size = eq-eqb _ _ (length-replicate {A = ℕ} storeSize 0)
+blank-size = and-true (eq-eqb _ _ (length-replicate {A = ℕ} storeSize 0)) (eq-eqb _ _ (length-replicate {A = ℕ} mostBlock 0))
 
 functions-meet : (begins : State) (does : Does) → Promised begins does → Meets (functions begins does)
 functions-meet begins does h es =
@@ -106,6 +108,7 @@ abbrev taken-after : List Event → Result
 taken-after es = happens (after (powerUp blank) es) takes .result
 
 record Computed : Type 0 where
+  outside : piece (powerUp blank) (bytes "VOLT 5") .core .line .coming ≡ 0
   none : taken-after [] .number ≡ 2
   set : taken-after (line "VOLT 5" ∷ []) .number ≡ 2
   asked : taken-after (line "VOLT 5" ∷ line "VOLT?" ∷ []) .number ≡ 0
@@ -120,10 +123,10 @@ unfolding if_then_else_ bytes same white printable digit letter wordByte small c
     nearest sizeIn rounded sizeSide sideIn inPlaces decimal tenths
     slots table settingAt atReset wideRange lowest highest narrow within conflict examined accepted answerOf raised atStart
     mayStand closes undoubled padded labelDeed cutAt quoteNext cutOpen trimEnd trim name placed bodyOf byFirst header numbered nodeMatches suffixIn spells settingRows otherRows rows fitsRow findRow secondOf onChannel findRole
-    parameters least greatest findWord parameter readWord readFigure valueGiven settingDeed deedOf readUnit powerUp
+    parameters least greatest findWord parameter readWord readFigure valueGiven settingDeed deedOf isBlock given readUnit powerUp
     permitted changed replyTo joined fitsAnswer reply perform
-    attempt runUnits interrupted finished unitsOf runLine endLine held byte piece taken happens after
-computed = record { none = refl; set = refl; asked = refl; volts = refl; hertz = refl; four = refl; five = refl }
+    attempt runUnits interrupted finished unitsOf runLine endLine grown behindLast quoteAfter givenSoFar opens blockMark byte piece taken happens after
+computed = record { outside = refl; none = refl; set = refl; asked = refl; volts = refl; hertz = refl; four = refl; five = refl }
 
 -- ---- none of the five meets the definition
 
@@ -160,7 +163,7 @@ module _ (p : Program) (m : Meets p) where
   no-first-liner h =
       let one = line "VOLT 5" ∷ [] in
       let two = line "VOLT 5" ∷ line "VOLT?" ∷ [] in
-      let left : reached p (p .start) two ≡ reached p (p .start) one = h (bytes "VOLT 5") (bytes "VOLT?" ++ 10 ∷ []) in
+      let left : reached p (p .start) two ≡ reached p (p .start) one = h (bytes "VOLT 5") (bytes "VOLT?" ++ 10 ∷ []) (computed .outside) in
       let alike = ap (λ (x : p .Memory). p .tells x takes .number) left in
       omega (arith, sym (computed .asked) ∙ sym (number-next two) ∙ alike ∙ number-next one ∙ computed .set)
 

@@ -10,7 +10,7 @@ use borrow.Author.Tests.{le-leb, lt-leb, ltb-true, ltb-false}
 use Rattle.registers.specs.Text.{if_then_else_, empty}
 use Rattle.registers.specs.Group.{widestGroup}
 use Rattle.interpreter.specs.Box.{Memory, Box}
-use Rattle.interpreter.specs.Events.{Event, started, received, take, condition, look, altered, mislent, Result, Happened, taken, reported, happens}
+use Rattle.interpreter.specs.Events.{Event, started, received, take, condition, look, altered, mislent, Result, Happened, taken, reported, happens, ended}
 use Rattle.interpreter.specs.State.{boxOf, admitted, rightly}
 use Rattle.interpreter.specs.Demand1.{numberFor, refusalOf, leaves, Refuses, EventRefusals}
 use Rattle.interpreter.proofs.Choices.{if-elim, if₂, if-opposite}
@@ -47,6 +47,7 @@ listed b (condition x n) =
 listed b look = none b look _ refl
 listed b (altered i x) = none b (altered i x) _ refl
 listed b (mislent buffer) = (refl, λ _. refl)
+listed b ended = none b ended _ refl
 
 -- ---- number 5 first, then number 4
 
@@ -61,6 +62,7 @@ below-four m b (condition x n) q z = if-elim (λ n. 4 ≤ n → ⊥) (ltb widest
 below-four m b look q z = omega (arith, z)
 below-four m b (altered i x) q z = omega (arith, z)
 below-four m b (mislent buffer) q z = false≢true q
+below-four m b ended q z = omega (arith, z)
 
 pub event-refusals : EventRefusals
 unfolding refusalOf if_then_else_

@@ -1,6 +1,6 @@
 -- Demand 1, of a newline: a line that has units leaves what those before the first refused one leave, and then that one's error. By
 -- induction over the units: a unit that is obeyed goes on with the rest at the box that it left.
-use mathlib.Core.Path.{_≡_, refl, sym, _∙_, ap}
+use mathlib.Core.Path.{_≡_, refl, sym, _∙_, ap, subst}
 use mathlib.Core.Bool.{true, false≢true}
 use mathlib.Core.List.{List, [], _∷_}
 use Prim.Native.Nat.{ℕ}
@@ -11,12 +11,13 @@ use Rattle.registers.specs.Text.{Text, if_then_else_, empty}
 use Rattle.registers.specs.Check.{Checked, refused, passed}
 use Rattle.registers.specs.Queue.{mayBeQueued, queueable}
 use Rattle.interpreter.specs.Cuts.{cutOpen}
-use Rattle.interpreter.specs.Box.{Box}
+use Rattle.interpreter.specs.Box.{noLine, Box, holding}
 use Rattle.interpreter.specs.Unit.{raisable}
-use Rattle.interpreter.specs.Line.{atNewline, Obeyed, refuse, attempt, next, runUnits, interrupted, finished, unitsOf, runLine, endLine, byte, piece}
+use Rattle.interpreter.specs.Line.{atNewline, Obeyed, refuse, attempt, next, runUnits, interrupted, finished, unitsOf, runLine, endLine, endReported, byte, piece}
 use Rattle.interpreter.specs.Events.{happens}
+use Rattle.interpreter.specs.Histories.{newline}
 use Rattle.interpreter.specs.Demand3.{obeyedNext, obeyed, refusalNext, refusal}
-use Rattle.interpreter.specs.Demand1.{LineRefusals}
+use Rattle.interpreter.specs.Demand1.{LineRefused, LineRefusals}
 use Rattle.interpreter.proofs.Checks.{at-refused}
 use Rattle.interpreter.proofs.Choices.{if-elim}
 use Rattle.interpreter.proofs.demands.harm.UnitRefusals.{attempt-known}
@@ -59,13 +60,22 @@ answer-gone : (b : Box) → empty (atNewline b .core .answer) ≡ true
 unfolding interrupted
 answer-gone b = if-elim (λ (c : Box). empty (c .core .answer) ≡ true) (empty (b .core .answer)) (λ e. e) (λ _. refl)
 
-pub line-refusals : LineRefusals
-unfolding happens piece byte endLine runLine interrupted unitsOf finished runUnits if_then_else_
-line-refusals b =
+line-refused : (b : Box) → LineRefused b (endLine b)
+unfolding endLine runLine interrupted unitsOf finished runUnits if_then_else_
+line-refused b =
     let c = atNewline b in
     record {
       overlong = λ o. rw o;
       blank = λ o w. rw (o, w, answer-gone b);
-      units = λ o w. rw (o, w) (ap finished (units-leave (cutOpen (code ";") 0 (b .core .line)) [] c));
-      ofUnit = refusal-raisable (cutOpen (code ";") 0 (b .core .line)) [] c;
+      units = λ o w. rw (o, w) (ap (λ (x : Box). holding noLine (finished x)) (units-leave (cutOpen (code ";") 0 (b .core .line .text)) [] c));
+      ofUnit = refusal-raisable (cutOpen (code ";") 0 (b .core .line .text)) [] c;
+    }
+
+pub line-refusals : LineRefusals
+unfolding happens piece byte endReported if_then_else_
+line-refusals =
+    record {
+      atNewline = λ b z. let e : happens b newline .box ≡ endLine b = rw z in subst (LineRefused b) (sym e) (line-refused b);
+      atEnd = λ b some. rw some (line-refused b);
+      onEmpty = λ b none. rw none;
     }

@@ -1,23 +1,15 @@
--- The sum of the pieces' own counts of newlines: it goes by the bytes alone (`ends`), whatever their pieces are, and a line cut short
--- keeps it, since the bytes that are cut have no newline.
+-- The sum of the pieces' own counts of newlines: it goes by the bytes alone (`ends`), whatever their pieces are, so that histories which
+-- differ in one part differ by what its bytes add.
 use mathlib.Core.Path.{_≡_, refl, sym, _∙_, ap}
-use mathlib.Core.Bool.{true, false≢true}
 use mathlib.Core.List.{List, [], _∷_, _++_, map}
-use Prim.Native.Nat.{ℕ, zero, suc, _+_, _-_, _≤_, zero-le}
+use Prim.Native.Nat.{ℕ, _+_}
 use native.Mathlib.Omega.{arith}
-use lib.Dec.{eqb}
-use lib.ListN as L
-use lib.ListN.{length}
-use borrow.Author.Tests.{not-true}
-use Rattle.registers.specs.Text.{Text, if_then_else_, every}
-use Rattle.registers.proofs.Tests.{and-both}
+use Rattle.registers.specs.Text.{Text, if_then_else_}
 use Rattle.interpreter.specs.Box.{Box}
 use Rattle.interpreter.specs.Line.{piece, newlines}
 use Rattle.interpreter.specs.Events.{Event, happens}
-use Rattle.interpreter.specs.Histories.{single, newline, sentBy, moments, Recut, resultsOf, summed, counted}
-use Rattle.interpreter.specs.Demand3.{inLine, keep}
-use Rattle.interpreter.proofs.Choices.{if₂}
-use Rattle.interpreter.proofs.line.Pieces.{newlines-append, plain}
+use Rattle.interpreter.specs.Histories.{single, sentBy, moments, Recut, resultsOf, summed, counted, sent}
+use Rattle.interpreter.proofs.line.Pieces.{newlines-append}
 use Rattle.interpreter.proofs.demands.histories.Sorts.{by-bytes}
 
 -- how many lines the pieces end, by their bytes
@@ -59,42 +51,25 @@ recut-ends b h g e = counted-ends b h ∙ sym (ends-moments h) ∙ ap ends e ∙
 pub recut-counts : (b : Box) (h g : List Event) → Recut h g → counted b h ≡ counted b g
 recut-counts b h g e = recut-ends b h g e ∙ sym (counted-ends b g)
 
--- ---- a line cut short
+-- ---- a line sent and a line cut
 
-fewer : (k : ℕ) (xs : Text) → newlines (L.take k xs) ≤ newlines xs
-unfolding newlines
-fewer zero xs = zero-le
-fewer (suc k) [] = zero-le
-fewer (suc k) (x ∷ xs) = let more = fewer k xs in if₂ (λ (m n : ℕ). m ≤ n) (eqb x 10) (omega arith) more
+-- the pieces end as many lines as their bytes have newlines
+ends-sent : (es : List Event) → newlines (sent es) ≡ ends es
+unfolding ends sent newlines
+ends-sent [] = refl
+ends-sent (e ∷ es) = newlines-append (sentBy e) (sent es) ∙ ap (λ (n : ℕ). newlines (sentBy e) + n) (ends-sent es)
 
-kept-ends : (k : ℕ) (es : List Event) → ends (keep k es) ≤ ends es
-unfolding ends keep if_then_else_
-kept-ends k [] = zero-le
-kept-ends k (e ∷ es) =
-    by-bytes (λ f. ((j : ℕ) → ends (keep j es) ≤ ends es) → ends (keep k (f ∷ es)) ≤ ends (f ∷ es))
-    (λ xs ih. omega (arith, fewer k xs, ih (k - length xs)))
-    (λ f none z ih. let more = ih (k - length (sentBy f)) in rw none (omega (arith, more))) e (λ j. kept-ends j es)
-
-plain-none : (xs : Text) → every plain xs ≡ true → newlines xs ≡ 0
-unfolding newlines if_then_else_
-plain-none [] t = refl
-plain-none (x ∷ xs) t = let p = and-both (plain x) (every plain xs) t in rw (not-true (eqb x 10) (p .0)) (plain-none xs (p .1))
-
--- while a line is under way none ends
-line-ends : (es : List Event) → every inLine es ≡ true → ends es ≡ 0
-unfolding ends inLine newlines
-line-ends [] t = refl
-line-ends (e ∷ es) t =
-    by-bytes (λ f. (every inLine es ≡ true → ends es ≡ 0) → every inLine (f ∷ es) ≡ true → ends (f ∷ es) ≡ 0)
-    (λ xs ih u. let p = and-both (every plain xs) (every inLine es) u in omega (arith, plain-none xs (p .0), ih (p .1)))
-    (λ f none z ih u. let p = and-both (inLine f) (every inLine es) u in rw z (omega (arith, ih (p .1)))) e (line-ends es) t
-
-pub cut-counts : (b : Box) (k : ℕ) (before during later h h′ : List Event) → every inLine during ≡ true
-    → Recut h ((before ++ during ++ newline ∷ []) ++ later) → Recut h′ ((before ++ keep k during ++ newline ∷ []) ++ later)
-    → counted b h ≡ counted b h′
-cut-counts b k before during later h h′ t is is′ =
-    let none = line-ends during t in
-    let cut = kept-ends k during in
-    let same : ends ((before ++ during ++ newline ∷ []) ++ later) ≡ ends ((before ++ keep k during ++ newline ∷ []) ++ later) =
-    simp ends-append (omega arith) in
-    recut-ends b h _ is ∙ same ∙ sym (recut-ends b h′ _ is′)
+-- histories that differ in one line have the same sums but for what the bytes of that line add
+pub line-counts : (b : Box) (before during end during′ end′ later h h′ : List Event)
+    → Recut h (before ++ during ++ end ++ later) → Recut h′ (before ++ during′ ++ end′ ++ later)
+    → counted b h + newlines (sent (during′ ++ end′)) ≡ counted b h′ + newlines (sent (during ++ end))
+line-counts b before during end during′ end′ later h h′ is is′ =
+    let parts : (d e : List Event) → ends (before ++ d ++ e ++ later) ≡ ends before + ends d + ends e + ends later =
+    λ d e. simp ends-append in
+    let p = parts during end in
+    let p′ = parts during′ end′ in
+    let c = recut-ends b h _ is in
+    let c′ = recut-ends b h′ _ is′ in
+    let s = ends-sent (during ++ end) ∙ ends-append during end in
+    let s′ = ends-sent (during′ ++ end′) ∙ ends-append during′ end′ in
+    omega arith

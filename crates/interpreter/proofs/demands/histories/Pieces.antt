@@ -5,10 +5,11 @@ use mathlib.Core.Bool.{Bool, true, false}
 use mathlib.Core.List.{List, [], _∷_, _++_, map}
 use Rattle.registers.specs.Text.{Text, if_then_else_}
 use Rattle.interpreter.specs.Box.{Box}
-use Rattle.interpreter.specs.Line.{endLine, byte, piece}
-use Rattle.interpreter.specs.Events.{Event, received, Result, happens, after}
+use Rattle.interpreter.specs.Line.{endLine, byte, piece, endReported}
+use Rattle.interpreter.specs.Events.{Event, received, Result, happens, after, ended}
 use Rattle.interpreter.specs.Histories.{single, newline, moments, Recut, resultsOf}
 use Rattle.interpreter.proofs.demands.histories.Sorts.{by-bytes}
+use Rattle.interpreter.specs.Demand3.{Ending, byNewline, byEnd, endOf, EndsBy}
 
 -- ---- histories, part by part
 
@@ -28,9 +29,15 @@ results-append p b (e ∷ es) fs = go (p e) _ _ _ (results-append p (happens b e
     go true xs ys zs ih = ap (λ (rs : List Result). happens b e .result ∷ rs) ih
     go false xs ys zs ih = ih
 
-pub newline-after : (b : Box) (es : List Event) → after b (es ++ newline ∷ []) ≡ endLine (after b es)
+pub newline-after : (b : Box) (es : List Event) → after b es .core .line .coming ≡ 0 → after b (es ++ newline ∷ []) ≡ endLine (after b es)
 unfolding after happens piece byte if_then_else_
-newline-after b es = after-append b es (newline ∷ [])
+newline-after b es z = after-append b es (newline ∷ []) ∙ rw z
+
+-- the same at END, where a line has begun
+pub end-after : (x : Ending) (b : Box) (es : List Event) → EndsBy x (after b es) → after b (es ++ endOf x ∷ []) ≡ endLine (after b es)
+unfolding after happens endReported if_then_else_
+end-after byNewline b es h = newline-after b es h
+end-after byEnd b es h = after-append b es (ended ∷ []) ∙ rw h
 
 -- ---- bytes one at a time
 

@@ -20,18 +20,18 @@ use Rattle.registers.specs.declared.settings.Settings.{Settings}
 use Rattle.registers.proofs.Tests.{and-both}
 use Rattle.interpreter.specs.Header.{Header, header, isCommon, fullNames, pathAfter}
 use Rattle.interpreter.specs.Rows.{Row, rows, settingRows, otherRows, findRow, secondOf, onSecond, onChannel, findRole}
-use Rattle.interpreter.specs.Parameter.{Given, Word, Figure, parameters, noneEmpty, parameter, limitWords, wordsOf, takesNumbers, limitAt, limitGiven, valueGiven, sideGiven, putGiven, settingDeed, limitDeed, registerDeed, storeGiven, labelDeed, placeGiven, savingDeed, deedOf}
+use Rattle.interpreter.specs.Parameter.{Given, Word, Figure, parameters, noneEmpty, parameter, limitWords, wordsOf, takesNumbers, limitAt, limitGiven, valueGiven, sideGiven, putGiven, settingDeed, limitDeed, registerDeed, storeGiven, labelDeed, placeGiven, savingDeed, deedOf, isBlock, blockTo, given}
 use Rattle.interpreter.specs.Unit.{Read, headerText, parameterText, readUnit}
 use Rattle.interpreter.specs.Isolation.{ofSecond, headsSecond, setsSecond, pathLeft}
 use Rattle.interpreter.specs.declared.deed.Deed.{Deed}
-use Rattle.interpreter.specs.declared.deed.Deed.the-variants.{Change, Complete, Clear, Query, Inquire, Saving}
+use Rattle.interpreter.specs.declared.deed.Deed.the-variants.{Change, Complete, Clear, Query, Inquire, Saving, Block}
 use Rattle.interpreter.specs.declared.deed.Change as changes
 use Rattle.interpreter.specs.declared.deed.Change.the-variants.{Nothing, Put, Reset, Store, Label as labelled}
 use Rattle.interpreter.specs.declared.deed.Query.the-variants.{Limit}
 use Rattle.interpreter.specs.declared.deed.Role.{Role}
-use Rattle.interpreter.specs.declared.deed.Role.the-variants.{Setting as setting, Register as register, Only, Saving as saving, Label as label}
+use Rattle.interpreter.specs.declared.deed.Role.the-variants.{Setting as setting, Register as register, Only, Saving as saving, Label as label, Waveform as waveform}
 use Rattle.interpreter.specs.declared.deed.Saving as savings
-use Rattle.interpreter.proofs.Choices.{if-elim}
+use Rattle.interpreter.proofs.Choices.{if-elim, if₂}
 use Rattle.interpreter.proofs.Checks.{Holds, passes, refuses-by, hold-bind, hold-if, at-passed}
 
 -- ---- two chains of checks that refuse by the same number, or both pass
@@ -156,6 +156,7 @@ FirstDeed Clear = Unit {0}
 FirstDeed (Query q) = Unit {0}
 FirstDeed (Inquire q) = Unit {0}
 FirstDeed (Saving x p) = Unit {0}
+FirstDeed (Block here) = Unit {0}
 
 -- the same deed, or two queries for a limit of the same setting of channel 2
 pub data DeedsAlike : Deed → Deed → Type 0 where
@@ -170,19 +171,21 @@ plainChange Reset = true
 plainChange (Store r n x) = true
 plainChange labelled = true
 
-abbrev plainDeed : Deed → Bool
+abbrev pub plainDeed : Deed → Bool
 plainDeed (Change x) = plainChange x
 plainDeed Complete = true
 plainDeed Clear = true
 plainDeed (Query q) = true
 plainDeed (Inquire q) = true
 plainDeed (Saving x p) = true
+plainDeed (Block here) = false
 
-abbrev plainRole : Role → Bool
+abbrev pub plainRole : Role → Bool
 plainRole (setting i) = true
 plainRole (register r) = true
 plainRole (Only d) = plainDeed d
 plainRole (saving x) = true
+plainRole waveform = true
 plainRole label = true
 
 change-first : (x : changes.Change) → plainChange x ≡ true → FirstChange x
@@ -199,6 +202,7 @@ deed-first Clear e = tt
 deed-first (Query q) e = tt
 deed-first (Inquire q) e = tt
 deed-first (Saving x p) e = tt
+deed-first (Block here) e = absurd (false≢true e)
 
 -- what doesn't look at the settings
 both-self : (m : Checked Deed) → Then FirstDeed m → Both DeedsAlike m m
@@ -214,6 +218,14 @@ label-first t =
 saving-first : (x : savings.Saving) (t : Text) → Then FirstDeed (savingDeed x t)
 unfolding savingDeed placeGiven
 saving-first x t = then-bind FirstDeed (parameter [] true _ t) _ (λ g _. then-first FirstDeed _ _ (goes tt))
+
+block-first : (r : Role) (t : Text) → Then FirstDeed (blockTo r t)
+block-first (setting i) t = goes tt
+block-first (register r) t = goes tt
+block-first (Only d) t = goes tt
+block-first (saving x) t = goes tt
+block-first label t = goes tt
+block-first waveform t = then-first FirstDeed _ _ (goes tt)
 
 abbrev plainRow : Row → Bool
 plainRow r = plainRole (r .role)
@@ -238,9 +250,10 @@ second-plain (setting i) =
 second-plain (register r) = refuses-by refl
 second-plain (Only d) = refuses-by refl
 second-plain (saving x) = refuses-by refl
+second-plain waveform = refuses-by refl
 second-plain label = refuses-by refl
 
-role-plain : (star : Bool) (names : List Text) (asked : Bool) → Holds (λ (r : Role). plainRole r ≡ true) (findRole star names asked)
+pub role-plain : (star : Bool) (names : List Text) (asked : Bool) → Holds (λ (r : Role). plainRole r ≡ true) (findRole star names asked)
 unfolding findRole onChannel mayBeQueued queueable
 role-plain star names asked =
     let P : Role → Type 0 = λ r. plainRole r ≡ true in
@@ -277,9 +290,18 @@ module _ (s t : Settings) (a : First s t) where
   deed-alike (Only d) asked ts n p = passing (equal (deed-first d p))
   deed-alike (saving x) asked [] n p = refusals
   deed-alike (saving x) asked (u ∷ ts) n p = both-self _ (saving-first x u)
+  deed-alike waveform asked [] n p = refusals
+  deed-alike waveform asked (u ∷ ts) n p = refusals
   deed-alike label true ts n p = passing (equal tt)
   deed-alike label false [] n p = refusals
   deed-alike label false (u ∷ ts) n p = both-self _ (label-first u)
+
+  given-alike : (r : Role) (asked : Bool) (ts : List Text) → (not asked && ofSecond (passed r)) ≡ false → plainRole r ≡ true
+      → Both DeedsAlike (given s r asked ts) (given t r asked ts)
+  unfolding given
+  given-alike r asked [] n p = deed-alike r asked [] n p
+  given-alike r asked (u ∷ ts) n p =
+      if₂ (λ (x y : Checked Deed). Both DeedsAlike x y) (isBlock u) (both-self _ (block-first r u)) (deed-alike r asked (u ∷ ts) n p)
 
   -- ---- the whole unit
 
@@ -298,7 +320,7 @@ module _ (s t : Settings) (a : First s t) where
       both-check ReadsAlike 108 _ _ _
       (both-check ReadsAlike 109 _ _ _
       (both-bind ReadsAlike DeedsAlike _ _ _ _
-      (deed-alike r (h .query) (parameters (parameterText u)) (rw (e, f) at n)
+      (given-alike r (h .query) (parameters (parameterText u)) (rw (e, f) at n)
       (at-passed (role-plain (isCommon (h .place)) (fullNames (h .place) path (h .names)) (h .query)) f))
       (λ d d′ x. passing (record { deeds = x; texts = refl; paths = refl }))))))))
 
@@ -321,30 +343,51 @@ pub record PutsSecond (d : Deed) : Type 0 where
   pub isSecond : second slot ≡ true
   pub is : d ≡ Change (Put slot value side)
 
+-- or is given a block, which no setting takes
+pub data SetsOrBlock (d : Deed) : Type 0 where
+  puts : PutsSecond d → SetsOrBlock d
+  misplaced : d ≡ Block false → SetsOrBlock d
+
 none : (asked : Bool) → (not asked && false) ≡ true → ⊥
 none true e = false≢true e
 none false e = false≢true e
 
 second-deed : (s : Settings) (r : Role) (asked : Bool) (ts : List Text) → (not asked && ofSecond (passed r)) ≡ true
-    → Then PutsSecond (deedOf s r asked ts)
+    → Then SetsOrBlock (deedOf s r asked ts)
 unfolding deedOf settingDeed
 second-deed s (setting i) true ts e = absurd (false≢true e)
 second-deed s (setting i) false [] e = stops
 second-deed s (setting i) false (t ∷ ts) e =
-    then-bind PutsSecond (parameter (wordsOf (kindOf i)) (takesNumbers (kindOf i)) (quantityOf i) t) _ (λ g _.
-    then-first PutsSecond _ _ (then-first PutsSecond _ _
-    (goes (record { slot = i; value = valueGiven s i (kindOf i) g; side = sideGiven (kindOf i) g; isSecond = e; is = refl }))))
+    then-bind SetsOrBlock (parameter (wordsOf (kindOf i)) (takesNumbers (kindOf i)) (quantityOf i) t) _ (λ g _.
+    then-first SetsOrBlock _ _ (then-first SetsOrBlock _ _
+    (goes (puts (record { slot = i; value = valueGiven s i (kindOf i) g; side = sideGiven (kindOf i) g; isSecond = e; is = refl })))))
 second-deed s (register r) asked ts e = absurd (none asked e)
 second-deed s (Only d) asked ts e = absurd (none asked e)
 second-deed s (saving x) asked ts e = absurd (none asked e)
+second-deed s waveform asked ts e = absurd (none asked e)
 second-deed s label asked ts e = absurd (none asked e)
 
-pub second-read : (s : Settings) (path : List Text) (u : Text) → setsSecond path u ≡ true → Then (λ (r : Read). PutsSecond (r .deed)) (readUnit s path u)
+second-block : (r : Role) (asked : Bool) (t : Text) → (not asked && ofSecond (passed r)) ≡ true → Then SetsOrBlock (blockTo r t)
+second-block (setting i) asked t e = goes (misplaced refl)
+second-block (register r) asked t e = absurd (none asked e)
+second-block (Only d) asked t e = absurd (none asked e)
+second-block (saving x) asked t e = absurd (none asked e)
+second-block label asked t e = absurd (none asked e)
+second-block waveform asked t e = absurd (none asked e)
+
+second-given : (s : Settings) (r : Role) (asked : Bool) (ts : List Text) → (not asked && ofSecond (passed r)) ≡ true
+    → Then SetsOrBlock (given s r asked ts)
+unfolding given
+second-given s r asked [] e = second-deed s r asked [] e
+second-given s r asked (t ∷ ts) e =
+    if-elim (λ (m : Checked Deed). Then SetsOrBlock m) (isBlock t) (λ _. second-block r asked t e) (λ _. second-deed s r asked (t ∷ ts) e)
+
+pub second-read : (s : Settings) (path : List Text) (u : Text) → setsSecond path u ≡ true → Then (λ (r : Read). SetsOrBlock (r .deed)) (readUnit s path u)
 unfolding readUnit setsSecond
 second-read s path u n =
-    let Q : Read → Type 0 = λ r. PutsSecond (r .deed) in
+    let Q : Read → Type 0 = λ r. SetsOrBlock (r .deed) in
     then-first Q _ _ (then-bind Q (header (headerText u)) _ (λ h e.
     then-first Q _ _ (then-bind Q (findRole (isCommon (h .place)) (fullNames (h .place) path (h .names)) (h .query)) _ (λ r f.
     then-first Q _ _ (then-first Q _ _
-    (then-bind Q (deedOf s r (h .query) (parameters (parameterText u))) _ (λ d g.
-    goes (then-at (second-deed s r (h .query) (parameters (parameterText u)) (rw (e, f) at n)) g))))))))
+    (then-bind Q (given s r (h .query) (parameters (parameterText u))) _ (λ d g.
+    goes (then-at (second-given s r (h .query) (parameters (parameterText u)) (rw (e, f) at n)) g))))))))

@@ -19,31 +19,34 @@ use Rattle.registers.specs.declared.rounding.Side.{Side}
 use Rattle.registers.specs.declared.settings.Settings.{Settings}
 use Rattle.registers.proofs.Tests.{and-both}
 use Rattle.interpreter.specs.Header.{header}
-use Rattle.interpreter.specs.Box.{Core, Box, box, withAnswer, withSettings, answerIs, raise}
+use Rattle.interpreter.specs.Box.{mostBlock, withArea, noLine, Core, Box, box, withAnswer, withSettings, withLine, withMemory, answerIs, raise}
 use Rattle.interpreter.specs.Unit.{Read, headerText, readUnit}
-use Rattle.interpreter.specs.Perform.{conflicting, permitted, changed, afterQuery, afterInquiry, perform}
+use Rattle.interpreter.specs.Perform.{conflicting, permitted, changed, afterQuery, afterInquiry, takeIn, perform}
 use Rattle.interpreter.specs.Reply.{replyTo, inquiryReply, fitsAnswer, joined, reply}
 use Rattle.interpreter.specs.Line.{Obeyed, attempt, refuse, next, runUnits, interrupted, finished, runLine, atNewline, endLine, unitsOf}
 use Rattle.interpreter.specs.Steps.{tries, stepsNext, unitSteps, lineSteps, ownSteps}
 use Rattle.interpreter.specs.Isolation.{setsSecond, headsSecond, UnitAlike, same, otherValue, pathLeft, UnitsAlike, LinesAlike, saves, unsaved, calmUnit, calm, Calm, asksSecond, answerTo, givenBy, given, answers, Agree}
 use Rattle.interpreter.specs.declared.deed.Deed.{Deed}
-use Rattle.interpreter.specs.declared.deed.Deed.the-variants.{Change, Complete, Clear, Query, Inquire, Saving}
+use Rattle.interpreter.specs.declared.deed.Deed.the-variants.{Change, Complete, Clear, Query, Inquire, Saving, Block}
 use Rattle.interpreter.specs.declared.deed.Change as changes
 use Rattle.interpreter.specs.declared.deed.Change.the-variants.{Nothing, Put, Reset, Store, Label as labelled}
 use Rattle.interpreter.specs.declared.deed.Query as queries
 use Rattle.interpreter.specs.declared.deed.Query.the-variants.{Identity, SelfTest, Completed, Limit, Value, Stored, Condition, SetEvents, Label as labelAsked}
 use Rattle.interpreter.proofs.Choices.{if-elim, if₂}
-use Rattle.interpreter.proofs.demands.isolation.Reading.{Both, refusals, passing, Then, stops, goes, then-bind, then-first, then-at, First, conflict-same, FirstDeed, FirstChange, DeedsAlike, equal, limits, ReadsAlike, read-alike, path-read, PutsSecond, second-read}
+use Rattle.interpreter.proofs.demands.isolation.Reading.{Both, refusals, passing, Then, stops, goes, then-bind, then-first, then-at, First, conflict-same, FirstDeed, FirstChange, DeedsAlike, equal, limits, ReadsAlike, read-alike, path-read, PutsSecond, SetsOrBlock, puts, misplaced, second-read}
 
 -- ---- boxes that agree but for channel 2, and have as many settings
 
 pub record Close (b c : Box) : Type 0 where
   pub agree : Agree b c
   pub long : length (b .core .settings .values) ≡ length (c .core .settings .values)
+  -- the block that waits for its unit
+  pub block : b .core .line .block ≡ c .core .line .block
 
 abbrev close : (b c : Box) → ((i : ℕ) → second i ≡ false → valueAt (b .core .settings) i ≡ valueAt (c .core .settings) i)
-    → b .core .settings .text ≡ c .core .settings .text → b .core .registers ≡ c .core .registers → length (b .core .settings .values) ≡ length (c .core .settings .values) → Close b c
-close b c s t r l = record { agree = record { settings = s; text = t; registers = r }; long = l }
+    → b .core .settings .text ≡ c .core .settings .text → b .core .registers ≡ c .core .registers → length (b .core .settings .values) ≡ length (c .core .settings .values)
+    → b .core .line .block ≡ c .core .line .block → Close b c
+close b c s t r l k = record { agree = record { settings = s; text = t; registers = r }; long = l; block = k }
 
 -- a setting is put in both
 set-same : (l m : List ℤ) → length l ≡ length m → (i j : ℕ) (v : ℤ) → getD l j (pos 0) ≡ getD m j (pos 0)
@@ -75,31 +78,32 @@ put-second b c h i j s t v w =
     (h .agree .text)
     (h .agree .registers)
     (length-set (b .core .settings .values) i v ∙ h .long ∙ sym (length-set (c .core .settings .values) j w))
+    (h .block)
 
 -- ---- what a deed leaves
 
 change-close : (x : changes.Change) (t : Text) (b c : Box) → Close b c
     → Close (box (changed x t (b .core)) (b .trouble)) (box (changed x t (c .core)) (c .trouble))
 unfolding changed
-change-close Nothing t b c h = close _ _ (h .agree .settings) (h .agree .text) (h .agree .registers) (h .long)
+change-close Nothing t b c h = close _ _ (h .agree .settings) (h .agree .text) (h .agree .registers) (h .long) (h .block)
 change-close (Put i v side) t b c h =
     close _ _ (λ k f. set-same (b .core .settings .values) (c .core .settings .values) (h .long) i k v (h .agree .settings k f)) (h .agree .text) (h .agree .registers)
-    (length-set (b .core .settings .values) i v ∙ h .long ∙ sym (length-set (c .core .settings .values) i v))
-change-close Reset t b c h = close _ _ (λ k f. refl) refl (h .agree .registers) refl
-change-close (Store r n side) t b c h = close _ _ (h .agree .settings) (h .agree .text) (ap (storedIn r n) (h .agree .registers)) (h .long)
-change-close labelled t b c h = close _ _ (h .agree .settings) refl (h .agree .registers) (h .long)
+    (length-set (b .core .settings .values) i v ∙ h .long ∙ sym (length-set (c .core .settings .values) i v)) (h .block)
+change-close Reset t b c h = close _ _ (λ k f. refl) refl (h .agree .registers) refl (h .block)
+change-close (Store r n side) t b c h = close _ _ (h .agree .settings) (h .agree .text) (ap (storedIn r n) (h .agree .registers)) (h .long) (h .block)
+change-close labelled t b c h = close _ _ (h .agree .settings) refl (h .agree .registers) (h .long) (h .block)
 
 query-close : (q : queries.Query) (b c : Box) → Close b c
     → Close (box (afterQuery q (b .core)) (b .trouble)) (box (afterQuery q (c .core)) (c .trouble))
-query-close Identity b c h = close _ _ (h .agree .settings) (h .agree .text) (h .agree .registers) (h .long)
-query-close SelfTest b c h = close _ _ (h .agree .settings) (h .agree .text) (h .agree .registers) (h .long)
-query-close Completed b c h = close _ _ (h .agree .settings) (h .agree .text) (h .agree .registers) (h .long)
-query-close (Limit i v) b c h = close _ _ (h .agree .settings) (h .agree .text) (h .agree .registers) (h .long)
-query-close (Value i) b c h = close _ _ (h .agree .settings) (h .agree .text) (h .agree .registers) (h .long)
-query-close (Stored r) b c h = close _ _ (h .agree .settings) (h .agree .text) (h .agree .registers) (h .long)
-query-close (Condition x) b c h = close _ _ (h .agree .settings) (h .agree .text) (h .agree .registers) (h .long)
-query-close (SetEvents x) b c h = close _ _ (h .agree .settings) (h .agree .text) (ap (setRead x) (h .agree .registers)) (h .long)
-query-close labelAsked b c h = close _ _ (h .agree .settings) (h .agree .text) (h .agree .registers) (h .long)
+query-close Identity b c h = close _ _ (h .agree .settings) (h .agree .text) (h .agree .registers) (h .long) (h .block)
+query-close SelfTest b c h = close _ _ (h .agree .settings) (h .agree .text) (h .agree .registers) (h .long) (h .block)
+query-close Completed b c h = close _ _ (h .agree .settings) (h .agree .text) (h .agree .registers) (h .long) (h .block)
+query-close (Limit i v) b c h = close _ _ (h .agree .settings) (h .agree .text) (h .agree .registers) (h .long) (h .block)
+query-close (Value i) b c h = close _ _ (h .agree .settings) (h .agree .text) (h .agree .registers) (h .long) (h .block)
+query-close (Stored r) b c h = close _ _ (h .agree .settings) (h .agree .text) (h .agree .registers) (h .long) (h .block)
+query-close (Condition x) b c h = close _ _ (h .agree .settings) (h .agree .text) (h .agree .registers) (h .long) (h .block)
+query-close (SetEvents x) b c h = close _ _ (h .agree .settings) (h .agree .text) (ap (setRead x) (h .agree .registers)) (h .long) (h .block)
+query-close labelAsked b c h = close _ _ (h .agree .settings) (h .agree .text) (h .agree .registers) (h .long) (h .block)
 
 -- ---- what comes of a unit: the same refusal, or both are obeyed; or check 9 refuses one of them
 
@@ -148,6 +152,16 @@ conflicting-same Clear s t a f = refl
 conflicting-same (Query q) s t a f = refl
 conflicting-same (Inquire q) s t a f = refl
 conflicting-same (Saving x p) s t a f = refl
+conflicting-same (Block here) s t a f = refl
+
+-- the core once a block is taken
+abbrev taken : Text → Core → Core
+taken t c = withMemory (withArea t (c .memory)) (withLine noLine c)
+
+-- the three tests of a block, and what is left
+abbrev looked : Bool → Bool → Bool → Box → List Text → Checked Obeyed
+looked x y z b p =
+    ((check 161 x >> check 104 y >> check 221 z >> passed (taken (b .core .line .block) (b .core))) >>= λ k. passed (box k (b .trouble))) >>= λ k. passed (obeyedAs p k)
 
 module _ (b c : Box) (h : Close b c) where
   permitted-same : (d : Deed) → FirstDeed d → permitted d (b .core) ≡ permitted d (c .core)
@@ -155,26 +169,46 @@ module _ (b c : Box) (h : Close b c) where
   permitted-same d f =
       rw (h .agree .registers, conflicting-same d (b .core .settings) (c .core .settings) (h .agree .settings) f)
 
+  -- a block, or its refusal: the same one waits in both
+  block-outcome : (m : Checked (Unit {0})) (here : Bool) (p q : List Text) → p ≡ q
+      → Outcomes (m >> (takeIn here (b .core) >>= λ z. passed (box z (b .trouble))) >>= λ z. passed (obeyedAs p z))
+      (m >> (takeIn here (c .core) >>= λ z. passed (box z (c .trouble))) >>= λ z. passed (obeyedAs q z))
+  unfolding takeIn check _>>_ _>>=_
+  block-outcome (refused n) here p q e = both refusals
+  block-outcome (passed _) here p q e =
+      let x : eqb (length (b .core .line .block)) mostBlock ≡ eqb (length (c .core .line .block)) mostBlock = rw (h .block) in
+      let z : not (locked (b .core .registers)) ≡ not (locked (c .core .registers)) = rw (h .agree .registers) in
+      subst (λ (y : Bool). Outcomes (looked y here (not (locked (b .core .registers))) b p) (looked (eqb (length (c .core .line .block)) mostBlock) here (not (locked (c .core .registers))) c q)) (sym x)
+      (subst (λ (y : Bool). Outcomes (looked (eqb (length (c .core .line .block)) mostBlock) here y b p) (looked (eqb (length (c .core .line .block)) mostBlock) here (not (locked (c .core .registers))) c q)) (sym z)
+      (go (eqb (length (c .core .line .block)) mostBlock) here (not (locked (c .core .registers)))))
+    where
+      go : (x y z : Bool) → Outcomes (looked x y z b p) (looked x y z c q)
+      go false y z = both refusals
+      go true false z = both refusals
+      go true true false = both refusals
+      go true true true = both (passing (record { paths = e; boxes = close _ _ (h .agree .settings) (h .agree .text) (h .agree .registers) (h .long) refl }))
+
   deed-outcome : (d : Deed) → FirstDeed d → not (saves d) ≡ true → (t : Text) (p q : List Text) → p ≡ q
       → Outcomes (permitted d (b .core) >> perform d t b >>= λ z. passed (obeyedAs p z)) (permitted d (c .core) >> perform d t c >>= λ z. passed (obeyedAs q z))
   unfolding perform
   deed-outcome (Change x) f n t p q e = rw (permitted-same (Change x) f) (change-outcome (permitted (Change x) (c .core)) p q e _ _ (change-close x t b c h))
   deed-outcome Complete f n t p q e =
       rw (permitted-same Complete f)
-      (change-outcome (permitted Complete (c .core)) p q e _ _ (close _ _ (h .agree .settings) (h .agree .text) (h .agree .registers) (h .long)))
+      (change-outcome (permitted Complete (c .core)) p q e _ _ (close _ _ (h .agree .settings) (h .agree .text) (h .agree .registers) (h .long) (h .block)))
   deed-outcome Clear f n t p q e =
       rw (permitted-same Clear f)
-      (change-outcome (permitted Clear (c .core)) p q e _ _ (close _ _ (h .agree .settings) (h .agree .text) (ap allRead (h .agree .registers)) (h .long)))
+      (change-outcome (permitted Clear (c .core)) p q e _ _ (close _ _ (h .agree .settings) (h .agree .text) (ap allRead (h .agree .registers)) (h .long) (h .block)))
   deed-outcome (Query x) f n t p q e =
       let k = query-close x b c h in
       rw (permitted-same (Query x) f)
       (query-outcome (permitted (Query x) (c .core)) p q e (replyTo x (b .core)) (replyTo x (c .core)) (afterQuery x (b .core)) (afterQuery x (c .core))
-      (λ z. box z (b .trouble)) (λ z. box z (c .trouble)) (λ a a′. close _ _ (k .agree .settings) (k .agree .text) (k .agree .registers) (k .long)))
+      (λ z. box z (b .trouble)) (λ z. box z (c .trouble)) (λ a a′. close _ _ (k .agree .settings) (k .agree .text) (k .agree .registers) (k .long) (k .block)))
   deed-outcome (Saving x i) f n t p q e = absurd (false≢true n)
+  deed-outcome (Block here) f n t p q e = rw (permitted-same (Block here) f) (block-outcome (permitted (Block here) (c .core)) here p q e)
   deed-outcome (Inquire x) f n t p q e =
       rw (permitted-same (Inquire x) f)
       (query-outcome (permitted (Inquire x) (c .core)) p q e (inquiryReply x b) (inquiryReply x c) (b .core) (c .core)
-      (λ z. box z (afterInquiry x (b .trouble))) (λ z. box z (afterInquiry x (c .trouble))) (λ a a′. close _ _ (h .agree .settings) (h .agree .text) (h .agree .registers) (h .long)))
+      (λ z. box z (afterInquiry x (b .trouble))) (λ z. box z (afterInquiry x (c .trouble))) (λ a a′. close _ _ (h .agree .settings) (h .agree .text) (h .agree .registers) (h .long) (h .block)))
 
   alike-outcome : (d d′ : Deed) → DeedsAlike d d′ → not (saves d) ≡ true → (t : Text) (p q : List Text) → p ≡ q
       → Outcomes (permitted d (b .core) >> perform d t b >>= λ z. passed (obeyedAs p z)) (permitted d′ (c .core) >> perform d′ t c >>= λ z. passed (obeyedAs q z))
@@ -182,7 +216,7 @@ module _ (b c : Box) (h : Close b c) where
   alike-outcome d _ (equal f) n t p q e = deed-outcome d f n t p q e
   alike-outcome _ _ (limits {i = i} {v = v} {w = w} s) n t p q e =
       query-outcome (passed tt) p q e (replyTo (Limit i v) (b .core)) (replyTo (Limit i w) (c .core)) (b .core) (c .core)
-      (λ z. box z (b .trouble)) (λ z. box z (c .trouble)) (λ a a′. close _ _ (h .agree .settings) (h .agree .text) (h .agree .registers) (h .long))
+      (λ z. box z (b .trouble)) (λ z. box z (c .trouble)) (λ a a′. close _ _ (h .agree .settings) (h .agree .text) (h .agree .registers) (h .long) (h .block))
 
   -- ---- and its answer, if it is not channel 2's
 
@@ -211,6 +245,7 @@ module _ (b c : Box) (h : Close b c) where
   alike-told (Query q) _ (equal f) = query-told q
   alike-told (Inquire q) _ (equal f) = refl
   alike-told (Saving x p) _ (equal f) = refl
+  alike-told (Block here) _ (equal f) = refl
   alike-told _ _ (limits s) = rw s
 
 -- ---- a unit
@@ -273,12 +308,28 @@ deed-comes b d w t p k =
     let e = w .is in
     (w .slot, w .value, w .isSecond, rw e (put-comes b (w .slot) (w .value) (w .side) t p (permitted (Change (Put (w .slot) (w .value) (w .side))) (b .core)) (rw e at k)))
 
+-- a block on a setting's row is refused
+block-refused : (b : Box) (m : Checked (Unit {0})) (t : Text) (p : List Text)
+    → calmUnit true (m >> (takeIn false (b .core) >>= λ z. passed (box z (b .trouble))) >>= λ z. passed (obeyedAs p z)) ≡ true → ⊥
+unfolding takeIn check _>>_ _>>=_
+block-refused b (refused n) t p k = false≢true k
+block-refused b (passed _) t p k = go (eqb (length (b .core .line .block)) mostBlock) k
+  where
+    go : (x : Bool)
+        → calmUnit true (((check 161 x >> check 104 false >> check 221 (not (locked (b .core .registers))) >> passed (taken (b .core .line .block) (b .core))) >>= λ z. passed (box z (b .trouble))) >>= λ z. passed (obeyedAs p z)) ≡ true
+        → ⊥
+    go true k = false≢true k
+    go false k = false≢true k
+
 second-comes : (path : List Text) (b : Box) (u : Text) (m : Checked Read)
-    → Then (λ (r : Read). PutsSecond (r .deed)) m → Then (λ (r : Read). r .path ≡ pathLeft path (header (headerText u))) m
+    → Then (λ (r : Read). SetsOrBlock (r .deed)) m → Then (λ (r : Read). r .path ≡ pathLeft path (header (headerText u))) m
     → calmUnit true (comesOf b m) ≡ true → SetSecond path b u (comesOf b m)
-unfolding _>>=_
+unfolding _>>=_ perform
 second-comes path b u _ stops p k = absurd (false≢true k)
-second-comes path b u _ (goes {a = r} d) p k =
+second-comes path b u _ (goes {a = r} (misplaced e)) p k =
+    absurd (block-refused b (permitted (Block false) (b .core)) (r .text) (r .path)
+    (subst (λ (d : Deed). calmUnit true (permitted d (b .core) >> perform d (r .text) b >>= λ z. passed (obeyedAs (r .path) z)) ≡ true) e k))
+second-comes path b u _ (goes {a = r} (puts d)) p k =
     let w = deed-comes b (r .deed) d (r .text) (r .path) k in
     record { slot = w .0; value = w .1; isSecond = w .2; is = w .3 ∙ ap (λ (q : List Text). passed (obeyedAs q (putIn (w .0) (w .1) b))) (then-at p refl) }
 
@@ -289,10 +340,11 @@ second-attempt path b u e k =
     let c = and-both (unsaved (readUnit s path u)) _ k .1 in
     second-comes path b u (readUnit s path u) (second-read s path u e) (path-read s path u) (rw e at c)
 
-second-tells : (c : Core) (m : Checked Read) → Then (λ (r : Read). PutsSecond (r .deed)) m → (x : Checked Obeyed) → givenBy c m x ≡ []
+second-tells : (c : Core) (m : Checked Read) → Then (λ (r : Read). SetsOrBlock (r .deed)) m → (x : Checked Obeyed) → givenBy c m x ≡ []
 second-tells c _ stops x = refl
 second-tells c _ (goes d) (refused n) = refl
-second-tells c _ (goes d) (passed o) = rw (d .is)
+second-tells c _ (goes (puts d)) (passed o) = rw (d .is)
+second-tells c _ (goes (misplaced e)) (passed o) = rw e
 
 second-given : (path : List Text) (b : Box) (u : Text) → setsSecond path u ≡ true → given (tries path b u) ≡ []
 unfolding given
@@ -360,8 +412,8 @@ refuse-close : (n : ℕ) (b c : Box) → Close b c → Close (refuse n b) (refus
 unfolding refuse
 refuse-close n b c h =
     let k = if₂ Close (eqb n 430) {x = answerIs [] b} {y = b} {x′ = answerIs [] c} {y′ = c}
-    (close _ _ (h .agree .settings) (h .agree .text) (h .agree .registers) (h .long)) h in
-    close _ _ (k .agree .settings) (k .agree .text) (k .agree .registers) (k .long)
+    (close _ _ (h .agree .settings) (h .agree .text) (h .agree .registers) (h .long) (h .block)) h in
+    close _ _ (k .agree .settings) (k .agree .text) (k .agree .registers) (k .long) (k .block)
 
 record Done (us vs path : List Text) (b c : Box) : Type 0 where
   near : Close (runUnits us path b) (runUnits vs path c)
@@ -401,34 +453,35 @@ interrupted-close : (b c : Box) → Close b c → Close (interrupted b) (interru
 unfolding interrupted
 interrupted-close b c h =
     if-elim (λ (x : Box). Close x (if empty (c .core .answer) then c else raise 410 (answerIs [] c))) (empty (b .core .answer))
-    (λ _. if-elim (λ (y : Box). Close b y) (empty (c .core .answer)) (λ _. h) (λ _. close _ _ (h .agree .settings) (h .agree .text) (h .agree .registers) (h .long)))
+    (λ _. if-elim (λ (y : Box). Close b y) (empty (c .core .answer)) (λ _. h) (λ _. close _ _ (h .agree .settings) (h .agree .text) (h .agree .registers) (h .long) (h .block)))
     (λ _. if-elim (λ (y : Box). Close (raise 410 (answerIs [] b)) y) (empty (c .core .answer))
-    (λ _. close _ _ (h .agree .settings) (h .agree .text) (h .agree .registers) (h .long)) (λ _. close _ _ (h .agree .settings) (h .agree .text) (h .agree .registers) (h .long)))
+    (λ _. close _ _ (h .agree .settings) (h .agree .text) (h .agree .registers) (h .long) (h .block)) (λ _. close _ _ (h .agree .settings) (h .agree .text) (h .agree .registers) (h .long) (h .block)))
 
 finished-close : (b c : Box) → Close b c → Close (finished b) (finished c)
 unfolding finished
 finished-close b c h =
     if-elim (λ (x : Box). Close x (if empty (c .core .answer) then c else answerIs (c .core .answer ++ 10 ∷ []) c)) (empty (b .core .answer))
-    (λ _. if-elim (λ (y : Box). Close b y) (empty (c .core .answer)) (λ _. h) (λ _. close _ _ (h .agree .settings) (h .agree .text) (h .agree .registers) (h .long)))
+    (λ _. if-elim (λ (y : Box). Close b y) (empty (c .core .answer)) (λ _. h) (λ _. close _ _ (h .agree .settings) (h .agree .text) (h .agree .registers) (h .long) (h .block)))
     (λ _. if-elim (λ (y : Box). Close (answerIs (b .core .answer ++ 10 ∷ []) b) y) (empty (c .core .answer))
-    (λ _. close _ _ (h .agree .settings) (h .agree .text) (h .agree .registers) (h .long)) (λ _. close _ _ (h .agree .settings) (h .agree .text) (h .agree .registers) (h .long)))
+    (λ _. close _ _ (h .agree .settings) (h .agree .text) (h .agree .registers) (h .long) (h .block)) (λ _. close _ _ (h .agree .settings) (h .agree .text) (h .agree .registers) (h .long) (h .block)))
 
 newline-close : (b c : Box) → Close b c → Close (atNewline b) (atNewline c)
-newline-close b c h = interrupted-close _ _ (close _ _ (h .agree .settings) (h .agree .text) (h .agree .registers) (h .long))
+newline-close b c h = interrupted-close _ _ (close _ _ (h .agree .settings) (h .agree .text) (h .agree .registers) (h .long) (h .block))
 
-pub not-overlong : (b : Box) → Calm (ownSteps b) → b .core .overlong ≡ false
+pub not-overlong : (b : Box) → Calm (ownSteps b) → b .core .line .overlong ≡ false
 unfolding lineSteps calm if_then_else_
-not-overlong b k = go (b .core .overlong) refl k
+not-overlong b k = go (b .core .line .overlong) refl k
   where
-    go : (t : Bool) → b .core .overlong ≡ t → Calm (lineSteps (b .core .line) t (atNewline b)) → b .core .overlong ≡ false
+    go : (t : Bool) → b .core .line .overlong ≡ t → Calm (lineSteps (b .core .line .text) t (atNewline b)) → b .core .line .overlong ≡ false
     go true e k = absurd (false≢true k)
     go false e k = e
 
-pub newline-done : (b c : Box) → Close b c → LinesAlike (b .core .line) (c .core .line) → Calm (ownSteps b) → Calm (ownSteps c)
+pub line-done : (b c : Box) → Close b c → LinesAlike (b .core .line) (c .core .line) → Calm (ownSteps b) → Calm (ownSteps c)
     → Close (endLine b) (endLine c) × (answers (ownSteps b) ≡ answers (ownSteps c))
 unfolding lineSteps endLine runLine if_then_else_
-newline-done b c h a k l =
+line-done b c h a k l =
     let o = not-overlong b k in
     let p = not-overlong c l in
-    let d = units-done (unitsOf (b .core .line)) (unitsOf (c .core .line)) [] a (atNewline b) (atNewline c) (newline-close b c h) (rw o at k) (rw p at l) in
-    (rw (o, p) (finished-close _ _ (d .near)), rw (o, p) (d .told))
+    let d = units-done (unitsOf (b .core .line .text)) (unitsOf (c .core .line .text)) [] (a .units) (atNewline b) (atNewline c) (newline-close b c h) (rw o at k) (rw p at l) in
+    let f = finished-close _ _ (d .near) in
+    (rw (o, p) (close _ _ (f .agree .settings) (f .agree .text) (f .agree .registers) (f .long) refl), rw (o, p) (d .told))

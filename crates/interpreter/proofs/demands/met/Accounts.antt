@@ -18,12 +18,13 @@ use Rattle.registers.specs.Status.{raised, oldestRead, atStart}
 use Rattle.interpreter.specs.Cuts.{cutAt, quoteNext, cutOpen, trimEnd, trim}
 use Rattle.interpreter.specs.Header.{name, placed, header, spells, bodyOf, byFirst, numbered, nodeMatches, suffixIn}
 use Rattle.interpreter.specs.Rows.{settingRows, otherRows, rows, fitsRow, findRow, secondOf, onChannel, findRole}
-use Rattle.interpreter.specs.Parameter.{labelDeed, parameters, least, greatest, findWord, parameter, valueGiven, settingDeed, deedOf, readFigure, readWord}
+use Rattle.interpreter.specs.Parameter.{labelDeed, parameters, least, greatest, findWord, parameter, valueGiven, settingDeed, deedOf, isBlock, given, readFigure, readWord}
 use Rattle.interpreter.specs.Unit.{readUnit}
 use Rattle.interpreter.specs.Box.{powerUp, blank}
 use Rattle.interpreter.specs.Perform.{permitted, changed, perform}
 use Rattle.interpreter.specs.Reply.{replyTo, inquiryText, joined, fitsAnswer, reply}
-use Rattle.interpreter.specs.Line.{attempt, refuse, runUnits, interrupted, finished, unitsOf, runLine, endLine, held, byte, piece}
+use Rattle.interpreter.specs.Line.{attempt, refuse, runUnits, interrupted, finished, unitsOf, runLine, endLine, grown, byte, piece}
+use Rattle.interpreter.specs.Blocks.{blockMark, behindLast, quoteAfter, givenSoFar, opens}
 use Rattle.interpreter.specs.Events.{Event, take as takes, taken, happens, after}
 use Rattle.interpreter.specs.Steps.{unitSteps, lineSteps, endSteps, byteSteps, pieceSteps, eventSteps, steps}
 use Rattle.interpreter.specs.Account.{actOf, kept, fullAtNext, unlost, readIn, queue}
@@ -66,8 +67,8 @@ unfolding if_then_else_ bytes same white printable digit letter wordByte small c
     nearest sizeIn rounded sizeSide sideIn inPlaces decimal tenths eventBit messageIn errorText
     slots table settingAt atReset wideRange narrow lowest highest within conflict examined accepted answerOf raised oldestRead atStart
     mayStand closes undoubled padded labelDeed cutAt quoteNext cutOpen trimEnd trim name placed bodyOf byFirst header numbered nodeMatches suffixIn spells settingRows otherRows rows fitsRow findRow secondOf onChannel findRole
-    parameters least greatest findWord parameter readWord readFigure valueGiven settingDeed deedOf readUnit powerUp
+    parameters least greatest findWord parameter readWord readFigure valueGiven settingDeed deedOf isBlock given readUnit powerUp
     permitted changed replyTo inquiryText joined fitsAnswer reply perform
-    attempt refuse runUnits interrupted finished unitsOf runLine endLine held byte piece taken happens after
+    attempt refuse runUnits interrupted finished unitsOf runLine endLine grown behindLast quoteAfter givenSoFar opens blockMark byte piece taken happens after
     unitSteps lineSteps endSteps byteSteps pieceSteps eventSteps steps actOf kept fullAtNext unlost readIn
 met-account = record { keptFull = refl; waitingFull = refl; keptAgain = refl; readAgain = refl; waitingAgain = refl; unlostAgain = refl; readMidway = refl }

@@ -23,14 +23,16 @@ use Rattle.registers.specs.Label.{mayStand, closes, undoubled, padded}
 use Rattle.interpreter.specs.Cuts.{front, cutAt, quoteNext, cutOpen, trimEnd, trim}
 use Rattle.interpreter.specs.Header.{Header, here, name, placed, header, spells, bodyOf, byFirst, numbered as takesNumber, nodeMatches, suffixIn}
 use Rattle.interpreter.specs.Rows.{settingRows, otherRows, rows, fitsRow, findRow, secondOf, onChannel, findRole}
-use Rattle.interpreter.specs.Parameter.{labelDeed, parameters, least, greatest, findWord, parameter, valueGiven, settingDeed, deedOf, readFigure, readWord}
+use Rattle.interpreter.specs.Parameter.{labelDeed, parameters, least, greatest, findWord, parameter, valueGiven, settingDeed, deedOf, isBlock, given, readFigure, readWord}
 use Rattle.interpreter.specs.Unit.{Read, readUnit}
 use Rattle.interpreter.specs.Box.{powerUp, blank}
+use Rattle.interpreter.specs.Blocks.{blockMark, behindLast, quoteAfter, givenSoFar, opens}
 use Rattle.interpreter.specs.Perform.{permitted, changed, perform}
 use Rattle.interpreter.specs.Reply.{replyTo, inquiryText, joined, fitsAnswer, reply}
-use Rattle.interpreter.specs.Line.{attempt, refuse, runUnits, interrupted, finished, unitsOf, runLine, endLine, held, byte, piece}
+use Rattle.interpreter.specs.Line.{attempt, refuse, runUnits, interrupted, finished, unitsOf, runLine, endLine, grown, goesOn, byte, piece}
 use Rattle.interpreter.specs.Events.{Event, received, take, result, taken, reported, happens, after}
 use Rattle.interpreter.specs.Demand3.{inLine, asked}
+use Rattle.interpreter.specs.Histories.{sent as sentBytes}
 use Rattle.interpreter.specs.declared.deed.Deed.the-variants.{Query}
 use Rattle.interpreter.specs.declared.deed.Query.the-variants.{Value}
 use Rattle.interpreter.specs.declared.deed.Role.{Role}
@@ -73,7 +75,9 @@ PremisesAt i t = Premises (powerUp blank) (tabled i) (t .1) buffer (takenFrom (p
 -- what they speak of
 record Seen : Type 0 where
   whole : Bool × Bool
+  outside : ℕ × ℕ
   inLine : Bool
+  goes : Bool
   asked : Text
   units : List Text
   read : Checked Read
@@ -90,14 +94,16 @@ seenAt t =
     let r = happens (after (powerUp blank) (queried (asking t) ++ [])) (take buffer) .result in
     let c = after (powerUp blank) (sentBack (asking t) [] buffer (sending t)) in
     record {
-      whole = (b .core .overlong, c .core .overlong);
+      whole = (b .core .line .overlong, c .core .line .overlong);
+      outside = (b .core .line .coming, c .core .line .coming);
       inLine = every inLine (sending t);
-      asked = b .core .line;
-      units = unitsOf (b .core .line);
-      read = readUnit (b .core .settings) [] (b .core .line);
+      goes = goesOn (after (powerUp blank) (queried (asking t) ++ [] ++ take buffer ∷ []) .core .line) (sentBytes (sending t));
+      asked = b .core .line .text;
+      units = unitsOf (b .core .line .text);
+      read = readUnit (b .core .settings) [] (b .core .line .text);
       number = r .number;
       taken = L.take (r .value) (r .buffer);
-      line = c .core .line;
+      line = c .core .line .text;
       locks = locked (c .core .registers);
       heading = header (t .0);
       row = findRole false (cutAt (code ":") (t .0)) false;
@@ -107,7 +113,9 @@ unfoldable expectedAt : ℕ → Text × Text → Seen
 expectedAt i t =
     record {
       whole = (false, false);
+      outside = (0, 0);
       inLine = true;
+      goes = true;
       asked = t .0 ++ bytes "?";
       units = (t .0 ++ bytes "?") ∷ [];
       read = passed (record { deed = Query (Value i); text = []; path = front (cutAt (code ":") (t .0)) });
@@ -133,10 +141,10 @@ unfolding if_then_else_ bytes same white printable digit letter wordByte small c
     nearest sizeIn rounded sizeSide sideIn inPlaces decimal tenths eventBit
     slots table settingAt atReset wideRange lowest highest narrow within conflict examined accepted answerOf raised rises falls eventsAfter conditionIs atStart
     mayStand closes undoubled padded labelDeed cutAt quoteNext cutOpen trimEnd trim name placed bodyOf byFirst header takesNumber nodeMatches suffixIn spells settingRows otherRows rows fitsRow findRow secondOf onChannel findRole
-    parameters least greatest findWord parameter readWord readFigure valueGiven settingDeed deedOf readUnit powerUp
+    parameters least greatest findWord parameter readWord readFigure valueGiven settingDeed deedOf isBlock given readUnit powerUp
     permitted changed replyTo inquiryText joined fitsAnswer reply perform
-    attempt refuse runUnits interrupted finished unitsOf runLine endLine held byte piece taken reported happens after
-    inLine shortNames colonJoined trips asking sending seenAt expectedAt numbered
+    attempt refuse runUnits interrupted finished unitsOf runLine endLine grown goesOn behindLast quoteAfter givenSoFar opens blockMark byte piece taken reported happens after
+    inLine sentBytes shortNames colonJoined trips asking sending seenAt expectedAt numbered
 seen = refl
 
 long : length trips ≡ count
@@ -158,15 +166,16 @@ seen-at (t ∷ ts) n (suc i) h e =
     rw q (seen-at ts (suc n) i (omega arith) z)
 
 trip-at : (i : ℕ) (t : Text × Text) → seenAt t ≡ expectedAt i t → PremisesAt i t
-unfolding seenAt expectedAt bytes white
+unfolding seenAt expectedAt bytes white goesOn sentBytes
 trip-at i t e =
     record {
       trip = record {
         own = (power-up-own blank);
-        first = refl;
-        second = ap (λ (x : Seen). x .inLine) e;
+        first = record { events = refl; bytes = refl };
+        second = record { events = ap (λ (x : Seen). x .inLine) e; bytes = ap (λ (x : Seen). x .goes) e };
         asks = record {
           whole = ap (λ (x : Seen). x .whole .0) e;
+          outside = ap (λ (x : Seen). x .outside .0) e;
           alone = ap (λ (x : Seen). x .units) e ∙ sym (ap (λ (x : Seen). x .asked ∷ []) e);
           path = front (cutAt (code ":") (t .0));
           text = [];
@@ -175,6 +184,7 @@ trip-at i t e =
         took = record { number = ap (λ (x : Seen). x .number) e; bytes = ap (λ (x : Seen). x .taken) e };
         sends = record {
           whole = ap (λ (x : Seen). x .whole .1) e;
+          outside = ap (λ (x : Seen). x .outside .1) e;
           left = [];
           header = t .0;
           gap = bytes " ";

@@ -22,14 +22,16 @@ use Rattle.registers.specs.Label.{mayStand, closes, undoubled, padded}
 use Rattle.interpreter.specs.Cuts.{cutAt, quoteNext, cutOpen, trimEnd, trim}
 use Rattle.interpreter.specs.Header.{name, placed, header, spells, bodyOf, byFirst, numbered, nodeMatches, suffixIn}
 use Rattle.interpreter.specs.Rows.{settingRows, otherRows, rows, fitsRow, findRow, secondOf, onChannel, findRole}
-use Rattle.interpreter.specs.Parameter.{labelDeed, parameters, least, greatest, findWord, parameter, valueGiven, settingDeed, deedOf, readFigure, readWord}
+use Rattle.interpreter.specs.Parameter.{labelDeed, parameters, least, greatest, findWord, parameter, valueGiven, settingDeed, deedOf, isBlock, given, readFigure, readWord}
 use Rattle.interpreter.specs.Unit.{readUnit}
-use Rattle.interpreter.specs.Box.{Box, box, powerUp, blank}
+use Rattle.interpreter.specs.Box.{lineIs, Box, box, powerUp, blank}
+use Rattle.interpreter.specs.Blocks.{blockMark, behindLast, quoteAfter, givenSoFar, opens}
 use Rattle.interpreter.specs.Perform.{permitted, changed, perform}
 use Rattle.interpreter.specs.Reply.{replyTo, inquiryText, joined, fitsAnswer, reply}
-use Rattle.interpreter.specs.Line.{attempt, refuse, runUnits, interrupted, finished, unitsOf, runLine, endLine, held, byte, piece}
+use Rattle.interpreter.specs.Line.{attempt, refuse, runUnits, interrupted, finished, unitsOf, runLine, endLine, grown, goesOn, byte, piece}
 use Rattle.interpreter.specs.Events.{Event, take, condition, taken, reported, happens, possibleCore, possible, Own, after}
 use Rattle.interpreter.specs.Demand3.{refusal, lineRefusal, inLine}
+use Rattle.interpreter.specs.Histories.{sent as sentBytes}
 use Rattle.interpreter.specs.Demand2.{tabled, display, Spelling, Sends, Trip, Premises, sentBack, takenFrom}
 use Rattle.interpreter.proofs.Possible.{power-up-own}
 use Rattle.interpreter.proofs.demands.met.RefusedLines.{text}
@@ -54,7 +56,7 @@ sentInExam = text "VOLT 5.1" ∷ []
 
 -- and of one from a hand-made state: half a line, an answer without its newline, every event bit, and -350 twice
 abbrev other : Box
-other = box (record { settings = atReset; registers = registersOf atStart; line = bytes "VO"; overlong = false; answer = bytes "X"; memory = blank }) (record { events = 255; queue = 350 ∷ 350 ∷ [] })
+other = box (record { settings = atReset; registers = registersOf atStart; line = lineIs (bytes "VO") false [] 0; answer = bytes "X"; memory = blank }) (record { events = 255; queue = 350 ∷ 350 ∷ [] })
 
 abbrev restOfLine : List Event
 restOfLine = text "LT?" ∷ []
@@ -100,15 +102,16 @@ unfolding if_then_else_ bytes same white printable digit letter wordByte small c
     nearest sizeIn rounded sizeSide sideIn inPlaces decimal tenths eventBit
     slots table settingAt atReset wideRange lowest highest narrow within conflict examined accepted answerOf raised rises falls eventsAfter conditionIs atStart
     mayStand closes undoubled padded labelDeed cutAt quoteNext cutOpen trimEnd trim name placed bodyOf byFirst header numbered nodeMatches suffixIn spells settingRows otherRows rows fitsRow findRow secondOf onChannel findRole
-    parameters least greatest findWord parameter readWord readFigure valueGiven settingDeed deedOf readUnit powerUp
+    parameters least greatest findWord parameter readWord readFigure valueGiven settingDeed deedOf isBlock given readUnit powerUp
     permitted changed replyTo inquiryText joined fitsAnswer reply perform
-    attempt refuse runUnits interrupted finished unitsOf runLine endLine held byte piece taken reported happens after
-    inLine refusal lineRefusal
+    attempt refuse runUnits interrupted finished unitsOf runLine endLine grown goesOn behindLast quoteAfter givenSoFar opens blockMark byte piece taken reported happens after
+    inLine sentBytes refusal lineRefusal
 met2 =
     let spelled : Spelling (tabled voltage) (bytes "VOLT") = record { read = _; reads = refl; sets = refl; row = refl } in
-    let sent : (b : Box) (a : Text) → b .core .overlong ≡ false → b .core .line ≡ bytes "VOLT" ++ (bytes " " ++ (a ++ [])) → Sends (tabled voltage) a b =
-    λ b a w l. record {
+    let sent : (b : Box) (a : Text) → b .core .line .overlong ≡ false → b .core .line .coming ≡ 0 → b .core .line .text ≡ bytes "VOLT" ++ (bytes " " ++ (a ++ [])) → Sends (tabled voltage) a b =
+    λ b a w o l. record {
       whole = w;
+      outside = o;
       left = [];
       header = bytes "VOLT";
       gap = bytes " ";
@@ -125,12 +128,13 @@ met2 =
       oneMore = record {
         trip = record {
           own = (power-up-own blank);
-          first = refl;
-          second = refl;
-          asks = record { whole = refl; alone = refl; path = _; text = _; asks = refl };
+          first = record { events = refl; bytes = refl };
+          second = record { events = refl; bytes = refl };
+          asks = record { whole = refl; outside = refl; alone = refl; path = _; text = _; asks = refl };
           took = record { number = refl; bytes = refl };
           sends = record {
             whole = refl;
+            outside = refl;
             left = bytes "\t";
             header = bytes ":SOURce:volt:AMPL";
             gap = bytes "  ";
@@ -149,34 +153,35 @@ met2 =
       examTrip = record {
         trip = record {
           own = (power-up-own blank);
-          first = refl;
-          second = refl;
-          asks = record { whole = refl; alone = refl; path = _; text = _; asks = refl };
+          first = record { events = refl; bytes = refl };
+          second = record { events = refl; bytes = refl };
+          asks = record { whole = refl; outside = refl; alone = refl; path = _; text = _; asks = refl };
           took = record { number = refl; bytes = refl };
-          sends = sent _ (bytes "5.1") refl refl;
+          sends = sent _ (bytes "5.1") refl refl refl;
         };
         free = refl;
       };
       otherTrip = record {
         trip = record {
           own = other-own;
-          first = refl;
-          second = refl;
-          asks = record { whole = refl; alone = refl; path = _; text = _; asks = refl };
+          first = record { events = refl; bytes = refl };
+          second = record { events = refl; bytes = refl };
+          asks = record { whole = refl; outside = refl; alone = refl; path = _; text = _; asks = refl };
           took = record { number = refl; bytes = refl };
-          sends = sent _ (bytes "0.0") refl refl;
+          sends = sent _ (bytes "0.0") refl refl refl;
         };
         free = refl;
       };
       textTrip = record {
         trip = record {
           own = (power-up-own blank);
-          first = refl;
-          second = refl;
-          asks = record { whole = refl; alone = refl; path = _; text = _; asks = refl };
+          first = record { events = refl; bytes = refl };
+          second = record { events = refl; bytes = refl };
+          asks = record { whole = refl; outside = refl; alone = refl; path = _; text = _; asks = refl };
           took = record { number = refl; bytes = refl };
           sends = record {
             whole = refl;
+            outside = refl;
             left = [];
             header = bytes "DISP:TEXT";
             gap = bytes " ";
@@ -194,11 +199,11 @@ met2 =
       lockMatters = record {
         trip = record {
           own = (power-up-own blank);
-          first = refl;
-          second = refl;
-          asks = record { whole = refl; alone = refl; path = _; text = _; asks = refl };
+          first = record { events = refl; bytes = refl };
+          second = record { events = refl; bytes = refl };
+          asks = record { whole = refl; outside = refl; alone = refl; path = _; text = _; asks = refl };
           took = record { number = refl; bytes = refl };
-          sends = sent _ (bytes "0.0") refl refl;
+          sends = sent _ (bytes "0.0") refl refl refl;
         };
         locks = refl;
         refusedBy = refl;

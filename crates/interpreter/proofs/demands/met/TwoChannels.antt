@@ -19,18 +19,19 @@ use Rattle.registers.specs.declared.status.RegisterSet.the-variants.{Warning}
 use Rattle.interpreter.specs.Cuts.{cutAt, quoteNext, cutOpen, trimEnd, trim}
 use Rattle.interpreter.specs.Header.{name, placed, header, spells, bodyOf, byFirst, numbered, nodeMatches, suffixIn}
 use Rattle.interpreter.specs.Rows.{settingRows, otherRows, rows, fitsRow, findRow, secondOf, onChannel, findRole}
-use Rattle.interpreter.specs.Parameter.{labelDeed, parameters, least, greatest, findWord, parameter, valueGiven, settingDeed, limitDeed, deedOf, readFigure, readWord}
+use Rattle.interpreter.specs.Parameter.{labelDeed, parameters, least, greatest, findWord, parameter, valueGiven, settingDeed, limitDeed, deedOf, isBlock, given as givenTo, readFigure, readWord}
 use Rattle.interpreter.specs.Unit.{readUnit}
 use Rattle.interpreter.specs.Box.{powerUp, blank}
 use Rattle.interpreter.specs.Perform.{permitted, changed, perform}
 use Rattle.interpreter.specs.Reply.{replyTo, inquiryText, joined, fitsAnswer, reply}
-use Rattle.interpreter.specs.Line.{attempt, refuse, runUnits, interrupted, finished, unitsOf, runLine, endLine, held, byte, piece}
+use Rattle.interpreter.specs.Blocks.{blockMark, behindLast, quoteAfter, givenSoFar, opens}
+use Rattle.interpreter.specs.Line.{attempt, refuse, runUnits, interrupted, finished, unitsOf, runLine, endLine, grown, grownAll, goesOn, byte, piece}
 use Rattle.interpreter.specs.Events.{Event, take, condition, look, taken, reported, happens, after}
 use Rattle.interpreter.proofs.demands.met.RefusedLines.{text}
-use Rattle.interpreter.specs.Histories.{newline, moments, Recut, sent}
-use Rattle.interpreter.specs.Demand3.{inLine}
+use Rattle.interpreter.specs.Histories.{newline, moments, Recut, besides, sent}
+use Rattle.interpreter.specs.Demand3.{inLine, byNewline}
 use Rattle.interpreter.specs.Steps.{unitSteps, lineSteps, endSteps, byteSteps, pieceSteps, eventSteps, steps}
-use Rattle.interpreter.specs.Isolation.{setsSecond, same as sameUnit, otherValue, UnitsAlike, LinesAlike, besides, Alike, unended, ended, calm, Calm, given, answers}
+use Rattle.interpreter.specs.Isolation.{setsSecond, same as sameUnit, otherValue, UnitsAlike, LinesAlike, Alike, unended, lineEnded, calm, Calm, given, answers}
 
 -- channel 2's voltage and range are set, then channel 1 is asked, and channel 2 too
 abbrev first : List Event
@@ -62,15 +63,15 @@ unfolding if_then_else_ bytes same white printable digit letter wordByte small c
     nearest sizeIn rounded sizeSide sideIn inPlaces decimal tenths eventBit
     slots table settingAt atReset wideRange lowest highest narrow within conflict examined accepted answerOf raised rises falls eventsAfter conditionIs atStart
     mayStand closes undoubled padded labelDeed cutAt quoteNext cutOpen trimEnd trim name placed bodyOf byFirst header numbered nodeMatches suffixIn spells settingRows otherRows rows fitsRow findRow secondOf onChannel findRole
-    parameters least greatest findWord parameter readWord readFigure valueGiven settingDeed limitDeed deedOf readUnit powerUp
+    parameters least greatest findWord parameter readWord readFigure valueGiven settingDeed limitDeed deedOf isBlock givenTo readUnit powerUp
     permitted changed replyTo inquiryText joined fitsAnswer reply perform
-    attempt refuse runUnits interrupted finished unitsOf runLine endLine held byte piece taken reported happens after
+    attempt refuse runUnits interrupted finished unitsOf runLine endLine grown grownAll goesOn behindLast quoteAfter givenSoFar opens blockMark byte piece taken reported happens after
     inLine sent setsSecond UnitsAlike besides unitSteps lineSteps endSteps byteSteps pieceSteps eventSteps steps calm given answers
 met-isolation =
     record {
-      alike = ended {d = first} {e = other} {h = look ∷ []} {g = look ∷ []} (record { first = refl; second = refl; others = refl })
-          (otherValue refl refl, (otherValue refl refl, (sameUnit refl, (sameUnit refl, (sameUnit refl, (sameUnit refl, tt))))))
-          (unended (record { first = refl; second = refl; others = refl }));
+      alike = lineEnded byNewline {d = first} {e = other} {h = look ∷ []} {g = look ∷ []} (record { first = (refl, refl); second = (refl, refl); others = refl }) refl refl
+          (record { units = (otherValue refl refl, (otherValue refl refl, (sameUnit refl, (sameUnit refl, (sameUnit refl, (sameUnit refl, tt)))))); blocks = refl })
+          (unended (record { first = (refl, refl); second = (refl, refl); others = refl }));
       calmOne = refl;
       calmTwo = refl;
       secondOne = refl;

@@ -12,16 +12,16 @@ use Rattle.registers.specs.Check.{Checked, refused, passed, _>>=_, _>>_, check}
 use Rattle.registers.specs.Group.{widestGroup}
 use Rattle.registers.specs.Status.{Trouble, raised}
 use Rattle.registers.specs.declared.status.RegisterSet.{RegisterSet}
-use Rattle.interpreter.specs.Box.{Core, Box, box, withLine, withAnswer, raise}
+use Rattle.interpreter.specs.Box.{noLine, blockOnly, Core, Box, box, holding, withLine, withAnswer, raise}
 use Rattle.interpreter.specs.Unit.{Read, readUnit}
-use Rattle.interpreter.specs.Perform.{permitted, afterQuery, setUp, perform}
+use Rattle.interpreter.specs.Perform.{permitted, afterQuery, setUp, takeIn, perform}
 use Rattle.interpreter.specs.Reply.{replyTo, reply}
-use Rattle.interpreter.specs.Line.{Obeyed, attempt, refuse, next, runUnits, unitsOf, interrupted, finished, runLine, endLine, atNewline, held, byte, piece}
-use Rattle.interpreter.specs.Events.{Event, started, received, take, condition, look, altered, mislent, Happened, Result, taken, reported, happens, after}
+use Rattle.interpreter.specs.Line.{Obeyed, attempt, refuse, next, runUnits, unitsOf, interrupted, finished, runLine, endLine, atNewline, byte, piece, noneCame, endReported, grown, endsLine}
+use Rattle.interpreter.specs.Events.{Event, started, received, take, condition, look, altered, mislent, Happened, Result, taken, reported, happens, after, ended}
 use Rattle.interpreter.specs.Histories.{isTake, resultsOf, answers}
-use Rattle.interpreter.specs.Demand3.{Watch, neither, asked, cleared, thenWatch, watchDeed, watchRead, watchNext, watchUnits, watchLine, watchByte, watchPiece, watchEvent, watch, Agree, AgreeAnswers}
+use Rattle.interpreter.specs.Demand3.{Watch, neither, asked, cleared, thenWatch, watchDeed, watchRead, watchNext, watchUnits, watchLine, watchEnd, watchByte, watchPiece, watchEvent, watch, Agree, AgreeAnswers}
 use Rattle.interpreter.specs.declared.deed.Deed.{Deed}
-use Rattle.interpreter.specs.declared.deed.Deed.the-variants.{Change, Complete, Clear, Query, Inquire, Saving}
+use Rattle.interpreter.specs.declared.deed.Deed.the-variants.{Change, Complete, Clear, Query, Inquire, Saving, Block}
 use Rattle.interpreter.proofs.Choices.{if₂}
 
 -- what holds of two boxes with one core holds of two whose cores are equal
@@ -89,6 +89,7 @@ module _ (run : List Text → Box → Box) (go : List Text → Box → Watch) (i
   deed-agree (Query q) x path = query-agree path (reply (replyTo q c) (afterQuery q c))
   deed-agree (Inquire q) x path = tt
   deed-agree (Saving y p) x path = setup-agree (permitted (Saving y p) c) path (setUp y p c)
+  deed-agree (Block here) x path = query-agree path (takeIn here c)
 
   read-agree : (m : Checked Read)
       → Agree (thenWatch (watchRead m) (watchNext go (attempted c m t)))
@@ -130,15 +131,33 @@ interrupted-agree line overlong c t t′ =
     if₂ (λ (a b : Box). Agree (watchLine line overlong a) (runLine line overlong a) (runLine line overlong b)) (empty (c .answer))
     (line-agree line overlong c t t′) (line-agree line overlong (withAnswer [] c) (raised 410 t) (raised 410 t′))
 
+-- what is left of the line is gone in both
+dropped-agree : (w : Watch) (a b : Box) → Agree w a b → Agree w (holding noLine a) (holding noLine b)
+dropped-agree neither a b e = ap (withLine noLine) e
+dropped-agree asked a b e = tt
+dropped-agree cleared a b e = ap (holding noLine) e
+
+pub end-agree : (c : Core) (t t′ : Trouble) → Agree (watchEnd (box c t)) (endLine (box c t)) (endLine (box c t′))
+unfolding endLine
+end-agree c t t′ =
+    dropped-agree (watchEnd (box c t)) _ _
+    (interrupted-agree (c .line .text) (c .line .overlong) (withLine (blockOnly (c .line .block)) c) t t′)
+
 pub byte-agree : (x : ℕ) (c : Core) (t t′ : Trouble) → Agree (watchByte (box c t) x) (byte (box c t) x) (byte (box c t′) x)
-unfolding watchByte byte endLine if_then_else_
-byte-agree x c t t′ = go (eqb x 10)
+unfolding watchByte byte if_then_else_
+byte-agree x c t t′ = go (endsLine x (c .line))
   where
-    go : (e : Bool) → Agree (if e then watchLine (c .line) (c .overlong) (atNewline (box c t)) else neither)
-        (if e then endLine (box c t) else box (held x c) t)
-        (if e then endLine (box c t′) else box (held x c) t′)
-    go true = interrupted-agree (c .line) (c .overlong) (withLine [] false c) t t′
+    go : (e : Bool) → Agree (if e then watchEnd (box c t) else neither)
+        (if e then endLine (box c t) else holding (grown x (c .line)) (box c t))
+        (if e then endLine (box c t′) else holding (grown x (c .line)) (box c t′))
+    go true = end-agree c t t′
     go false = refl
+
+reported-end-agree : (e : Bool) (c : Core) (t t′ : Trouble) → Agree (if e then neither else watchEnd (box c t))
+    (if e then box c t else endLine (box c t)) (if e then box c t′ else endLine (box c t′))
+unfolding if_then_else_
+reported-end-agree true c t t′ = refl
+reported-end-agree false c t t′ = end-agree c t t′
 
 -- ---- pieces and events
 
@@ -167,7 +186,7 @@ unfolding reported
 reported-core r n c t t′ = if₂ (λ (x y : Happened). SameCore (x .box) (y .box)) (leb n widestGroup) refl refl
 
 pub event-agree : (e : Event) (c : Core) (t t′ : Trouble) → Agree (watchEvent (box c t) e) (happens (box c t) e .box) (happens (box c t′) e .box)
-unfolding watchEvent happens
+unfolding watchEvent happens endReported
 event-agree started c t t′ = refl
 event-agree (received xs) c t t′ = piece-agree xs c t t′
 event-agree (take buffer) c t t′ = taken-alike buffer c t t′ .0
@@ -175,6 +194,7 @@ event-agree (condition r n) c t t′ = reported-core r n c t t′
 event-agree look c t t′ = refl
 event-agree (altered i x) c t t′ = refl
 event-agree (mislent buffer) c t t′ = refl
+event-agree ended c t t′ = reported-end-agree (noneCame (c .line)) c t t′
 
 -- ---- histories
 
@@ -209,6 +229,7 @@ answer-more (condition r n) w c t t′ x y f = f
 answer-more look w c t t′ x y f = f
 answer-more (altered i z) w c t t′ x y f = f
 answer-more (mislent buffer) w c t t′ x y f = f
+answer-more ended w c t t′ x y f = f
 
 pub history-agree : (es : List Event) (c : Core) (t t′ : Trouble) → AgreeBoth (watch (box c t) es) es (box c t) (box c t′)
 unfolding watch after resultsOf

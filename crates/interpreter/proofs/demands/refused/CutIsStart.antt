@@ -1,25 +1,22 @@
 -- Demand 3: the line cut to its obeyed units is a start of the line as it was sent. The obeyed units are the line's first ones, and joined
--- by `;` they are a start of all units joined, which are the line.
-use mathlib.Core.Path.{_≡_, refl, sym, _∙_, ap, ap₂}
-use mathlib.Core.Bool.{false}
-use mathlib.Core.List.{List, [], _∷_, _++_, append-assoc, append-nil}
-use Prim.Native.Nat.{ℕ, _≤_}
+-- by `;` they are a start of all units joined, which are the line; so its bytes, with those of the blocks that it opens, are the first bytes
+-- of the line (blocks/Cutting).
+use mathlib.Core.Path.{_≡_, refl, sym, _∙_, ap, ap₂, subst}
+use mathlib.Core.Bool.{Bool, true, false}
+use mathlib.Core.List.{List, [], _∷_, _++_, append-assoc}
+use Prim.Native.Nat.{ℕ}
 use Prim.Native.Char.{code}
-use native.Mathlib.Omega.{arith}
 use lib.Dec.{eqb}
-use lib.ListN.{length, take, length-append}
-use lib.Seq.{take-at}
 use borrow.Author.Tests.{eqb-true}
-use Rattle.registers.specs.Text.{Text, every, white}
+use Rattle.registers.specs.Text.{Text, if_then_else_, every, white}
 use Rattle.registers.specs.Check.{Checked, refused, passed}
 use Rattle.interpreter.specs.Cuts.{joinFirst, quoteNext, separates, cutOpen}
 use Rattle.registers.proofs.Tests.{and-both}
-use Rattle.interpreter.specs.Box.{Box, box, withLine}
-use Rattle.interpreter.specs.Line.{Obeyed, attempt, unitsOf, atNewline}
-use Rattle.interpreter.specs.Demand3.{obeyedNext, obeyed, joinUnits, cutLine}
+use Rattle.interpreter.specs.Box.{Line, noLine, Box}
+use Rattle.interpreter.specs.Line.{Obeyed, attempt, unitsOf, atNewline, grownAll}
+use Rattle.interpreter.specs.Demand3.{obeyedNext, obeyed, refusalNext, refusal, joinUnits, cutLine, lineRefusal}
 use Rattle.interpreter.proofs.Choices.{if-elim}
-use Rattle.interpreter.proofs.demands.refused.Cutting.{cut}
-use Rattle.interpreter.proofs.demands.refused.Keeping.{cutTo}
+use Rattle.interpreter.proofs.blocks.Cutting.{CutFresh, cut-part, cut-whole, cut-none}
 
 -- ---- a text cut at every `;` outside quotes and joined again
 
@@ -57,51 +54,65 @@ join-cut mark (b ∷ bs) =
 
 -- ---- the obeyed units are the first ones
 
-abbrev Starts {ℓ} : {A : Type ℓ} → List A → List A → Type ℓ
-Starts {A = A} p t = (r : List A) × (t ≡ p ++ r)
+-- all are obeyed, or there is one after them
+data Obey (us os : List Text) (n : ℕ) : Type 0 where
+  wholly : os ≡ us → n ≡ 0 → Obey us os n
+  partly : (v : Text) (vs : List Text) → us ≡ os ++ v ∷ vs → Obey us os n
 
-next-starts : (us : List Text) (u : Text) → ((path : List Text) (b : Box) → Starts (obeyed us path b) us)
-    → (r : Checked Obeyed) → Starts (obeyedNext (λ p c. obeyed us p c) u r) (u ∷ us)
-next-starts us u ih (refused n) = (u ∷ us, refl)
-next-starts us u ih (passed o) = let h = ih (o .path) (o .box) in (h .0, ap (λ (x : List Text). u ∷ x) (h .1))
+obeyed-units : (us path : List Text) (b : Box) → Obey us (obeyed us path b) (refusal us path b)
+unfolding obeyed refusal
+obeyed-units [] path b = wholly refl refl
+obeyed-units (u ∷ us) path b = go (attempt path b u) (λ p c. obeyed-units us p c)
+  where
+    more : {os : List Text} {n : ℕ} → Obey us os n → Obey (u ∷ us) (u ∷ os) n
+    more (wholly e z) = wholly (ap (λ (x : List Text). u ∷ x) e) z
+    more (partly v vs e) = partly v vs (ap (λ (x : List Text). u ∷ x) e)
 
-obeyed-starts : (us path : List Text) (b : Box) → Starts (obeyed us path b) us
-unfolding obeyed
-obeyed-starts [] path b = ([], refl)
-obeyed-starts (u ∷ us) path b = next-starts us u (λ p c. obeyed-starts us p c) (attempt path b u)
+    go : (r : Checked Obeyed) → ((p : List Text) (c : Box) → Obey us (obeyed us p c) (refusal us p c))
+        → Obey (u ∷ us) (obeyedNext (λ p c. obeyed us p c) u r) (refusalNext (λ p c. refusal us p c) r)
+    go (refused n) ih = partly u us refl
+    go (passed o) ih = more (ih (o .path) (o .box))
 
-join-starts : (xs ys : List Text) → Starts (joinUnits xs) (joinUnits (xs ++ ys))
+join-append : (u : Text) (us : List Text) (v : Text) (vs : List Text) → joinUnits ((u ∷ us) ++ v ∷ vs) ≡ joinUnits (u ∷ us) ++ code ";" ∷ joinUnits (v ∷ vs)
 unfolding joinUnits
-join-starts [] ys = (joinUnits ys, refl)
-join-starts (u ∷ []) [] = ([], sym (append-nil u))
-join-starts (u ∷ []) (y ∷ ys) = (code ";" ∷ joinUnits (y ∷ ys), refl)
-join-starts (u ∷ v ∷ xs) ys =
-    let h = join-starts (v ∷ xs) ys in
-    (h .0, ap (λ (t : Text). u ++ code ";" ∷ t) (h .1) ∙ sym (append-assoc u (code ";" ∷ joinUnits (v ∷ xs)) (h .0)))
+join-append u [] v vs = refl
+join-append u (w ∷ us) v vs =
+    ap (λ (t : Text). u ++ code ";" ∷ t) (join-append w us v vs) ∙ sym (append-assoc u (code ";" ∷ joinUnits (w ∷ us)) (code ";" ∷ joinUnits (v ∷ vs)))
 
-units-start : (line : Text) (b : Box) → Starts (joinUnits (obeyed (unitsOf line) [] b)) line
+-- ---- joined they are nothing, all of the line, or a first part of it with more behind
+
+data Front (u t : Text) (n : ℕ) : Type 0 where
+  nothing : u ≡ [] → Front u t n
+  all : t ≡ u → n ≡ 0 → Front u t n
+  part : (y : ℕ) (v : Text) → t ≡ u ++ y ∷ v → Front u t n
+
+line-front : (line : Text) (b : Box) → Front (joinUnits (obeyed (unitsOf line) [] b)) line (refusal (unitsOf line) [] b)
 unfolding unitsOf obeyed joinUnits
-units-start line b =
-    if-elim (λ (us : List Text). Starts (joinUnits (obeyed us [] b)) line) (every white line) (λ _. (line, refl)) (λ _.
-    let us = cutOpen (code ";") 0 line in
-    let o = obeyed-starts us [] b in
-    let j = join-starts (obeyed us [] b) (o .0) in
-    (j .0, sym (join-cut 0 line) ∙ ap joinUnits (o .1) ∙ j .1))
+line-front line b =
+    if-elim (λ (us : List Text). Front (joinUnits (obeyed us [] b)) line (refusal us [] b)) (every white line) (λ _. nothing refl) (λ _.
+    go (obeyed (cutOpen (code ";") 0 line) [] b) (obeyed-units (cutOpen (code ";") 0 line) [] b))
+  where
+    go : (os : List Text) {n : ℕ} → Obey (cutOpen (code ";") 0 line) os n → Front (joinUnits os) line n
+    go os (wholly e z) = all (sym (join-cut 0 line) ∙ ap joinUnits (sym e)) z
+    go [] (partly v vs e) = nothing refl
+    go (o ∷ os) (partly v vs e) = part (code ";") (joinUnits (v ∷ vs)) (sym (join-cut 0 line) ∙ ap joinUnits e ∙ join-append o os v vs)
 
-cut-starts : (b : Box) → Starts (cutLine b) (b .core .line)
-unfolding cutLine
-cut-starts b =
-    if-elim (λ (p : Text). Starts p (b .core .line)) (b .core .overlong) (λ _. (b .core .line, refl)) (λ _. units-start (b .core .line) (atNewline b))
+-- ---- the bytes of the cut line leave the cut line
 
--- ---- the cut line by its length
+pub line-cut : (raw : Text) (b : Box) → b .core .line ≡ grownAll noLine raw → (lineRefusal b ≡ 0 → b .core .line .coming ≡ 0) → CutFresh raw (cutLine b)
+unfolding cutLine lineRefusal if_then_else_
+line-cut raw b is outside = go (b .core .line .overlong) refl outside
+  where
+    text-is : grownAll noLine raw .text ≡ b .core .line .text
+    text-is = ap (λ (l : Line). l .text) (sym is)
 
-pub cut-length : (b : Box) → length (cutLine b) ≤ length (b .core .line)
-cut-length b = omega (arith, simp length-append at (ap length (cut-starts b .1)))
+    shape : {u : Text} {n : ℕ} → grownAll noLine raw .overlong ≡ false → (n ≡ 0 → b .core .line .coming ≡ 0) → Front u (b .core .line .text) n → CutFresh raw u
+    shape f h (nothing e) = subst (CutFresh raw) (sym e) (cut-none raw)
+    shape f h (all e z) = subst (CutFresh raw) (text-is ∙ e) (cut-whole raw (ap (λ (l : Line). l .coming) (sym is) ∙ h z) f)
+    shape f h (part y v e) = cut-part raw _ v y (text-is ∙ e) f
 
--- cut to as many bytes is cut to the obeyed units
-pub cut-is : (b : Box) → cutTo (length (cutLine b)) b ≡ cut b
-unfolding cutTo
-cut-is b =
-    let h = cut-starts b in
-    ap (λ (l : Text). box (withLine l false (b .core)) (b .trouble))
-    (ap (take (length (cutLine b))) (h .1) ∙ take-at (cutLine b) (h .0) (length (cutLine b)) refl)
+    go : (o : Bool) → b .core .line .overlong ≡ o
+        → ((if o then 363 else refusal (unitsOf (b .core .line .text)) [] (atNewline b)) ≡ 0 → b .core .line .coming ≡ 0)
+        → CutFresh raw (if o then [] else joinUnits (obeyed (unitsOf (b .core .line .text)) [] (atNewline b)))
+    go true e h = cut-none raw
+    go false e h = shape (ap (λ (l : Line). l .overlong) (sym is) ∙ e) h (line-front (b .core .line .text) (atNewline b))

@@ -1,7 +1,7 @@
 -- Demand 3, at the newline: a line that is refused by a number other than -430, and the same line cut to the units that were obeyed,
 -- leave the same core. The cut line's units are the obeyed ones, since none of them has a `;` outside quotes and the first is not blank; and the refusal
 -- changes no core.
-use mathlib.Core.Path.{_≡_, refl, sym, _∙_, ap}
+use mathlib.Core.Path.{_≡_, refl, sym, _∙_, ap, subst}
 use mathlib.Core.Bool.{Bool, true, false, not, false≢true}
 use mathlib.Core.List.{List, [], _∷_, _++_}
 use Prim.Native.Nat.{ℕ}
@@ -12,8 +12,9 @@ use Rattle.registers.specs.Text.{Text, if_then_else_, every, white, empty, afte
 use Rattle.registers.specs.Check.{Checked, refused, passed, _>>=_, _>>_, check}
 use Rattle.registers.specs.declared.settings.Settings.{Settings}
 use Rattle.registers.proofs.Tests.{and-both, and-true}
+use Rattle.interpreter.specs.Blocks.{openings}
 use Rattle.interpreter.specs.Cuts.{cutOpen}
-use Rattle.interpreter.specs.Box.{Box, box, withLine}
+use Rattle.interpreter.specs.Box.{Line, noLine, blockOnly, Box, holding, withLine}
 use Rattle.interpreter.specs.Unit.{allowed, Read, readUnit}
 use Rattle.interpreter.specs.Line.{Obeyed, attempt, refuse, next, runUnits, unitsOf, interrupted, finished, runLine, endLine, atNewline}
 use Rattle.interpreter.specs.Demand3.{obeyedNext, obeyed, refusalNext, refusal, joinUnits, cutLine, lineRefusal}
@@ -21,11 +22,9 @@ use Rattle.interpreter.proofs.Choices.{if-elim}
 use Rattle.interpreter.proofs.Lists.{is-empty}
 use Rattle.interpreter.proofs.header.Grammar.{header-none}
 use Rattle.interpreter.proofs.cuts.Parts.{Parted, cut-parted, cut-more, cut-one}
+use Rattle.interpreter.proofs.demands.refused.BlindLines.{Blind, interrupted-blind, line-blind}
+use Rattle.interpreter.proofs.demands.refused.Marked.{parted-blind}
 use Rattle.interpreter.proofs.demands.refused.Agreement.{over-cores, finished-core}
-
--- the same box, its waiting line cut to the units that will be obeyed
-abbrev pub cut : Box → Box
-cut b = box (withLine (cutLine b) false (b .core)) (b .trouble)
 
 -- a refusal by a number other than -430 changes no core
 refuse-keeps : (n : ℕ) (b : Box) → (n ≡ 430 → ⊥) → refuse n b .core ≡ b .core
@@ -153,13 +152,43 @@ pub none-waits : (b : Box) → interrupted b .core .answer ≡ []
 unfolding interrupted
 none-waits b = if-elim (λ (c : Box). c .core .answer ≡ []) (empty (b .core .answer)) (λ q. is-empty (b .core .answer) q) (λ _. refl)
 
--- "At its newline the two agree in all but the error queue and the event status register"
-pub newline-cut : (b : Box) → (lineRefusal b ≡ 430 → ⊥) → endLine b .core ≡ endLine (cut b) .core
-unfolding endLine cutLine lineRefusal runLine if_then_else_
-newline-cut b h = go (b .core .overlong) h
+-- of a cut line that opens no block no unit is given one
+pub cut-blind : (b : Box) → openings [] (cutLine b) ≡ 0 → Blind (unitsOf (cutLine b)) [] (atNewline b)
+unfolding cutLine unitsOf if_then_else_
+cut-blind b z = go (b .core .line .overlong) z
   where
-    go : (o : Bool) → ((if o then 363 else refusal (unitsOf (b .core .line)) [] (atNewline b)) ≡ 430 → ⊥)
-        → runLine (b .core .line) o (atNewline b) .core
-        ≡ runLine (if o then [] else joinUnits (obeyed (unitsOf (b .core .line)) [] (atNewline b))) false (atNewline b) .core
-    go true k = sym (blank-line (atNewline b) (none-waits (box (withLine [] false (b .core)) (b .trouble))))
-    go false k = run-cut (b .core .line) (atNewline b) k
+    os : List Text
+    os = obeyed (unitsOf (b .core .line .text)) [] (atNewline b)
+
+    parted : Parted (code ";") 0 os
+    parted = parted-obeyed (code ";") 0 (unitsOf (b .core .line .text)) [] (atNewline b) (units-parted (b .core .line .text))
+
+    go : (o : Bool) → openings [] (if o then [] else joinUnits os) ≡ 0 → Blind (unitsOf (if o then [] else joinUnits os)) [] (atNewline b)
+    go true z = tt
+    go false z =
+        subst (λ (us : List Text). Blind us [] (atNewline b)) (sym (units-joined os parted (visible-first (unitsOf (b .core .line .text)) [] (atNewline b))))
+        (parted-blind os [] (atNewline b) parted z)
+
+-- the cut line's block is the line's, or no unit that was obeyed is given one
+pub data Blocks (b : Box) (l : Line) : Type 0 where
+  same : l .block ≡ b .core .line .block → Blocks b l
+  none : Blind (unitsOf (cutLine b)) [] (atNewline b) → Blocks b l
+
+-- "At its newline the two agree in all but the error queue and the event status register"
+pub newline-cut : (b : Box) (l : Line) → l .text ≡ cutLine b → l .overlong ≡ false → Blocks b l → (lineRefusal b ≡ 430 → ⊥) → endLine b .core ≡ endLine (holding l b) .core
+unfolding endLine cutLine lineRefusal runLine if_then_else_
+newline-cut b l e f k h = rw (e, f) (ap (withLine noLine) (go (b .core .line .overlong) h) ∙ other k)
+  where
+    go : (o : Bool) → ((if o then 363 else refusal (unitsOf (b .core .line .text)) [] (atNewline b)) ≡ 430 → ⊥)
+        → runLine (b .core .line .text) o (atNewline b) .core
+        ≡ runLine (if o then [] else joinUnits (obeyed (unitsOf (b .core .line .text)) [] (atNewline b))) false (atNewline b) .core
+    go true k = sym (blank-line (atNewline b) (none-waits (holding (blockOnly (b .core .line .block)) b)))
+    go false k = run-cut (b .core .line .text) (atNewline b) k
+
+    other : Blocks b l → withLine noLine (runLine (cutLine b) false (atNewline b) .core)
+        ≡ withLine noLine (runLine (cutLine b) false (interrupted (holding (blockOnly (l .block)) b)) .core)
+    other (same z) = ap (λ (t : Text). withLine noLine (runLine (cutLine b) false (interrupted (holding (blockOnly t) b)) .core)) (sym z)
+    other (none z) =
+        let w = blockOnly (l .block) in
+        let at : interrupted (holding w b) ≡ holding w (atNewline b) = interrupted-blind w (holding (blockOnly (b .core .line .block)) b) in
+        sym (ap (λ (c : Box). withLine noLine (runLine (cutLine b) false c .core)) at ∙ ap (λ (c : Box). withLine noLine (c .core)) (line-blind w (cutLine b) (atNewline b) z))

@@ -8,15 +8,15 @@ use lib.Dec.{eqb}
 use Rattle.registers.specs.Text.{Text, empty}
 use Rattle.registers.specs.Check.{Checked, refused, passed, _>>=_, _>>_, check}
 use Rattle.registers.specs.Status.{Trouble, raised}
-use Rattle.interpreter.specs.Box.{Core, Box, box, withLine, withAnswer}
+use Rattle.interpreter.specs.Box.{blockOnly, Core, Box, box, withLine, withAnswer}
 use Rattle.interpreter.specs.Unit.{Read, readUnit}
-use Rattle.interpreter.specs.Perform.{permitted, afterQuery, setUp, perform}
+use Rattle.interpreter.specs.Perform.{permitted, afterQuery, setUp, takeIn, perform}
 use Rattle.interpreter.specs.Reply.{replyTo, reply}
-use Rattle.interpreter.specs.Line.{attempt, unitsOf, interrupted}
-use Rattle.interpreter.specs.Events.{Event, Sort, anew, carries, fetches, aside, sortOf}
-use Rattle.interpreter.specs.Demand3.{Watch, neither, asked, cleared, thenWatch, watchDeed, watchRead, watchNext, watchUnits, watchLine, watchByte, watchPiece, watchSort, watchEvent, watch, Agree}
+use Rattle.interpreter.specs.Line.{attempt, unitsOf, interrupted, noneCame, endsLine}
+use Rattle.interpreter.specs.Events.{Event, Sort, anew, carries, fetches, finishes, aside, sortOf}
+use Rattle.interpreter.specs.Demand3.{Watch, neither, asked, cleared, thenWatch, watchDeed, watchRead, watchNext, watchUnits, watchLine, watchByte, watchPiece, watchSort, watchEvent, watch, Agree, watchEnd}
 use Rattle.interpreter.specs.declared.deed.Deed.{Deed}
-use Rattle.interpreter.specs.declared.deed.Deed.the-variants.{Change, Complete, Clear, Query, Inquire, Saving}
+use Rattle.interpreter.specs.declared.deed.Deed.the-variants.{Change, Complete, Clear, Query, Inquire, Saving, Block}
 use Rattle.interpreter.proofs.Choices.{if₂}
 use Rattle.interpreter.proofs.demands.refused.Agreement.{over-cores, leaving, obeys, attempted, byte-agree, event-agree}
 
@@ -51,6 +51,7 @@ module _ (go : List Text → Box → Watch) (ih : (path : List Text) (c : Core) 
   deed-watch (Query q) x path = query-watch path (reply (replyTo q c) (afterQuery q c))
   deed-watch (Inquire q) x path = refl
   deed-watch (Saving y p) x path = setup-watch (permitted (Saving y p) c) path (setUp y p c)
+  deed-watch (Block here) x path = query-watch path (takeIn here c)
 
   read-watch : (m : Checked Read)
       → thenWatch (watchRead m) (watchNext go (attempted c m t)) ≡ thenWatch (watchRead m) (watchNext go (attempted c m t′))
@@ -70,16 +71,18 @@ line-watch : (line : Text) (overlong : Bool) (c : Core) (t t′ : Trouble) → w
 unfolding watchLine
 line-watch line overlong c t t′ = if₂ (λ (v w : Watch). v ≡ w) overlong refl (units-watch (unitsOf line) [] c t t′)
 
+end-watch : (c : Core) (t t′ : Trouble) → watchEnd (box c t) ≡ watchEnd (box c t′)
+unfolding interrupted
+end-watch c t t′ =
+    let l = c .line .text in
+    let o = c .line .overlong in
+    let d = withLine (blockOnly (c .line .block)) c in
+    if₂ (λ (a b : Box). watchLine l o a ≡ watchLine l o b) (empty (c .answer))
+    (line-watch l o d t t′) (line-watch l o (withAnswer [] d) (raised 410 t) (raised 410 t′))
+
 byte-watch : (x : ℕ) (c : Core) (t t′ : Trouble) → watchByte (box c t) x ≡ watchByte (box c t′) x
-unfolding watchByte interrupted
-byte-watch x c t t′ =
-    let l = c .line in
-    let o = c .overlong in
-    let d = withLine [] false c in
-    if₂ (λ (v w : Watch). v ≡ w) (eqb x 10)
-    (if₂ (λ (a b : Box). watchLine l o a ≡ watchLine l o b) (empty (c .answer))
-    (line-watch l o d t t′) (line-watch l o (withAnswer [] d) (raised 410 t) (raised 410 t′)))
-    refl
+unfolding watchByte
+byte-watch x c t t′ = if₂ (λ (v w : Watch). v ≡ w) (endsLine x (c .line)) (end-watch c t t′) refl
 
 -- the first that is not neither, where the boxes that are left agree
 then-watch : (w w′ : Watch) → w ≡ w′ → (a b : Box) → Agree w a b → (f : Box → Watch) → ((c : Core) (t t′ : Trouble) → f (box c t) ≡ f (box c t′))
@@ -106,6 +109,7 @@ event-watch e c t t′ = go (sortOf e)
     go anew = refl
     go (carries xs) = piece-watch xs c t t′
     go (fetches buffer) = refl
+    go finishes = if₂ (λ (v w : Watch). v ≡ w) (noneCame (c .line)) refl (end-watch c t t′)
     go aside = refl
 
 pub history-watch : (es : List Event) (c : Core) (t t′ : Trouble) → watch (box c t) es ≡ watch (box c t′) es

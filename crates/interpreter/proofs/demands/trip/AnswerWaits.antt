@@ -1,24 +1,23 @@
 -- While a line comes in, settings stay as they are, and a waiting answer stays until it is taken. Every event but a power-up and a newline
 -- leaves them so (`Quiet`), and so do any number of them, by induction.
-use mathlib.Core.Path.{_≡_, refl, _∙_}
+use mathlib.Core.Path.{_≡_, refl, sym, _∙_, ap, subst}
 use mathlib.Core.Bool.{true, false, false≢true}
 use mathlib.Core.List.{List, [], _∷_}
 use Prim.Native.Nat.{ℕ}
 use native.Mathlib.Omega.{arith}
-use lib.Dec.{leb, ltb}
+use lib.Dec.{leb}
 use lib.ListN as L
 use lib.ListN.{length, drop}
 use lib.Seq.{take-at}
-use Rattle.registers.specs.Text.{Text, every, empty}
+use Rattle.registers.specs.Text.{Text, if_then_else_, every, empty}
 use Rattle.registers.specs.Group.{widestGroup}
-use Rattle.registers.proofs.Tests.{and-both}
 use Rattle.registers.specs.declared.status.RegisterSet.{RegisterSet}
-use Rattle.interpreter.specs.Box.{Core, Box, box, mostLine}
-use Rattle.interpreter.specs.Line.{held, byte, piece}
-use Rattle.interpreter.specs.Events.{Event, started, received, take, condition, look, altered, mislent, Happened, taken, reported, happens, after}
-use Rattle.interpreter.specs.Demand3.{inLine}
+use Rattle.interpreter.specs.Box.{Box}
+use Rattle.interpreter.specs.Events.{Event, started, received, take, condition, look, altered, mislent, Happened, taken, reported, happens, after, ended}
+use Rattle.interpreter.specs.Histories.{besides}
+use Rattle.interpreter.specs.Demand3.{inLine, UnderWay}
 use Rattle.interpreter.proofs.Choices.{if-elim}
-use Rattle.interpreter.proofs.line.Pieces.{plain, byte-plain}
+use Rattle.interpreter.proofs.demands.histories.InLine.{in-line}
 
 -- an answer that is as it was, or gone
 pub data Left (a x : Text) : Type 0 where
@@ -45,19 +44,6 @@ same b = record { settings = refl; answer = waits refl }
 quiet-then : {a b c : Box} → Quiet a b → Quiet b c → Quiet a c
 quiet-then p q = record { settings = q .settings ∙ p .settings; answer = left-then (p .answer) (q .answer) }
 
-held-quiet : (x : ℕ) (b : Box) → Quiet b (box (held x (b .core)) (b .trouble))
-unfolding held
-held-quiet x b =
-    if-elim (λ (c : Core). Quiet b (box c (b .trouble))) (ltb (length (b .core .line)) mostLine)
-    (λ _. record { settings = refl; answer = waits refl }) (λ _. record { settings = refl; answer = waits refl })
-
-piece-quiet : (b : Box) (xs : Text) → every plain xs ≡ true → Quiet b (piece b xs)
-unfolding piece
-piece-quiet b [] t = same b
-piece-quiet b (x ∷ xs) t =
-    let p = and-both (plain x) (every plain xs) t in
-    quiet-then (rw (byte-plain b x (p .0)) (held-quiet x b)) (piece-quiet (byte b x) xs (p .1))
-
 taken-quiet : (buffer : Text) (b : Box) → Quiet b (taken buffer b .box)
 unfolding taken
 taken-quiet buffer b =
@@ -70,17 +56,24 @@ unfolding reported
 reported-quiet x n b =
     if-elim (λ (h : Happened). Quiet b (h .box)) (leb n widestGroup) (λ _. record { settings = refl; answer = waits refl }) (λ _. same b)
 
-pub quiet : (b : Box) (es : List Event) → every inLine es ≡ true → Quiet b (after b es)
-unfolding after happens inLine
-quiet b [] t = same b
-quiet b (started ∷ es) t = absurd (false≢true t)
-quiet b (received xs ∷ es) t =
-    let p = and-both (every plain xs) (every inLine es) t in quiet-then (piece-quiet b xs (p .0)) (quiet (piece b xs) es (p .1))
-quiet b (take buffer ∷ es) t = quiet-then (taken-quiet buffer b) (quiet _ es t)
-quiet b (condition x n ∷ es) t = quiet-then (reported-quiet x n b) (quiet _ es t)
-quiet b (look ∷ es) t = quiet b es t
-quiet b (altered i x ∷ es) t = quiet-then (record { settings = refl; answer = waits refl }) (quiet _ es t)
-quiet b (mislent buffer ∷ es) t = quiet b es t
+besides-quiet : (b : Box) (es : List Event) → every inLine es ≡ true → Quiet b (after b (besides es))
+unfolding after happens inLine besides if_then_else_
+besides-quiet b [] t = same b
+besides-quiet b (started ∷ es) t = absurd (false≢true t)
+besides-quiet b (received xs ∷ es) t = besides-quiet b es t
+besides-quiet b (take buffer ∷ es) t = quiet-then (taken-quiet buffer b) (besides-quiet _ es t)
+besides-quiet b (condition x n ∷ es) t = quiet-then (reported-quiet x n b) (besides-quiet _ es t)
+besides-quiet b (look ∷ es) t = besides-quiet b es t
+besides-quiet b (altered i x ∷ es) t = quiet-then (record { settings = refl; answer = waits refl }) (besides-quiet _ es t)
+besides-quiet b (mislent buffer ∷ es) t = besides-quiet b es t
+besides-quiet b (ended ∷ es) t = absurd (false≢true t)
+
+-- the line's bytes touch neither (histories/InLine)
+pub quiet : (b : Box) (es : List Event) → UnderWay b es → Quiet b (after b es)
+quiet b es w =
+    let q = besides-quiet b es (w .events) in
+    let e = in-line es (b .core .line) b (w .events) (w .bytes) .state in
+    record { settings = ap (λ (c : Box). c .core .settings) e ∙ q .settings; answer = subst (Left (b .core .answer)) (sym (ap (λ (c : Box). c .core .answer) e)) (q .answer) }
 
 -- ---- a take that succeeds
 

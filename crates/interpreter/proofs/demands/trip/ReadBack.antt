@@ -50,9 +50,9 @@ unfoldable readTo : Kind → ℤ → Checked Given → Bool
 readTo k v (refused n) = false
 readTo k v (passed g) = gives k v g
 
--- a byte that is printable and parts neither units nor parameters
+-- a byte that is printable, parts neither units nor parameters, and begins no block
 abbrev pub plainByte : ℕ → Bool
-plainByte b = printable b && (not (eqb b (code ",")) && not (eqb b (code ";")))
+plainByte b = printable b && (not (eqb b (code ",")) && (not (eqb b (code ";")) && not (eqb b 35)))
 
 -- such bytes, at least one and not many
 unfoldable pub plainText : Text → Bool
@@ -142,7 +142,7 @@ digit-plain : (b : ℕ) → digit b ≡ true → plainByte b ≡ true
 unfolding printable
 digit-plain b d =
     let h = digit-bounds b (holds d) in
-    rw (le-leb 33 b (omega arith), le-leb b 126 (omega arith), ne-eqb b 44 (λ e. omega arith), ne-eqb b 59 (λ e. omega arith))
+    rw (le-leb 33 b (omega arith), le-leb b 126 (omega arith), ne-eqb b 44 (λ e. omega arith), ne-eqb b 59 (λ e. omega arith), ne-eqb b 35 (λ e. omega arith))
 
 module _ (q : Quantity) (k : Kind) (v : ℤ) (t : inTable k v ≡ true) where
   limits : (leZ (lowestOf k) v ≡ true) × (leZ v (highestOf k) ≡ true)

@@ -20,7 +20,7 @@ use Rattle.registers.specs.declared.rounding.Side.the-variants.{On}
 use Rattle.registers.specs.declared.settings.Settings.{Settings}
 use Rattle.registers.proofs.Tests.{and-both}
 use Rattle.interpreter.specs.Cuts.{front}
-use Rattle.interpreter.specs.Box.{Core, Box, box, withSettings, withLine, withAnswer, mostAnswer}
+use Rattle.interpreter.specs.Box.{noLine, blockOnly, holding, Core, Box, box, withSettings, withLine, withAnswer, mostAnswer}
 use Rattle.interpreter.specs.Unit.{readUnit}
 use Rattle.interpreter.specs.Parameter.{deedOf}
 use Rattle.interpreter.specs.UnitParts.{Allowed}
@@ -29,7 +29,7 @@ use Rattle.interpreter.specs.Reply.{replyTo, joined, fitsAnswer, reply}
 use Rattle.interpreter.specs.Line.{attempt, runUnits, interrupted, finished, runLine, endLine, atNewline}
 use Rattle.interpreter.specs.Events.{Event, take, happens, Own, after}
 use Rattle.interpreter.specs.Histories.{newline}
-use Rattle.interpreter.specs.Demand3.{inLine, refusal, lineRefusal}
+use Rattle.interpreter.specs.Demand3.{UnderWay, refusal, lineRefusal}
 use Rattle.interpreter.specs.Demand2.{Which, tabled, display, queryOf, roleOf, answerTo, Asks, Answered, Took, Sends, queried, sentBack, RoundTrip}
 use Rattle.interpreter.specs.declared.deed.Deed.the-variants.{Change, Query}
 use Rattle.interpreter.specs.declared.deed.Change as changes
@@ -114,23 +114,23 @@ module _ (i : Which) (b : Box) (fit : Fit mostAnswer b) (q : Asks i b) where
   a = answerTo i s
 
   there : There i
-  there = asked-there i s (read-allowed s [] (b .core .line) (q .asks))
+  there = asked-there i s (read-allowed s [] (b .core .line .text) (q .asks))
 
-  query-line : endLine b ≡ box (withAnswer (a ++ 10 ∷ []) (withLine [] false (b .core))) (atNewline b .trouble)
+  query-line : endLine b ≡ box (withAnswer (a ++ 10 ∷ []) (withLine noLine (b .core))) (atNewline b .trouble)
   unfolding endLine runLine if_then_else_
   query-line =
       let f = fine (b .core) mostAnswer (fit .core) i there in
-      let c = withLine [] false (b .core) in
+      let c = withLine (blockOnly (b .core .line .block)) (b .core) in
       let e : atNewline b ≡ box (withAnswer [] c) (atNewline b .trouble) =
       ap (λ (x : Core). box x (atNewline b .trouble)) (interrupted-core (box c (b .trouble))) in
       rw (q .whole, q .alone)
-      (ap (λ (x : Box). finished (runUnits (b .core .line ∷ []) [] x)) e
-      ∙ answered (queryOf i) c (atNewline b .trouble) a (b .core .line) (q .text) (q .path) (f .sends .some) (f .short) (q .asks)
-      (asked-reply i (withAnswer [] c)) (asked-left i (withAnswer [] c)))
+      (ap (holding noLine) (ap (λ (x : Box). finished (runUnits (b .core .line .text ∷ []) [] x)) e
+      ∙ answered (queryOf i) c (atNewline b .trouble) a (b .core .line .text) (q .text) (q .path) (f .sends .some) (f .short) (q .asks)
+      (asked-reply i (withAnswer [] c)) (asked-left i (withAnswer [] c))))
 
 pub query-answers : Answered
 query-answers b own i before asks =
-    ap (λ (c : Box). c .core .answer) (newline-after b before ∙ query-line i (after b before) (history-fit b before (own-fit b own)) asks)
+    ap (λ (c : Box). c .core .answer) (newline-after b before (asks .outside) ∙ query-line i (after b before) (history-fit b before (own-fit b own)) asks)
 
 -- ---- the newline of the line that sends the answer back
 
@@ -194,10 +194,10 @@ module _ (c : Core) (k : ℕ) (fit : FitCore k c) where
 module _ (i : Which) (b : Box) (fit : Fit mostAnswer b) (h : There i) (a : Text) (is : a ≡ answerTo i (b .core .settings))
     (none : b .core .answer ≡ []) (free : locked (b .core .registers) ≡ false) (q : Sends i a b) where
   abbrev c : Core
-  c = withLine [] false (b .core)
+  c = withLine (blockOnly (b .core .line .block)) (b .core)
 
   fit-c : FitCore mostAnswer c
-  fit-c = fit-line mostAnswer (b .core) (fit .core) [] false zero-le
+  fit-c = fit-line mostAnswer (b .core) (fit .core) (blockOnly (b .core .line .block)) zero-le (fit .core .block)
 
   parts : sent.Line i (q .left) (q .header) (q .gap) a (q .right)
   parts =
@@ -210,7 +210,7 @@ module _ (i : Which) (b : Box) (fit : Fit mostAnswer b) (h : There i) (a : Text)
         sendable = rw is (fine (b .core) mostAnswer (fit .core) i h .sends);
       }
 
-  back-line : (endLine b ≡ box c (b .trouble)) × (lineRefusal b ≡ 0)
+  back-line : (endLine b ≡ holding noLine b) × (lineRefusal b ≡ 0)
   unfolding endLine runLine lineRefusal if_then_else_
   back-line =
       let n : atNewline b ≡ box c (b .trouble) = none-interrupted c (b .trouble) none in
@@ -219,7 +219,7 @@ module _ (i : Which) (b : Box) (fit : Fit mostAnswer b) (h : There i) (a : Text)
       let u = sent.alone i (q .left) (q .header) (q .gap) a (q .right) parts in
       let pass = let-pass c mostAnswer fit-c i free in
       let same : changed x (textIn a) c ≡ c = rw is (changes-nothing c mostAnswer fit-c i) in (
-        rw (q .whole, n, q .line, u, put-back c (b .trouble) _ _ _ x r pass same) (none-finished c (b .trouble) none),
+        rw (q .whole, n, q .line, u, put-back c (b .trouble) _ _ _ x r pass same) (ap (holding noLine) (none-finished c (b .trouble) none)),
         rw (q .whole, n, q .line, u) (not-refused c (b .trouble) _ _ _ x r pass same),
       )
 
@@ -237,7 +237,7 @@ still n (waits e) = e
 still n (gone e) = absurd (false≢true (sym n ∙ ap empty e))
 
 module _ (b : Box) (own : Own b) (i : Which) (a buffer : Text) (before early late : List Event)
-    (in-early : every inLine early ≡ true) (in-late : every inLine late ≡ true) (asks : Asks i (after b before))
+    (in-early : UnderWay (after b (queried before)) early) (in-late : UnderWay (after b (queried before ++ early ++ take buffer ∷ [])) late) (asks : Asks i (after b before))
     (took : Took a (happens (after b (queried before ++ early)) (take buffer) .result)) where
   abbrev asking : Box
   asking = after b before
@@ -253,8 +253,8 @@ module _ (b : Box) (own : Own b) (i : Which) (a buffer : Text) (before early lat
 
   -- after the query's newline
   queried-is : after b (queried before)
-      ≡ box (withAnswer (answerTo i (asking .core .settings) ++ 10 ∷ []) (withLine [] false (asking .core))) (atNewline asking .trouble)
-  queried-is = newline-after b before ∙ query-line i asking (fit before) asks
+      ≡ box (withAnswer (answerTo i (asking .core .settings) ++ 10 ∷ []) (withLine noLine (asking .core))) (atNewline asking .trouble)
+  queried-is = newline-after b before (asks .outside) ∙ query-line i asking (fit before) asks
 
   early-quiet : Quiet (after b (queried before)) taking
   early-quiet = rw (after-append b (queried before) early) (quiet (after b (queried before)) early in-early)
@@ -271,7 +271,9 @@ module _ (b : Box) (own : Own b) (i : Which) (a buffer : Text) (before early lat
 
   late-quiet : Quiet (happens taking (take buffer) .box) sending
   unfolding after
-  late-quiet = rw (after-append b (queried before ++ early) (take buffer ∷ late)) (quiet (happens taking (take buffer) .box) late in-late)
+  late-quiet =
+      rw (after-append b (queried before ++ early) (take buffer ∷ late))
+      (quiet (happens taking (take buffer) .box) late (rw (after-append b (queried before ++ early) (take buffer ∷ [])) at in-late))
 
   same-settings : sending .core .settings ≡ asking .core .settings
   same-settings =
@@ -280,7 +282,7 @@ module _ (b : Box) (own : Own b) (i : Which) (a buffer : Text) (before early lat
   none : sending .core .answer ≡ []
   none = left-none (subst (λ (x : Text). Left x (sending .core .answer)) (takes .none) (late-quiet .answer))
 
-  back : locked (sending .core .registers) ≡ false → Sends i a sending → (endLine sending ≡ box (withLine [] false (sending .core)) (sending .trouble)) × (lineRefusal sending ≡ 0)
+  back : locked (sending .core .registers) ≡ false → Sends i a sending → (endLine sending ≡ holding noLine sending) × (lineRefusal sending ≡ 0)
   back free sends =
       back-line i sending (fit (sentBack before early buffer late)) (there i asking (fit before) asks) a
       (answer-is ∙ ap (answerTo i) (sym same-settings)) none free sends
@@ -290,7 +292,7 @@ round-trip b i a buffer before early late h p recut =
     let sentLine = sentBack before early buffer late in
     let q = p .trip in
     let r = back b (q .own) i a buffer before early late (q .first) (q .second) (q .asks) (q .took) (p .free) (q .sends) in
-    let e = recut-state b h (sentLine ++ newline ∷ []) recut ∙ newline-after b sentLine ∙ r .0 in
+    let e = recut-state b h (sentLine ++ newline ∷ []) recut ∙ newline-after b sentLine (q .sends .outside) ∙ r .0 in
     record {
       settings = ap (λ (c : Box). c .core .settings) e ∙ same-settings b (q .own) i a buffer before early late (q .first) (q .second) (q .asks) (q .took);
       accepted = r .1;

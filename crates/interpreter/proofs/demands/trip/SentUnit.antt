@@ -9,14 +9,15 @@ use Prim.Native.Char.{code}
 use native.Mathlib.Omega.{arith}
 use lib.Dec.{leb, eqb}
 use borrow.Author.Tests.{not-true, leb-true, leb-false, le-leb, lt-leb, eqb-true, ne-eqb}
-use Rattle.registers.specs.Text.{Text, if_then_else_, white, visible, printable, between, every, empty, first, start, after}
+use Rattle.registers.specs.Text.{Text, if_then_else_, bytes, same, white, visible, printable, between, every, empty, first, start, after}
 use Rattle.registers.specs.Check.{passed, check, _>>=_, _>>_}
 use Rattle.registers.specs.Label.{mayStand, textIn, quotedText}
 use Rattle.registers.specs.declared.settings.Settings.{Settings}
 use Rattle.registers.proofs.Tests.{and-both, and-fails, every-append}
 use Rattle.interpreter.specs.Cuts.{quoteNext, trimEnd, trim}
 use Rattle.interpreter.specs.Header.{pathAfter}
-use Rattle.interpreter.specs.Parameter.{parameters, least, greatest, deedOf}
+use Rattle.interpreter.specs.Parameter.{parameters, least, greatest, deedOf, isBlock, given}
+use Rattle.interpreter.specs.Blocks.{blockMark}
 use Rattle.interpreter.specs.Unit.{allowed, headerText, parameterText, readUnit}
 use Rattle.interpreter.specs.Line.{unitsOf}
 use Rattle.interpreter.specs.Demand2.{Which, tabled, display, roleOf, Spelling}
@@ -89,10 +90,11 @@ solid-joins b e = and-both (printable b) _ (and-both (not (white b)) _ e .1) .1
 plain-solid : (b : ℕ) → plainByte b ≡ true → solid b ≡ true
 unfolding solid white printable
 plain-solid b e =
-    let p = and-both (printable b) (not (eqb b (code ",")) && not (eqb b (code ";"))) e in
-    let q = and-both (not (eqb b (code ","))) (not (eqb b (code ";"))) (p .1) in
+    let p = and-both (printable b) _ e in
+    let q = and-both (not (eqb b (code ","))) _ (p .1) in
+    let r = and-both (not (eqb b (code ";"))) _ (q .1) in
     let h = leb-true 33 b (and-both (leb 33 b) (leb b 126) (p .0) .0) in
-    rw (lt-leb b 32 (omega arith), p .0, q .1)
+    rw (lt-leb b 32 (omega arith), p .0, r .0)
 
 plain-comma : (b : ℕ) → plainByte b ≡ true → other (code ",") b ≡ true
 plain-comma b e = and-both (not (eqb b (code ","))) _ (and-both (printable b) _ e .1) .0
@@ -112,6 +114,7 @@ pub record Sendable (a : Text) : Type 0 where
   pub ends : (r : Text) → every white r ≡ true → trimEnd (a ++ r) ≡ a
   pub unit : (r : Text) → every white r ≡ true → undivided (code ";") 0 (a ++ r) ≡ true
   pub one : undivided (code ",") 0 a ≡ true
+  pub noBlock : isBlock a ≡ false
 
 -- no white space is passed over at its start
 stays : (a t : Text) → Sendable a → after white (a ++ t) ≡ a ++ t
@@ -123,6 +126,16 @@ stays (b ∷ a) t s = rw (s .starts)
 plain-starts : (a : Text) → empty a ≡ false → every solid a ≡ true → white (first a) ≡ false
 plain-starts [] n e = absurd (false≢true (sym n))
 plain-starts (b ∷ a) n e = solid-visible b (and-both (solid b) (every solid a) e .0)
+
+-- none of its bytes begins a block
+plain-other : (a : Text) → every plainByte a ≡ true → isBlock a ≡ false
+unfolding isBlock blockMark bytes same
+plain-other [] e = refl
+plain-other (b ∷ a) e =
+    let p = and-both (plainByte b) (every plainByte a) e .0 in
+    let q = and-both (not (eqb b (code ","))) _ (and-both (printable b) _ p .1) in
+    let r = and-both (not (eqb b (code ";"))) _ (q .1) in
+    rw (not-true (eqb b 35) (r .1))
 
 pub plain-sendable : (a : Text) → plainText a ≡ true → Sendable a
 unfolding plainText free
@@ -139,6 +152,7 @@ plain-sendable a e =
       unit = λ r v. free-undivided (code ";") 0 (a ++ r)
           (every-append (other (code ";")) a r (every-map solid (other (code ";")) solid-joins a so) (every-map white (other (code ";")) white-joins r v));
       one = free-undivided (code ",") 0 a (every-map plainByte (other (code ",")) plain-comma a bs);
+      noBlock = plain-other a bs;
     }
 
 -- the display's text in its quotes
@@ -171,7 +185,7 @@ quote-ends (b ∷ t) r v =
     rw (ih, some-after t 34 [], and-false (white b))
 
 pub quoted-sendable : (t : Text) → every mayStand t ≡ true → Sendable (quotedText t)
-unfolding white printable undivided quoteNext free if_then_else_
+unfolding white printable undivided quoteNext free isBlock blockMark bytes same if_then_else_
 quoted-sendable t e =
     let other-quote = every-map mayStand (other 34) stands-other t e in
     let whites : (r : Text) → every white r ≡ true → undivided (code ";") 0 r ≡ true =
@@ -183,6 +197,7 @@ quoted-sendable t e =
       ends = λ r v. quote-ends (34 ∷ t) r v;
       unit = λ r v. ap (undivided (code ";") 0) (ap (λ (x : Text). 34 ∷ x) (append-assoc t (34 ∷ []) r)) ∙ quoted-parts (code ";") t r refl other-quote ∙ whites r v;
       one = quoted-parts (code ",") t [] refl other-quote;
+      noBlock = refl;
     }
 
 -- what holds of every byte of the five parts holds of every byte of the line
@@ -272,7 +287,7 @@ module _ (i : Which) (left h gap a right : Text) (l : Line i left h gap a right)
   -- checks 1 to 7 accept it as the setting's command with that parameter
   pub reads-line : (s : Settings) (d : Deed) → deedOf s (roleOf i) false (a ∷ []) ≡ passed d
       → readUnit s [] line ≡ passed (record { deed = d; text = textIn a; path = pathAfter (l .spelling .read .place) [] (l .spelling .read .names) })
-  unfolding readUnit check _>>=_ _>>_
+  unfolding readUnit given check _>>=_ _>>_ if_then_else_
   reads-line s d e =
       let x = l .spelling in
-      rw (line-allowed, header-is, parameter-is, x .reads, one-parameter, l .sendable .some, x .sets, x .row, takes-one i .0, takes-one i .1, e)
+      rw (line-allowed, header-is, parameter-is, x .reads, one-parameter, l .sendable .some, x .sets, x .row, takes-one i .0, takes-one i .1, l .sendable .noBlock, e)

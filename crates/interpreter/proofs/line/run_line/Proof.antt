@@ -2,12 +2,14 @@
 -- by a newline. Each way is a law of line/Newline.
 use mathlib.Core.Path.{_≡_}
 use mathlib.Core.Bool.{false}
+use mathlib.Core.List.{[]}
+use Prim.Native.Nat.{ℕ, _<_}
 use native.Mathlib.Omega.{arith}
-use lib.ListN.{length}
+use lib.ListN.{length, replicate, length-replicate}
 use Rattle.registers.specs.Text.{white, every}
 use Rattle.registers.specs.declared.error.Error.the-variants.{InputBufferOverrun}
-use Rattle.interpreter.specs.Box.{memory}
-use Rattle.interpreter.specs.PresentParts.{raisedWith}
+use Rattle.interpreter.specs.Box.{mostAnswer, mostBlock}
+use Rattle.interpreter.specs.PresentParts.{around, raisedWith}
 use Rattle.registers.specs.Queue.{most}
 use Rattle.interpreter.proofs.present.Laws.{raised-short}
 use Rattle.interpreter.proofs.line.Newline.{blank, not-blank, line-overlong, line-blank, line-none, line-some}
@@ -41,10 +43,10 @@ returns c =
     let long : length (a .present .status .errors) ≡ most = search needs in
     let raised = c .raise .ensures in
     let none = o .pre .0 .1 in
-    record {
+    λ w b _. record {
       queued = rw raised (raised-short InputBufferOverrun (a .present) long (o .pre .1 .1));
       room = rw (raised, none) (omega arith);
-      box = rw (raised, none) (line-overlong (a .present) (a .line .now) (a .overlong) (memory (a .store .now)) long (c .before .if1 .taken));
+      box = rw (raised, none) (line-overlong (a .present) (a .line .now) (a .overlong) (around w (a .store .now) b) long (c .before .if1 .taken));
     }
 
 white-end-requires : tie.Need-white-end-requires
@@ -55,11 +57,11 @@ returns-2 c =
     let e = c .before .before in
     let a = entry e .args in
     let none = entry e .pre .0 .1 in
-    let w = c .before .white-end in
-    record {
+    let white = c .before .white-end in
+    λ w b _. record {
       queued = entry e .pre .1 .1;
       room = rw none (omega arith);
-      box = rw none (line-blank (a .present) (a .line .now) (a .overlong) (memory (a .store .now)) (e .if1 .left) (blank (a .line .now) (w .result) (w .ensures) (c .if2 .taken)));
+      box = rw none (line-blank (a .present) (a .line .now) (a .overlong) (around w (a .store .now) b) (e .if1 .left) (blank (a .line .now) (white .result) (white .ensures) (c .if2 .taken)));
     }
 
 run-units-requires : tie.Need-run-units-requires
@@ -76,19 +78,24 @@ returns-3 c =
     let r = c .before .before .before .before .before in
     let e = in-length (ran-from r) in
     let a = entry e .args in
-    let w = r .run-units .ensures in
-    let room = w .room in
+    λ w b long.
+    let ran = r .run-units .ensures w b long in
+    let room = ran .room in
     record {
-      queued = w .queued;
+      queued = ran .queued;
       room = omega arith;
-      box = line-none (a .present) (a .line .now) (a .overlong) (memory (a .store .now)) (e .if1 .left) (visible (ran-from r)) (r .run-units .result) _ _ w (c .if3 .taken);
+      box = line-none (a .present) (a .line .now) (a .overlong) (around w (a .store .now) b) (e .if1 .left) (visible (ran-from r)) (r .run-units .result) _ _ ran (c .if3 .taken);
     }
 
+-- the answer leaves room for its newline, whatever block waits
+leaves-room : (r : tie.After-run-units) → r .run-units .result .answered < mostAnswer
+leaves-room r = r .run-units .ensures (replicate mostBlock 0) [] (length-replicate {A = ℕ} mostBlock 0) .room
+
 slice-write-out : tie.Need-slice-write-out
-slice-write-out c = omega arith
+slice-write-out c = omega (arith, leaves-room (c .before .before .before .before .before))
 
 add-ran : tie.Need-add-ran
-add-ran c = omega arith
+add-ran c = omega (arith, leaves-room (c .before .before .before .before .before))
 
 same-length-3 : tie.Need-same-length-3
 same-length-3 c = search needs
@@ -101,14 +108,15 @@ returns-4 c =
     let r = c .before .before .before .before .before in
     let e = in-length (ran-from r) in
     let a = entry e .args in
-    let w = r .run-units .ensures in
-    let room = w .room in
     let k = r .run-units .kept in
     let was = entry e .pre .1 .0 in
+    λ w b long.
+    let ran = r .run-units .ensures w b long in
+    let room = ran .room in
     record {
-      queued = w .queued;
+      queued = ran .queued;
       room = omega arith;
-      box = line-some (a .present) (a .line .now) (a .overlong) (memory (a .store .now)) (e .if1 .left) (visible (ran-from r)) (r .run-units .result) _ _ w (c .if3 .left) (omega arith);
+      box = line-some (a .present) (a .line .now) (a .overlong) (around w (a .store .now) b) (e .if1 .left) (visible (ran-from r)) (r .run-units .result) _ _ ran (c .if3 .left) (omega arith);
     }
 
 pub run-line-spec : {M : Type 1} → statement M

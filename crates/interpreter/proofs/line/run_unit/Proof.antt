@@ -2,7 +2,7 @@
 use Prim.Native.Nat.{_≤_}
 use lib.ListN.{length}
 use borrow.Author.Needs.{needs}
-use Rattle.interpreter.specs.Box.{memory}
+use Rattle.interpreter.specs.PresentParts.{around}
 use Rattle.interpreter.proofs.line.Laws.{unit-part, unit-allowed, unit-said, unit-refused, unit-carried}
 use Rattle.interpreter.proofs.line.run_unit.Statement.{statement}
 use Rattle.interpreter.proofs.line.run_unit.Tie as tie
@@ -20,8 +20,8 @@ returns c =
     let r = d .before .before in
     let a = entry r .args in
     let p = entry r .pre .1 in
-    λ names h. unit-refused (a .done) names (a .unit .now) (r .read .last .1 .1 .0) (r .read .result .decision) (r .read .result .given) (r .read .result .used) (r .read .ensures names h)
-    (a .out .now) (memory (a .store .now)) (p .2) (p .0) _ (c .stop .result) (c .stop .ensures) (d .decision .given .1)
+    λ names w b h long. unit-refused (a .done) names (a .unit .now) (r .read .last .1 .1 .0) (r .read .result .decision) (r .read .result .given) (r .read .result .used) (r .read .ensures names h)
+    (a .out .now) (around w (a .store .now) b) (p .2) (p .0) _ (c .stop .result) (c .stop .ensures) (d .decision .given .1)
 
 -- its parameter stands in the unit
 part : (d : tie.After-decision2) → let g = read-of d .read .result .given in (g .from ≤ g .to) × (g .to ≤ length (entry (read-of d) .args .unit .now))
@@ -53,12 +53,12 @@ carry-out-requires c κs =
 
 returns-2 : tie.Need-returns-2
 returns-2 c =
-    let w = c .before .before .before .before in
-    let d = w .before .before .before .before .before .before in
+    let v = c .before .before .before .before in
+    let d = v .before .before .before .before .before .before in
     let r = read-of d in
     let a = entry r .args in
-    λ names h. unit-carried (a .done) names (a .unit .now) (r .read .last .1 .1 .0) (r .read .result .decision) (r .read .result .given) (r .read .result .used) (r .read .ensures names h)
-    (a .out .now) (memory (a .store .now)) _ (d .decision2 .given .1) (w .carry-out .result) _ _ (w .carry-out .ensures)
+    λ names w b h long. unit-carried (a .done) names (a .unit .now) (r .read .last .1 .1 .0) (r .read .result .decision) (r .read .result .given) (r .read .result .used) (r .read .ensures names h)
+    (a .out .now) (around w (a .store .now) b) _ (d .decision2 .given .1) (v .carry-out .result) _ _ (v .carry-out .ensures w b long)
 
 pub run-unit-spec : {M : Type 1} → statement M
 run-unit-spec =

@@ -11,9 +11,9 @@ returns c =
     let a = s .args in
     let told = c .before .before .before .before .before .before .enum-told .given .1 in
     let laid = rw (c .before .before .before .before .before .block-of .ensures) at (c .before .before .paste .ensures .1) in
-    λ t out. rw told
+    λ t out w b. rw told
     (saved (a .present) (a .place) (a .used) (a .store .now) (s .pre .1 .1) (s .pre .1 .0) (rw told at (s .pre .0 .0)) _
-    (laid ∙ block-laid (a .place) _ (a .present .settings) (a .store .now) refl) t out)
+    (laid ∙ block-laid (a .place) _ (a .present .settings) (a .store .now) refl) t out w b)
 
 returns-2 : tie.Need-returns-2
 returns-2 c =
@@ -22,9 +22,9 @@ returns-2 c =
     let told = c .before .before .before .before .before .enum-told2 .given .1 in
     let r = c .before .before .recall in
     let tells = rw (block-read (a .place) _ _ (a .store .now) refl refl) at (r .ensures .0) in
-    λ t out. rw told
+    λ t out w b. rw told
     (lost (a .present) (a .place) (a .used) (a .store .now) (s .pre .1 .1) (s .pre .1 .0) (rw told at (s .pre .0 .0)) (r .result .good) tells
-    (c .before .if1 .taken) (c .stop .result) (c .stop .ensures) t out)
+    (c .before .if1 .taken) (c .stop .result) (c .stop .ensures) t out w b)
 
 returns-3 : tie.Need-returns-3
 returns-3 c =
@@ -33,9 +33,9 @@ returns-3 c =
     let told = c .before .before .before .before .before .before .enum-told2 .given .1 in
     let r = c .before .before .before .recall in
     let says = rw (block-read (a .place) _ _ (a .store .now) refl refl) at (r .ensures) in
-    λ t out. rw told
+    λ t out w b. rw told
     (recalled (a .present) (a .place) (a .used) (a .store .now) (s .pre .1 .1) (s .pre .1 .0) (rw told at (s .pre .0 .0)) (r .result .good) (says .0)
-    (c .before .before .if1 .left) (r .result .settings) (says .1) t out)
+    (c .before .before .if1 .left) (r .result .settings) (says .1) t out w b)
 
 pub set-up-spec : {M : Type 1} → statement M
 set-up-spec =

@@ -58,6 +58,16 @@ returns-5 : tie.Need-returns-5
 unfolding greatest
 returns-5 c = rw (c .enum-told4 .given .1) (register-most (c .before .before .args .asked))
 
+enum-told-5 : tie.Need-enum-told-5
+enum-told-5 c = c .match .keys6
+
+cast-result-5 : tie.Need-cast-result-5
+cast-result-5 c = tt
+
+returns-6 : tie.Need-returns-6
+unfolding greatest
+returns-6 c = rw (c .enum-told5 .given .1) (register-most (c .before .before .args .asked))
+
 pub most-spec : {M : Type 1} → statement M
 most-spec =
     tie.close
@@ -72,8 +82,11 @@ most-spec =
     cast-result-3
     enum-told-4
     cast-result-4
+    enum-told-5
+    cast-result-5
     returns
     returns-2
     returns-3
     returns-4
-    returns-5)
+    returns-5
+    returns-6)

@@ -72,6 +72,9 @@ returns-9 c =
 returns-10 : tie.Need-returns-10
 returns-10 c = rw (c .enum-told6 .given .1) (record { registers = λ _ _. refl; trouble = refl; queued = c .before .before .pre })
 
+returns-11 : tie.Need-returns-11
+returns-11 c = rw (c .enum-told7 .given .1) (record { registers = λ _ _. refl; trouble = refl; queued = c .before .before .pre })
+
 pub status-after-spec : {M : Type 1} → statement M
 status-after-spec =
     tie.close
@@ -93,4 +96,6 @@ status-after-spec =
     (λ c. omega arith) (λ c κs. tt)
     returns-9
     (λ c. c .match .keys6)
-    returns-10)
+    returns-10
+    (λ c. c .match .keys7)
+    returns-11)

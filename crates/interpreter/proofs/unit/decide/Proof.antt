@@ -5,15 +5,16 @@ use Prim.Native.Nat.{ℕ, _≤_, _<_}
 use native.Mathlib.Omega.{arith}
 use lib.ListN.{length}
 use borrow.Author.Tests.{not-true, not-false, le-leb, lt-leb}
-use Rattle.registers.specs.Check.{check, _>>_}
+use Rattle.registers.specs.Check.{refused, check, _>>_}
 use Rattle.registers.specs.Settings.{count}
-use Rattle.interpreter.specs.Parameter.{parameters, least, greatest, deedOf}
+use Rattle.interpreter.specs.Parameter.{parameters, least, greatest, deedOf, given}
 use Rattle.interpreter.specs.ParameterParts.{meantDeed, partsOf}
 use Rattle.interpreter.specs.UnitParts.{decided}
 use Rattle.interpreter.specs.declared.deed.Role.{Role}
 use Rattle.interpreter.specs.declared.deed.Role.the-variants.{Setting}
 use Rattle.interpreter.specs.declared.parameter.Decision.{Decision}
-use Rattle.interpreter.specs.declared.parameter.Decision.the-variants.{Obey}
+use Rattle.interpreter.specs.declared.parameter.Decision.the-variants.{Refused as noDeed, Obey}
+use Rattle.interpreter.proofs.blocks.Givens.{given-other, given-block, waveform-is}
 use Rattle.interpreter.proofs.parameter.Cuts.{parts-are}
 use Rattle.interpreter.proofs.parameter.Decisions.{register-is, saving-is, label-is}
 use Rattle.interpreter.proofs.parameter.ByKind.{too-few, enough, greatest-one}
@@ -111,8 +112,8 @@ returns-5 c =
     sym (says p ∙ rw (le-leb (parts-of p) (most-of p) (most-let (c .before .before)), lt-leb (fewest-of p) (parts-of p) few))
 
 -- the text is the one parameter, or there is none
-given : (c : tie.Else5) → let t = entry (role-at c) .args .text .now in partsOf t ≡ parameters t
-given c =
+one-given : (c : tie.Else5) → let t = entry (role-at c) .args .text .now in partsOf t ≡ parameters t
+one-given c =
     let p = role-at c in
     let a = entry p .args in
     let n = count-of p .count in
@@ -120,27 +121,37 @@ given c =
     parts-are (a .text .now) (entry p .pre .2) (n .result) (n .ensures) (omega (arith, greatest-one (p .role-of .result) (a .heading .asked)))
 
 many : (c : tie.Else5) → let p = role-at c in parts-of p ≡ length (partsOf (entry p .args .text .now))
-many c = count-of (role-at c) .count .ensures .parts ∙ sym (ap length (given c))
+many c = count-of (role-at c) .count .ensures .parts ∙ sym (ap length (one-given c))
 
 -- what is left is what the row's own checks say
 passes : (c : tie.Else5) (r : Role) → let p = role-at c in
     let a = entry p .args in
-    p .role-of .result ≡ r → (d : Decision) → meantDeed d ≡ deedOf (a .settings) r (a .heading .asked) (partsOf (a .text .now))
+    p .role-of .result ≡ r → (d : Decision) → meantDeed d ≡ given (a .settings) r (a .heading .asked) (partsOf (a .text .now))
     → meantDeed d ≡ decided (a .settings) (a .heading .place) (a .heading .asked) (a .text .now)
 unfolding check _>>_
 passes c r q d is =
     let p = role-at c in
     let a = entry p .args in
     let m = most-let (c .before .before) in
-    let said = subst (λ (r : Role). meantDeed d ≡ deedOf (a .settings) r (a .heading .asked) (partsOf (a .text .now))) (sym q) is in
-    (rw (given c) at said) ∙ sym (says p ∙ rw (le-leb (parts-of p) (most-of p) m, le-leb (fewest-of p) (parts-of p) (least-let c)))
+    let said = subst (λ (r : Role). meantDeed d ≡ given (a .settings) r (a .heading .asked) (partsOf (a .text .now))) (sym q) is in
+    (rw (one-given c) at said) ∙ sym (says p ∙ rw (le-leb (parts-of p) (most-of p) m, le-leb (fewest-of p) (parts-of p) (least-let c)))
+
+-- where the text is no block
+passes-other : (c : tie.Else6) (r : Role) → let p = role-at (c .before .before) in
+    let a = entry p .args in
+    p .role-of .result ≡ r → (d : Decision) → meantDeed d ≡ deedOf (a .settings) r (a .heading .asked) (partsOf (a .text .now))
+    → meantDeed d ≡ decided (a .settings) (a .heading .place) (a .heading .asked) (a .text .now)
+passes-other c r q d is =
+    let p = role-at (c .before .before) in
+    let a = entry p .args in
+    passes (c .before .before) r q d (is ∙ sym (given-other (a .settings) r (a .heading .asked) (a .text .now) (sym (c .before .begins .ensures) ∙ c .if6 .left)))
 
 -- a setting's place is its slot
-setting-told : (c : tie.After-enum-told) → let p = role-at (c .before .before) in
+setting-told : (c : tie.After-enum-told) → let p = role-at (c .before .before .before .before) in
     let row = entry p .args .heading .place in
     (p .role-of .result ≡ Setting row) × (row < count)
 setting-told c =
-    let p = role-at (c .before .before) in
+    let p = role-at (c .before .before .before .before) in
     let a = entry p .args in
     let pre = entry p .pre in
     let role = c .enum-told .given in
@@ -152,7 +163,7 @@ enum-told c = c .match .keys1
 
 decide-setting-requires : tie.Need-decide-setting-requires
 decide-setting-requires c κs =
-    let e = c .before .before in
+    let e = c .before .before .before .before in
     let p = role-at e in
     let a = entry p .args in
     let told = setting-told c in
@@ -160,64 +171,90 @@ decide-setting-requires c κs =
     let most = subst (λ (r : Role). parts-of p ≤ greatest r (a .heading .asked)) (told .0) (most-let (e .before .before)) in
     ((entry p .pre .0, told .1), (omega (arith, few, many e), omega (arith, most, many e)))
 
+begins-requires : tie.Need-begins-requires
+begins-requires c κs = tt
+
+decide-requires : tie.Need-decide-requires
+decide-requires c κs = tt
+
 returns-6 : tie.Need-returns-6
-returns-6 c = passes (c .before .before .before) _ (setting-told (c .before) .0) (c .decide-setting .result) (c .decide-setting .ensures)
+returns-6 c =
+    let e = c .before .before .before in
+    let p = role-at e in
+    let a = entry p .args in
+    passes e (p .role-of .result) refl (c .decide .result)
+    (c .decide .ensures ∙ sym (given-block (a .settings) (p .role-of .result) (a .heading .asked) (a .text .now) (sym (c .before .before .begins .ensures) ∙ c .before .if6 .taken)))
+
+returns-7 : tie.Need-returns-7
+returns-7 c = passes-other (c .before .before .before) _ (setting-told (c .before) .0) (c .decide-setting .result) (c .decide-setting .ensures)
 
 enum-known-role : tie.Need-enum-known-role
 enum-known-role c = c .match .keys2
 
 decide-register-requires : tie.Need-decide-register-requires
-decide-register-requires c κs = entry (role-at (c .before .before .before)) .pre .0
+decide-register-requires c κs = entry (role-at (c .before .before .before .before .before)) .pre .0
 
-returns-7 : tie.Need-returns-7
-returns-7 c =
-    let e = c .before .before .before .before in
+returns-8 : tie.Need-returns-8
+returns-8 c =
+    let e = c .before .before .before .before .before .before in
     let p = role-at e in
     let a = entry p .args in
     let role = c .before .before .role .given in
     let few = subst (λ (r : Role). least r (a .heading .asked) ≤ parts-of p) (role .1) (least-let e) in
-    passes e _ (role .1) (c .decide-register .result)
+    passes-other (c .before .before .before .before) _ (role .1) (c .decide-register .result)
     (c .decide-register .ensures ∙ register-is (a .settings) (role .0 .0) (a .heading .asked) (a .text .now) (omega (arith, few, many e)))
 
 enum-known-role-2 : tie.Need-enum-known-role-2
 enum-known-role-2 c = c .match .keys3
 
-returns-8 : tie.Need-returns-8
+returns-9 : tie.Need-returns-9
 unfolding deedOf
-returns-8 c = passes (c .before .before .before) _ (c .before .role2 .given .1) (Obey (c .before .role2 .given .0 .0)) refl
+returns-9 c = passes-other (c .before .before .before) _ (c .before .role2 .given .1) (Obey (c .before .role2 .given .0 .0)) refl
 
 enum-known-role-3 : tie.Need-enum-known-role-3
 enum-known-role-3 c = c .match .keys4
 
 decide-place-requires : tie.Need-decide-place-requires
-decide-place-requires c κs = entry (role-at (c .before .before .before)) .pre .0
+decide-place-requires c κs = entry (role-at (c .before .before .before .before .before)) .pre .0
 
-returns-9 : tie.Need-returns-9
-returns-9 c =
-    let e = c .before .before .before .before in
+returns-10 : tie.Need-returns-10
+returns-10 c =
+    let e = c .before .before .before .before .before .before in
     let p = role-at e in
     let a = entry p .args in
     let role = c .before .before .role3 .given in
     let few = subst (λ (r : Role). least r (a .heading .asked) ≤ parts-of p) (role .1) (least-let e) in
     let most = subst (λ (r : Role). parts-of p ≤ greatest r (a .heading .asked)) (role .1) (most-let (e .before .before)) in
-    passes e _ (role .1) (c .decide-place .result)
+    passes-other (c .before .before .before .before) _ (role .1) (c .decide-place .result)
     (c .decide-place .ensures ∙ saving-is (a .settings) (role .0 .0) (a .heading .asked) (a .text .now) (omega (arith, few, many e)) (omega (arith, most, many e)))
 
 enum-told-2 : tie.Need-enum-told-2
 enum-told-2 c = c .match .keys5
 
-decide-requires : tie.Need-decide-requires
-decide-requires c κs = tt
+decide-requires-2 : tie.Need-decide-requires-2
+decide-requires-2 c κs = tt
 
-returns-10 : tie.Need-returns-10
-returns-10 c =
-    let e = c .before .before .before in
+returns-11 : tie.Need-returns-11
+returns-11 c =
+    let e = c .before .before .before .before .before in
     let p = role-at e in
     let a = entry p .args in
     let role = c .before .enum-told2 .given in
     let few = subst (λ (r : Role). least r (a .heading .asked) ≤ parts-of p) (role .1) (least-let e) in
-    passes e _ (role .1) (c .decide .result)
-    (c .decide .ensures ∙ label-is (a .settings) (a .heading .asked) (a .text .now) (omega (arith, few, many e)))
+    passes-other (c .before .before .before) _ (role .1) (c .decide2 .result)
+    (c .decide2 .ensures ∙ label-is (a .settings) (a .heading .asked) (a .text .now) (omega (arith, few, many e)))
+
+enum-told-3 : tie.Need-enum-told-3
+enum-told-3 c = c .match .keys6
+
+other-error-requires : tie.Need-other-error-requires
+other-error-requires c κs = tt
+
+returns-12 : tie.Need-returns-12
+returns-12 c =
+    let a = entry (role-at (c .before .before .before .before .before)) .args in
+    passes-other (c .before .before .before) _ (c .before .enum-told3 .given .1) (noDeed (c .other-error .result))
+    (ap (λ (n : ℕ). refused n) (c .other-error .ensures) ∙ waveform-is (a .settings) (a .heading .asked) (a .text .now))
 
 pub decide-spec : {M : Type 1} → statement M
 decide-spec =
@@ -231,17 +268,23 @@ decide-spec =
     most-requires
     returns-4
     returns-5
+    begins-requires
+    decide-requires
+    returns-6
     enum-told
     decide-setting-requires
-    returns-6
+    returns-7
     enum-known-role
     decide-register-requires
-    returns-7
-    enum-known-role-2
     returns-8
+    enum-known-role-2
+    returns-9
     enum-known-role-3
     decide-place-requires
-    returns-9
+    returns-10
     enum-told-2
-    decide-requires
-    returns-10)
+    decide-requires-2
+    returns-11
+    enum-told-3
+    other-error-requires
+    returns-12)

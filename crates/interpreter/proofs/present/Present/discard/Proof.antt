@@ -16,6 +16,7 @@ raise-requires c κs = tt
 returns-2 : tie.Need-returns-2
 returns-2 c =
     let p = c .before .before .before .args .self in
+    let good = c .before .before .before .good .0 .1 .1 .1 .0 .1 .1 in
     let long : length (p .status .errors) ≡ most = search needs in
     let raised = c .raise .ensures in
     record {

@@ -20,6 +20,7 @@ returns : tie.Need-returns
 returns c =
     let a = c .before .before .before .args in
     let p = a .self in
+    let good = c .before .before .before .good .0 .1 .1 .1 .0 .1 .1 in
     let long : length (p .status .errors) ≡ most = search needs in
     let raised = c .before .before .raise .ensures in
     record {
@@ -33,6 +34,7 @@ unfolding raisedWith
 returns-2 c =
     let a = c .before .before .before .args in
     let p = a .self in
+    let good = c .before .before .before .good .0 .1 .1 .1 .0 .1 .1 in
     let long : length (p .status .errors) ≡ most = search needs in
     let raised = c .before .before .raise .ensures in
     record {

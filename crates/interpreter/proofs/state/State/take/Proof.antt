@@ -14,7 +14,7 @@ use Rattle.interpreter.proofs.state.State.take.Tie as tie
 
 -- where the state could be the box's
 abbrev entry : tie.Else2 → tie.Start
-entry e = e .before .before .before .before .before
+entry e = e .before .before .before .before .before .before
 
 -- where the buffer has room besides
 abbrev admitted : tie.Else4 → tie.Else2
@@ -30,15 +30,15 @@ within e =
     omega arith
 
 returns : tie.Need-returns
-returns c = let a = c .before .before .before .args in refused-5 (a .self) (a .store .now) (takes (a .buffer .now)) refl (c .if1 .taken)
+returns c = let a = c .before .before .before .before .args in refused-5 (a .self) (a .store .now) (a .area .now) (takes (a .buffer .now)) refl (c .if1 .taken)
 
 possible-requires : tie.Need-possible-requires
 possible-requires c κs = tt
 
 returns-2 : tie.Need-returns-2
 returns-2 c =
-    let a = c .before .before .before .before .before .args in
-    refused-4 (a .self) (a .store .now) (takes (a .buffer .now)) refl (c .before .before .if1 .left) refl _ (c .before .possible .ensures) (c .if2 .taken)
+    let a = c .before .before .before .before .before .before .args in
+    refused-4 (a .self) (a .store .now) (a .area .now) (takes (a .buffer .now)) refl (c .before .before .if1 .left) refl _ (c .before .possible .ensures) (c .if2 .taken)
 
 raise-requires : tie.Need-raise-requires
 raise-requires c κs = tt
@@ -51,9 +51,9 @@ returns-3 c =
     let w = e .before .possible .ensures in
     let is = c .raise .ensures in
     let wide = w .answer in
-    happens-on s (a .store .now) (takes (a .buffer .now)) refl (e .before .before .if1 .left) refl _ w (e .if2 .left) _ (withStatus (c .raise .result) s) _
-    (λ k. record { queued = rw is (raised-queued 420 (s .status) (w .errors) (k .queued)); filled = k .filled; waiting = k .waiting }) refl
-    (take-none s (memory (a .store .now)) (omega arith) (a .buffer .now) (c .raise .result) (w .errors) is (c .before .if3 .taken))
+    happens-on s (a .store .now) (a .area .now) (takes (a .buffer .now)) refl (e .before .before .if1 .left) refl _ w (e .if2 .left) _ (withStatus (c .raise .result) s) _ _
+    (λ k. record { queued = rw is (raised-queued 420 (s .status) (w .errors) (k .queued)); filled = k .filled; held = k .held; waiting = k .waiting }) refl refl
+    (take-none s (memory (a .store .now) (a .area .now)) (omega arith) (a .buffer .now) (c .raise .result) (w .errors) is (c .before .if3 .taken))
 
 returns-4 : tie.Need-returns-4
 returns-4 c =
@@ -62,8 +62,8 @@ returns-4 c =
     let s = a .self in
     let w = e .before .possible .ensures in
     let wide = w .answer in
-    happens-on s (a .store .now) (takes (a .buffer .now)) refl (e .before .before .if1 .left) refl _ w (e .if2 .left) _ s _ (λ k. k) refl
-    (take-short s (memory (a .store .now)) (omega arith) (a .buffer .now) (c .before .if3 .left) (within e) (c .if4 .taken))
+    happens-on s (a .store .now) (a .area .now) (takes (a .buffer .now)) refl (e .before .before .if1 .left) refl _ w (e .if2 .left) _ s _ _ (λ k. k) refl refl
+    (take-short s (memory (a .store .now) (a .area .now)) (omega arith) (a .buffer .now) (c .before .if3 .left) (within e) (c .if4 .taken))
 
 slice-aggregate-paste : tie.Need-slice-aggregate-paste
 slice-aggregate-paste c = omega arith
@@ -88,11 +88,11 @@ returns-5 c =
     let s = a .self in
     let w = e .before .possible .ensures in
     let wide = w .answer in
-    let all = take-all s (memory (a .store .now)) (omega arith) (a .buffer .now) (r .before .if3 .left) (within e) (r .if4 .left) in
+    let all = take-all s (memory (a .store .now) (a .area .now)) (omega arith) (a .buffer .now) (r .before .if3 .left) (within e) (r .if4 .left) in
     let laid = p .paste .ensures in
     let z : 0 + s .waiting ≡ s .waiting = omega arith in
-    happens-on s (a .store .now) (takes (a .buffer .now)) refl (e .before .before .if1 .left) refl _ w (e .if2 .left) _ (withoutAnswer s) _
-    (λ k. record { queued = k .queued; filled = k .filled; waiting = zero-le }) refl
+    happens-on s (a .store .now) (a .area .now) (takes (a .buffer .now)) refl (e .before .before .if1 .left) refl _ w (e .if2 .left) _ (withoutAnswer s) _ _
+    (λ k. record { queued = k .queued; filled = k .filled; held = k .held; waiting = zero-le }) refl refl
     (rw (laid .0, laid .1, z) all)
 
 pub take-spec : {M : Type 1} → statement M
