@@ -2,7 +2,7 @@
 
 macro_rules! errors {
     ($($name:ident = $number:literal, $text:literal;)*) => {
-        /// An error of 01 or 02, by its number without the minus. The names are the texts of SCPI-99.
+        /// An error of 01 or 02, by its number without the minus. The names are after the texts of SCPI-99.
         #[allow(clippy::enum_variant_names)]
         #[derive(Clone, Copy, Debug, PartialEq, Eq)]
         pub enum Error {
@@ -30,14 +30,20 @@ errors! {
     ParameterNotAllowed = 108, "Parameter not allowed";
     MissingParameter = 109, "Missing parameter";
     UndefinedHeader = 113, "Undefined header";
+    HeaderSuffixOutOfRange = 114, "Header suffix out of range";
     InvalidCharacterInNumber = 121, "Invalid character in number";
     ExponentTooLarge = 123, "Exponent too large";
     TooManyDigits = 124, "Too many digits";
     InvalidSuffix = 131, "Invalid suffix";
     SuffixNotAllowed = 138, "Suffix not allowed";
     InvalidCharacterData = 141, "Invalid character data";
+    StringDataError = 150, "String data error";
+    InvalidStringData = 151, "Invalid string data";
+    InvalidBlockData = 161, "Invalid block data";
     SettingsConflict = 221, "Settings conflict";
     DataOutOfRange = 222, "Data out of range";
+    TooMuchData = 223, "Too much data";
+    MemoryLost = 314, "Save/recall memory lost";
     QueueOverflow = 350, "Queue overflow";
     InputBufferOverrun = 363, "Input buffer overrun";
     QueryInterrupted = 410, "Query INTERRUPTED";

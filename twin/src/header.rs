@@ -3,20 +3,26 @@
 //!
 //! The rows of 01 and 02 are walked as one tree. A place in it stands for the nodes read so far, and the
 //! optional nodes are branches that lead on from every place where they may be kept or left out.
-//! So the path of 01 is a place too: the one before the header's last node.
+//! So the path of 01 is a place too, the one before the header's last node, together with the suffix
+//! of a node on the way to it (02, #111).
 
 use crate::error::Error;
-use crate::settings::Setting;
+use crate::settings::{Channel, Setting, Slot};
 use crate::status::SetName;
 use crate::text::{is_white_space, read_name, Spelling, Word};
 
 /// A row of 01 or 02: a setting, a register, or a query or command that has this one form only.
 #[derive(Clone, Copy, Debug, PartialEq, Eq)]
 pub enum Row {
-    Setting(Setting),
+    Setting(Slot),
     Register(Register),
     Query(Query),
     Command(Command),
+    Setup(Setup),
+    /// DISPlay:TEXT, the setting that is no number (02, #109).
+    Text,
+    /// TRACe:DATA, which has a setting form only and takes a block (02, #110).
+    Waveform,
     /// *OPC and *OPC?, which have both forms and no value.
     OperationComplete,
 }
@@ -39,6 +45,13 @@ pub enum Command {
     Wait,
     Reset,
     Clear,
+}
+
+/// *SAV and *RCL (02, #108), which have a setting form only and take a place.
+#[derive(Clone, Copy, Debug, PartialEq, Eq)]
+pub enum Setup {
+    Save,
+    Recall,
 }
 
 /// The registers that a number is written to.
@@ -80,6 +93,7 @@ pub enum Place {
     PeakLow,
     Display,
     Brightness,
+    Text,
     System,
     KeyLock,
     Exam,
@@ -91,8 +105,71 @@ pub enum Place {
     Enable(SetName),
     NegativeTransition(SetName),
     PositiveTransition(SetName),
+    Trace,
+    TraceData,
     /// Where no row leads.
     Nowhere,
+}
+
+/// The suffix of OUTPut, VOLTage, FREQuency or CURRent on the way (02, #111); none means 1.
+#[derive(Clone, Copy, Debug, PartialEq, Eq)]
+enum Suffix {
+    One,
+    Two,
+    Other,
+}
+
+/// What the nodes read so far come to.
+#[derive(Clone, Copy)]
+pub struct Path {
+    place: Place,
+    suffix: Suffix,
+}
+
+impl Path {
+    pub const ROOT: Path = Path {
+        place: Place::Root,
+        suffix: Suffix::One,
+    };
+
+    #[inline]
+    fn follow(self, name: &[u8], node: Spelling) -> Path {
+        match self.place.follow(node) {
+            Place::Nowhere => self.follow_with_suffix(name),
+            place => Path { place, ..self },
+        }
+    }
+
+    /// Follows a name that spells no branch as it is, but may be a node and a number.
+    #[inline(never)]
+    fn follow_with_suffix(self, name: &[u8]) -> Path {
+        let is_digit = |byte: &&u8| byte.is_ascii_digit();
+        let digits = name.iter().rev().take_while(is_digit).count();
+        let (word, digits) = name.split_at(name.len() - digits);
+        let place = self.place.follow(read_name(word).0);
+        if digits.is_empty() || !place.takes_suffix() {
+            let place = Place::Nowhere;
+            return Path { place, ..self };
+        }
+        let suffix = match digits {
+            b"1" => Suffix::One,
+            b"2" => Suffix::Two,
+            _ => Suffix::Other,
+        };
+        Path { place, suffix }
+    }
+
+    /// 01, check 3: the row whose header ends here. The monitor mode is there only once.
+    fn row(self) -> Result<Row, Error> {
+        let row = self.place.row().ok_or(Error::UndefinedHeader)?;
+        match (row, self.suffix) {
+            (_, Suffix::One) => Ok(row),
+            (Row::Setting(slot), Suffix::Two) if slot.setting != Setting::MonitorMode => {
+                Ok(Row::Setting(slot.setting.of(Channel::Two)))
+            }
+            _ => Err(Error::HeaderSuffixOutOfRange),
+        }
+    }
 }
 
 struct Branch {
@@ -107,7 +184,7 @@ const fn branch(printed: &'static str, place: Place) -> Branch {
     }
 }
 
-static ROOT: [Branch; 8] = [
+static ROOT: [Branch; 9] = [
     branch("OUTPut", Place::Output),
     branch("VOLTage", Place::Voltage),
     branch("FREQuency", Place::Frequency),
@@ -116,6 +193,7 @@ static ROOT: [Branch; 8] = [
     branch("SYSTem", Place::System),
     branch("STATus", Place::Status),
     branch("DISPlay", Place::Display),
+    branch("TRACe", Place::Trace),
 ];
 static SOURCE: [Branch; 3] = [
     branch("VOLTage", Place::Voltage),
@@ -153,7 +231,11 @@ static PEAK: [Branch; 4] = [
     branch("HIGH", Place::PeakHigh),
     branch("LOW", Place::PeakLow),
 ];
-static DISPLAY: [Branch; 1] = [branch("BRIGhtness", Place::Brightness)];
+static DISPLAY: [Branch; 2] = [
+    branch("BRIGhtness", Place::Brightness),
+    branch("TEXT", Place::Text),
+];
+static TRACE: [Branch; 1] = [branch("DATA", Place::TraceData)];
 static SYSTEM: [Branch; 3] = [
     branch("ERRor", Place::ErrorQueue),
     branch("KLOCk", Place::KeyLock),
@@ -178,7 +260,7 @@ const fn register_set(name: SetName) -> [Branch; 5] {
     ]
 }
 
-static COMMON: [(Word, Row); 10] = [
+static COMMON: [(Word, Row); 12] = [
     (Word::new("IDN"), Row::Query(Query::Identification)),
     (Word::new("ESR"), Row::Query(Query::EventStatus)),
     (Word::new("STB"), Row::Query(Query::StatusByte)),
@@ -192,6 +274,8 @@ static COMMON: [(Word, Row); 10] = [
     ),
     (Word::new("WAI"), Row::Command(Command::Wait)),
     (Word::new("TST"), Row::Query(Query::SelfTest)),
+    (Word::new("SAV"), Row::Setup(Setup::Save)),
+    (Word::new("RCL"), Row::Setup(Setup::Recall)),
 ];
 
 impl Place {
@@ -209,6 +293,7 @@ impl Place {
             Place::Rms => &RMS,
             Place::Peak => &PEAK,
             Place::Display => &DISPLAY,
+            Place::Trace => &TRACE,
             Place::System => &SYSTEM,
             Place::Status => &STATUS,
             Place::RegisterSet(SetName::Operation) => &OPERATION,
@@ -221,25 +306,27 @@ impl Place {
     /// The row whose header may end here.
     fn row(self) -> Option<Row> {
         Some(match self {
-            Place::Output | Place::OutputState => Row::Setting(Setting::OutputState),
-            Place::OutputPon => Row::Setting(Setting::OutputPon),
-            Place::OutputRelay => Row::Setting(Setting::OutputRelay),
-            Place::MonitorMode => Row::Setting(Setting::MonitorMode),
+            Place::Output | Place::OutputState => single(Setting::OutputState),
+            Place::OutputPon => single(Setting::OutputPon),
+            Place::OutputRelay => single(Setting::OutputRelay),
+            Place::MonitorMode => single(Setting::MonitorMode),
             Place::Voltage | Place::Level | Place::Immediate | Place::Amplitude => {
-                Row::Setting(Setting::Voltage)
+                single(Setting::Voltage)
             }
-            Place::Range => Row::Setting(Setting::VoltageRange),
-            Place::Frequency => Row::Setting(Setting::Frequency),
-            Place::Rms | Place::RmsAmplitude => Row::Setting(Setting::RmsLimit),
-            Place::RmsMode => Row::Setting(Setting::RmsMode),
-            Place::PeakMode => Row::Setting(Setting::PeakMode),
-            Place::RmsTime => Row::Setting(Setting::RmsTime),
-            Place::PeakTime => Row::Setting(Setting::PeakTime),
-            Place::PeakHigh => Row::Setting(Setting::PeakHigh),
-            Place::PeakLow => Row::Setting(Setting::PeakLow),
-            Place::Brightness => Row::Setting(Setting::Brightness),
-            Place::KeyLock => Row::Setting(Setting::KeyLock),
-            Place::Exam => Row::Setting(Setting::Exam),
+            Place::Range => single(Setting::VoltageRange),
+            Place::Frequency => single(Setting::Frequency),
+            Place::Rms | Place::RmsAmplitude => single(Setting::RmsLimit),
+            Place::RmsMode => single(Setting::RmsMode),
+            Place::PeakMode => single(Setting::PeakMode),
+            Place::RmsTime => single(Setting::RmsTime),
+            Place::PeakTime => single(Setting::PeakTime),
+            Place::PeakHigh => single(Setting::PeakHigh),
+            Place::PeakLow => single(Setting::PeakLow),
+            Place::Brightness => single(Setting::Brightness),
+            Place::Text => Row::Text,
+            Place::TraceData => Row::Waveform,
+            Place::KeyLock => single(Setting::KeyLock),
+            Place::Exam => single(Setting::Exam),
             Place::ErrorQueue => Row::Query(Query::ErrorQueue),
             Place::RegisterSet(name) | Place::Event(name) => Row::Query(Query::Event(name)),
             Place::Condition(name) => Row::Query(Query::Condition(name)),
@@ -250,6 +337,13 @@ impl Place {
         })
     }
 
+    fn takes_suffix(self) -> bool {
+        matches!(
+            self,
+            Place::Output | Place::Voltage | Place::Frequency | Place::Current
+        )
+    }
+
     #[inline]
     fn follow(self, node: Spelling) -> Place {
         let branches = self.branches().iter();
@@ -258,32 +352,30 @@ impl Place {
     }
 }
 
-/// A header of good form.
-pub struct Header {
-    /// What it spells, if anything.
-    row: Option<Row>,
-    pub query: bool,
-    /// The path that it leaves to the next header of the line.
-    pub path: Place,
+/// A setting of channel 1, or a single one.
+fn single(setting: Setting) -> Row {
+    Row::Setting(setting.of(Channel::One))
 }
 
-impl Header {
-    /// 01, check 3: the row, whether or not it has the form that is asked for.
-    pub fn row(&self) -> Result<Row, Error> {
-        self.row.ok_or(Error::UndefinedHeader)
-    }
+/// A header of good form.
+pub struct Header {
+    /// 01, check 3: what it spells, whether or not the row has the form that is asked for.
+    pub row: Result<Row, Error>,
+    pub query: bool,
+    /// The path that it leaves to the next header of the line.
+    pub path: Path,
 }
 
 /// Reads the header at the start of a unit, after the path, and gives what follows it. 01, check
 /// 2, decides whether it is one at all.
 #[inline]
-pub fn read(unit: &[u8], path: Place) -> Result<(Header, &[u8]), Error> {
+pub fn read(unit: &[u8], path: Path) -> Result<(Header, &[u8]), Error> {
     let (row, path, rest) = match unit {
         [b'*', name @ ..] => {
             let (spelling, rest) = read_first_name(name)?;
             (common_row(spelling), path, rest)
         }
-        [b':', names @ ..] => read_names(names, Place::Root)?,
+        [b':', names @ ..] => read_names(names, Path::ROOT)?,
         _ => read_names(unit, path)?,
     };
     let (query, rest) = match rest {
@@ -297,24 +389,27 @@ pub fn read(unit: &[u8], path: Place) -> Result<(Header, &[u8]), Error> {
     }
 }
 
-fn common_row(name: Spelling) -> Option<Row> {
+fn common_row(name: Spelling) -> Result<Row, Error> {
     let mut rows = COMMON.iter().filter(|(word, _)| word.is_spelled(name));
-    rows.next().map(|&(_, row)| row)
+    let row = rows.next().map(|&(_, row)| row);
+    row.ok_or(Error::UndefinedHeader)
 }
 
-/// Walks names joined by single colons: the row where they end, the place before the last name,
-/// and what follows them.
+/// What names joined by single colons come to: the row, the path before the last name, and what
+/// follows them.
+type Names<'unit> = (Result<Row, Error>, Path, &'unit [u8]);
+
 #[inline]
-fn read_names(names: &[u8], start: Place) -> Result<(Option<Row>, Place, &[u8]), Error> {
-    let mut place = start;
+fn read_names(names: &[u8], start: Path) -> Result<Names<'_>, Error> {
+    let mut here = start;
     let mut names = names;
     loop {
-        let path = place;
+        let path = here;
         let (node, rest) = read_first_name(names)?;
-        place = place.follow(node);
+        here = here.follow(&names[..names.len() - rest.len()], node);
         match rest {
             [b':', further @ ..] => names = further,
-            _ => return Ok((place.row(), path, rest)),
+            _ => return Ok((here.row(), path, rest)),
         }
     }
 }

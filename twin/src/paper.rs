@@ -14,6 +14,12 @@ pub enum Use {
     CommandOnly,
     /// A query, and a command without parameter.
     Both,
+    /// A command whose number is a place of the lent store, from 0 to 9 (02, #108).
+    StorePlace,
+    /// A string (02, #109).
+    Text,
+    /// A command that takes a block (02, #110).
+    Block,
 }
 
 /// The place of a setting in the record, or none, with the printed header and its use.
@@ -25,7 +31,7 @@ const LIMIT_MODES: Use = Use::Words(&["CONTinuous", "OFF"]);
 /// How many of the headers are 01's own; they come first, and those of 02's requests follow.
 pub const OF_01: usize = 32;
 
-pub static HEADERS: [Printed; 43] = [
+pub static HEADERS: [Printed; 47] = [
     (Some(0), "OUTPut[:STATe]", Use::Bool),
     (Some(1), "OUTPut:PON", Use::Bool),
     (Some(2), "OUTPut:RELay", Use::Bool),
@@ -97,6 +103,10 @@ pub static HEADERS: [Printed; 43] = [
     (None, "STATus:WARNing:ENABle", Use::Register(32_767)),
     (None, "STATus:WARNing:NTRansition", Use::Register(32_767)),
     (None, "STATus:WARNing:PTRansition", Use::Register(32_767)),
+    (None, "*SAV", Use::StorePlace),
+    (None, "*RCL", Use::StorePlace),
+    (None, "DISPlay:TEXT", Use::Text),
+    (None, "TRACe:DATA", Use::Block),
 ];
 
 /// The suffixes that a setting's numbers take (02, #101), each with its power of ten.
@@ -107,6 +117,23 @@ pub fn suffixes(place: usize) -> &'static [(&'static str, i32)] {
         7 | 12 | 13 => &[("A", 0), ("MA", -3)],
         10 | 11 => &[("S", 0)],
         _ => &[],
+    }
+}
+
+/// The nodes that take a channel's number (02, #111), without one and with each of both.
+pub static CHANNEL_NODES: [[&str; 3]; 4] = [
+    ["OUTPut", "OUTPut1", "OUTPut2"],
+    ["VOLTage", "VOLTage1", "VOLTage2"],
+    ["FREQuency", "FREQuency1", "FREQuency2"],
+    ["CURRent", "CURRent1", "CURRent2"],
+];
+
+/// The place of channel 2's setting of the same kind, if there is one (02, #111).
+pub fn place_in_channel_2(place: usize) -> Option<usize> {
+    match place {
+        0..=2 => Some(17 + place),
+        4..=13 => Some(16 + place),
+        _ => None,
     }
 }
 

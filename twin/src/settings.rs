@@ -1,12 +1,16 @@
-//! The settings: 01's sixteen in the order of its table, then exam mode (02, #107). Numbers are
-//! counted in steps.
+//! The settings: 01's sixteen in the order of its table, then exam mode (02, #107), then channel 2's
+//! thirteen in 01's order (#111), and beside them the display's text (#109). Numbers are counted in
+//! steps.
 
 use crate::number::{Quantity, Step};
+use crate::string::Text;
 use crate::text::Word;
 
-pub const SETTINGS: usize = 17;
+/// The settings of channel 1 and the single ones, and those with channel 2's after them.
+pub const SETTINGS_OF_ONE: usize = 17;
+pub const SETTINGS: usize = 30;
 
-/// A setting, by its place in the record.
+/// A setting of a channel, or a single one, by channel 1's place in the record.
 #[derive(Clone, Copy, Debug, PartialEq, Eq)]
 pub enum Setting {
     OutputState,
@@ -26,6 +30,20 @@ pub enum Setting {
     Brightness,
     KeyLock,
     Exam,
+}
+
+/// OUTPut, VOLTage, FREQuency and CURRent are there twice (02, #111).
+#[derive(Clone, Copy, Debug, PartialEq, Eq)]
+pub enum Channel {
+    One,
+    Two,
+}
+
+/// A setting of one channel; the single ones are among those of channel 1.
+#[derive(Clone, Copy, Debug, PartialEq, Eq)]
+pub struct Slot {
+    pub setting: Setting,
+    pub channel: Channel,
 }
 
 /// What a row of the table takes.
@@ -86,7 +104,7 @@ const HERTZ: Values = Values::Number(Step::Tenth, Some(Quantity::Frequency));
 const SECONDS: Values = Values::Number(Step::One, Some(Quantity::Time));
 const BARE: Values = Values::Number(Step::One, None);
 
-static ROWS: [Row; SETTINGS] = [
+static ROWS: [Row; SETTINGS_OF_ONE] = [
     bool_row(0),
     bool_row(0),
     bool_row(1),
@@ -106,6 +124,19 @@ static ROWS: [Row; SETTINGS] = [
     bool_row(0),
 ];
 
+/// The row of each place in the record: channel 2 lacks only the monitor mode in between.
+const fn row_of(place: usize) -> &'static Row {
+    if place < SETTINGS_OF_ONE {
+        return &ROWS[place];
+    }
+    let row = place - SETTINGS_OF_ONE;
+    if row < Setting::MonitorMode as usize {
+        &ROWS[row]
+    } else {
+        &ROWS[row + 1]
+    }
+}
+
 /// The lower and the upper limits side by side, for the test of a whole record.
 static LOWEST: [i32; SETTINGS] = lowest();
 static HIGHEST: [i32; SETTINGS] = highest();
@@ -114,7 +145,7 @@ const fn lowest() -> [i32; SETTINGS] {
     let mut limits = [0; SETTINGS];
     let mut place = 0;
     while place < SETTINGS {
-        limits[place] = ROWS[place].lowest;
+        limits[place] = row_of(place).lowest;
         place += 1;
     }
     limits
@@ -124,7 +155,7 @@ const fn highest() -> [i32; SETTINGS] {
     let mut limits = [0; SETTINGS];
     let mut place = 0;
     while place < SETTINGS {
-        limits[place] = ROWS[place].highest;
+        limits[place] = row_of(place).highest;
         place += 1;
     }
     limits
@@ -134,66 +165,99 @@ const fn reset() -> [i32; SETTINGS] {
     let mut values = [0; SETTINGS];
     let mut place = 0;
     while place < SETTINGS {
-        values[place] = ROWS[place].reset;
+        values[place] = row_of(place).reset;
         place += 1;
     }
     values
 }
 
 impl Setting {
+    pub const fn of(self, channel: Channel) -> Slot {
+        Slot {
+            setting: self,
+            channel,
+        }
+    }
+}
+
+impl Slot {
     pub fn values(self) -> &'static Values {
-        &ROWS[self as usize].values
+        &ROWS[self.setting as usize].values
+    }
+
+    /// Its place in the record.
+    const fn place(self) -> usize {
+        let place = self.setting as usize;
+        match self.channel {
+            Channel::One => place,
+            Channel::Two if place < Setting::MonitorMode as usize => SETTINGS_OF_ONE + place,
+            Channel::Two => SETTINGS_OF_ONE + place - 1,
+        }
     }
 }
 
 #[derive(Clone, Debug, PartialEq, Eq)]
 pub struct Settings {
     pub values: [i32; SETTINGS],
+    pub text: Text,
 }
 
 impl Settings {
     /// The values at *RST.
     pub(crate) const fn reset() -> Settings {
-        Settings { values: reset() }
+        Settings {
+            values: reset(),
+            text: Text::EMPTY,
+        }
     }
 
-    pub(crate) fn get(&self, setting: Setting) -> i32 {
-        self.values[setting as usize]
+    pub(crate) fn get(&self, slot: Slot) -> i32 {
+        self.values[slot.place()]
     }
 
-    pub(crate) fn set(&mut self, setting: Setting, value: i32) {
-        self.values[setting as usize] = value;
+    pub(crate) fn set(&mut self, slot: Slot, value: i32) {
+        self.values[slot.place()] = value;
     }
 
-    pub(crate) fn lowest(&self, setting: Setting) -> i32 {
-        LOWEST[setting as usize]
+    pub(crate) fn lowest(&self, slot: Slot) -> i32 {
+        LOWEST[slot.place()]
     }
 
-    /// The voltage's upper limit goes by the present range.
-    pub(crate) fn highest(&self, setting: Setting) -> i32 {
-        if setting == Setting::Voltage && self.get(Setting::VoltageRange) == R12V {
+    /// The voltage's upper limit goes by its channel's present range.
+    pub(crate) fn highest(&self, slot: Slot) -> i32 {
+        let range = Setting::VoltageRange.of(slot.channel);
+        if slot.setting == Setting::Voltage && self.get(range) == R12V {
             R12V_HIGHEST
         } else {
-            HIGHEST[setting as usize]
+            HIGHEST[slot.place()]
         }
     }
 
     /// 02, #107: an off-step number is then out of range.
     pub(crate) fn exam_is_on(&self) -> bool {
-        self.get(Setting::Exam) != 0
+        self.get(Setting::Exam.of(Channel::One)) != 0
     }
 
-    /// 01, check 8.
-    pub(crate) fn voltage_is_above_r12v(&self) -> bool {
-        self.get(Setting::Voltage) > R12V_HIGHEST
+    /// 01, check 8, for one channel.
+    pub(crate) fn voltage_is_above_r12v(&self, channel: Channel) -> bool {
+        self.get(Setting::Voltage.of(channel)) > R12V_HIGHEST
     }
 
+    fn voltage_keeps_its_range(&self, channel: Channel) -> bool {
+        let voltage = Setting::Voltage.of(channel);
+        self.get(voltage) <= self.highest(voltage)
+    }
+
+    #[inline]
     pub(crate) fn keep_their_limits(&self) -> bool {
         let mut outside = false;
         for place in 0..SETTINGS {
             let value = self.values[place];
             outside |= (value < LOWEST[place]) | (value > HIGHEST[place]);
         }
-        !outside && self.get(Setting::Voltage) <= self.highest(Setting::Voltage)
+        !outside
+            && self.voltage_keeps_its_range(Channel::One)
+            && self.voltage_keeps_its_range(Channel::Two)
+            && self.text.keeps_its_limits()
     }
 }

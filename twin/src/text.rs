@@ -22,6 +22,10 @@ pub fn trim(text: &[u8]) -> &[u8] {
 const ONE_IN_EACH: u64 = 0x0101_0101_0101_0101;
 const TOP_IN_EACH: u64 = 0x8080_8080_8080_8080;
 
+const NEWLINES: u64 = ONE_IN_EACH * NEWLINE as u64;
+const FIVES: u64 = ONE_IN_EACH * 5;
+const SINGLE_QUOTES: u64 = ONE_IN_EACH * b'\'' as u64;
+
 /// Not 0 just if one of the eight bytes is 0; the lowest bit set then stands in the first such.
 fn zero_bytes(eight: u64) -> u64 {
     eight.wrapping_sub(ONE_IN_EACH) & !eight & TOP_IN_EACH
@@ -42,19 +46,59 @@ pub fn find(byte: u8, text: &[u8]) -> Option<usize> {
     Some(8 * eights.len() + place)
 }
 
-/// 01, check 1: every byte is white space or 33 to 126; tested on eight bytes at once.
+/// The first place of one byte or the other, looked for in eight bytes at once.
 #[inline]
-pub fn is_all_valid(text: &[u8]) -> bool {
+pub fn find_either(one: u8, other: u8, text: &[u8]) -> Option<usize> {
+    let ones = ONE_IN_EACH * u64::from(one);
+    let others = ONE_IN_EACH * u64::from(other);
     let (eights, rest) = text.as_chunks();
-    let newlines = ONE_IN_EACH * u64::from(NEWLINE);
-    let mut invalid = 0;
-    for eight in eights {
+    for (place, eight) in eights.iter().enumerate() {
         let eight = u64::from_le_bytes(*eight);
+        let found = zero_bytes(eight ^ ones) | zero_bytes(eight ^ others);
+        if found != 0 {
+            return Some(8 * place + found.trailing_zeros() as usize / 8);
+        }
+    }
+    let place = rest.iter().position(|&this| this == one || this == other)?;
+    Some(8 * eights.len() + place)
+}
+
+/// What one look over a text tells.
+pub struct Seen {
+    /// 01, check 1: every byte is white space or 33 to 126.
+    pub valid: bool,
+    /// Whether one of the bytes may be a quote (02, #109) or a `#`, which may mark a block (#110).
+    pub has_marks: bool,
+}
+
+/// Looks over a text, eight bytes at once.
+#[inline]
+pub fn look_over(text: &[u8]) -> Seen {
+    let (eights, rest) = text.as_chunks();
+    let mut invalid = 0;
+    let mut marks = 0;
+    let mut see = |eight: u64| {
         // Adding 1 sets the top bit of 127; only a byte 255, invalid itself, carries further.
         let above = (eight | eight.wrapping_add(ONE_IN_EACH)) & TOP_IN_EACH;
-        invalid |= above | zero_bytes(eight ^ newlines);
+        invalid |= above | zero_bytes(eight ^ NEWLINES);
+        // With bits 0 and 2 set, both quotes are a single one; so are # and &.
+        marks |= zero_bytes((eight | FIVES) ^ SINGLE_QUOTES);
+    };
+    for eight in eights {
+        see(u64::from_le_bytes(*eight));
     }
-    invalid == 0 && rest.iter().all(|&byte| byte < 127 && byte != NEWLINE)
+    // The last eight bytes once more, or what there is and zeros, which are white space.
+    let last = match text.last_chunk() {
+        Some(last) => u64::from_le_bytes(*last),
+        None => rest
+            .iter()
+            .fold(0, |last, &byte| last << 8 | u64::from(byte)),
+    };
+    see(last);
+    Seen {
+        valid: invalid == 0,
+        has_marks: marks != 0,
+    }
 }
 
 /// A name or a parameter word read letter by letter, in capitals, the last byte lowest. Bytes

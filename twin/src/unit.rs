@@ -4,15 +4,49 @@ use std::cmp::Ordering;
 
 use crate::answer::Answer;
 use crate::error::Error;
-use crate::header::{self, Command, Place, Query, Register, Row};
+use crate::header::{self, Command, Path, Query, Register, Row, Setup};
 use crate::number::{self, Quantity, Rounded, Step, Written};
-use crate::settings::{Setting, Settings, Values, R12V};
+use crate::settings::{Setting, Settings, Slot, Values, R12V};
+use crate::setups::{self, Store, PLACES};
 use crate::status::{Status, FIFTEEN_BITS};
+use crate::string::{part_length, Text, TEXT_LIMIT};
 use crate::text::{
-    find, is_all_valid, is_white_space, read_name, skip_white_space, trim, Spelling, Word,
+    find, is_white_space, look_over, read_name, skip_white_space, trim, Seen, Spelling, Word,
 };
+use crate::waveform::{Area, Block, AREA_LENGTH, MARK};
 
 const IDENTIFICATION: &[u8] = b"COURSE,BENCH24,0,4.00";
+
+/// What a line's units reach beside the instrument: what is lent, and the line's block.
+pub(crate) struct Around<'event> {
+    store: &'event mut Store,
+    area: &'event mut Area,
+    block: &'event Block,
+    /// The line's first block has reached the area.
+    used: bool,
+}
+
+impl<'event> Around<'event> {
+    pub(crate) fn new(
+        store: &'event mut Store,
+        area: &'event mut Area,
+        block: &'event Block,
+    ) -> Around<'event> {
+        Around {
+            store,
+            area,
+            block,
+            used: false,
+        }
+    }
+
+    /// 02, #110: whether a unit's block is the line's first and all there. Only the last unit's can
+    /// have been cut short by END.
+    fn has_good_block(&self, is_last: bool) -> bool {
+        let cut_short = is_last && self.block.coming > 0;
+        !self.used && !cut_short && self.block.length == AREA_LENGTH
+    }
+}
 
 static MINIMUM: Word = Word::new("MINimum");
 static MAXIMUM: Word = Word::new("MAXimum");
@@ -37,11 +71,11 @@ impl Instrument {
     }
 
     /// Runs the units of a line up to the first that is refused, and ends the answer.
-    pub(crate) fn run_line(&mut self, line: &[u8]) {
+    pub(crate) fn run_line(&mut self, line: &[u8], around: &mut Around) {
         if line.iter().all(|&byte| is_white_space(byte)) {
             return;
         }
-        if let Err(error) = self.run_units(line) {
+        if let Err(error) = self.run_units(line, around) {
             if error == Error::QueryDeadlocked {
                 self.answer.drop_bytes();
             }
@@ -50,42 +84,55 @@ impl Instrument {
         self.answer.end();
     }
 
-    fn run_units(&mut self, line: &[u8]) -> Result<(), Error> {
-        let mut path = Place::Root;
+    fn run_units(&mut self, line: &[u8], around: &mut Around) -> Result<(), Error> {
+        let mut path = Path::ROOT;
         let mut rest = line;
-        while let Some(end) = find(b';', rest) {
-            path = self.run_unit(&rest[..end], path)?;
-            rest = &rest[end + 1..];
+        loop {
+            let unit = Unit::cut(rest);
+            path = self.run_unit(&unit, path, around)?;
+            match rest.get(unit.text.len() + 1..) {
+                Some(further) => rest = further,
+                None => return Ok(()),
+            }
         }
-        self.run_unit(rest, path)?;
-        Ok(())
     }
 
     /// Runs one unit after the path and gives the path for the next.
-    fn run_unit(&mut self, unit: &[u8], path: Place) -> Result<Place, Error> {
-        if !is_all_valid(unit) {
+    fn run_unit(&mut self, unit: &Unit, path: Path, around: &mut Around) -> Result<Path, Error> {
+        if !unit.seen.valid {
             return Err(Error::InvalidCharacter);
         }
-        let (header, rest) = header::read(skip_white_space(unit), path)?;
-        let parameters = Parameters::read(skip_white_space(rest))?;
-        let row = header.row()?;
+        let (header, rest) = header::read(skip_white_space(unit.text), path)?;
+        let mut parameters = Parameters::read(skip_white_space(rest), unit.seen.has_marks)?;
+        if unit.seen.has_marks && parameters.first.starts_with(MARK) {
+            parameters.bad_block = !around.has_good_block(unit.is_last);
+        }
+        let row = header.row?;
         if header.query {
             self.answer_query(row, &parameters)?;
         } else {
-            self.obey(row, &parameters)?;
+            self.obey(row, &parameters, around)?;
         }
         Ok(header.path)
     }
 
     /// The setting form of a row; -113 if it lacks one (01, check 3).
-    fn obey(&mut self, row: Row, parameters: &Parameters) -> Result<(), Error> {
+    fn obey(
+        &mut self,
+        row: Row,
+        parameters: &Parameters,
+        around: &mut Around,
+    ) -> Result<(), Error> {
         match row {
-            Row::Setting(setting) => self.obey_setting(setting, parameters.one()?),
+            Row::Setting(slot) => self.obey_setting(slot, parameters.one()?),
             Row::Register(register) => self.write_register(register, parameters.one()?),
             Row::Command(command) => {
                 parameters.none()?;
                 self.obey_command(command)
             }
+            Row::Setup(setup) => self.obey_setup(setup, parameters.one()?, around.store),
+            Row::Text => self.obey_text(parameters.one()?),
+            Row::Waveform => self.obey_waveform(parameters.one()?, around),
             Row::OperationComplete => {
                 parameters.none()?;
                 self.status.operation_complete();
@@ -107,6 +154,46 @@ impl Instrument {
         Ok(())
     }
 
+    /// 02, #109: the lock's -221 comes after the string's own errors.
+    fn obey_text(&mut self, parameter: &[u8]) -> Result<(), Error> {
+        let text = Text::read(parameter)?;
+        self.must_not_be_locked()?;
+        self.settings.text = text;
+        Ok(())
+    }
+
+    /// 02, #110: a block that isn't bad is good here if nothing follows it.
+    fn obey_waveform(&mut self, parameter: &[u8], around: &mut Around) -> Result<(), Error> {
+        match parameter {
+            MARK => {}
+            [b'#', ..] => return Err(Error::InvalidBlockData),
+            [b'A'..=b'Z' | b'a'..=b'z', ..] => return Err(Error::InvalidCharacterData),
+            _ => return Err(Error::DataTypeError),
+        }
+        self.must_not_be_locked()?;
+        around.area.copy_from_slice(around.block.waiting());
+        around.used = true;
+        Ok(())
+    }
+
+    /// 02, #108: -222 for the place, then the lock's -221, then -314.
+    fn obey_setup(
+        &mut self,
+        setup: Setup,
+        parameter: &[u8],
+        store: &mut Store,
+    ) -> Result<(), Error> {
+        let place = read_whole(parameter, PLACES as i32 - 1)? as usize;
+        self.must_not_be_locked()?;
+        match setup {
+            Setup::Save => setups::save(&self.settings, store, place),
+            Setup::Recall => {
+                self.settings = setups::recall(store, place).ok_or(Error::MemoryLost)?;
+            }
+        }
+        Ok(())
+    }
+
     /// 02, #105: the check between 7 and 8.
     fn must_not_be_locked(&self) -> Result<(), Error> {
         if self.status.is_locked() {
@@ -116,73 +203,66 @@ impl Instrument {
         }
     }
 
-    fn obey_setting(&mut self, setting: Setting, parameter: &[u8]) -> Result<(), Error> {
-        let value = match setting.values() {
+    fn obey_setting(&mut self, slot: Slot, parameter: &[u8]) -> Result<(), Error> {
+        let value = match slot.values() {
             Values::Bool => read_bool(parameter)?,
             Values::Words(words) => read_word(words, parameter)?,
-            &Values::Number(step, quantity) => {
-                self.read_number(setting, step, quantity, parameter)?
-            }
+            &Values::Number(step, quantity) => self.read_number(slot, step, quantity, parameter)?,
         };
         // Switching off is never blocked.
-        let switches_off = setting == Setting::OutputState && value == 0;
+        let switches_off = slot.setting == Setting::OutputState && value == 0;
         if !switches_off {
             self.must_not_be_locked()?;
         }
-        if setting == Setting::VoltageRange
+        if slot.setting == Setting::VoltageRange
             && value == R12V
-            && self.settings.voltage_is_above_r12v()
+            && self.settings.voltage_is_above_r12v(slot.channel)
         {
             return Err(Error::SettingsConflict);
         }
-        self.settings.set(setting, value);
+        self.settings.set(slot, value);
         Ok(())
     }
 
     fn read_number(
         &self,
-        setting: Setting,
+        slot: Slot,
         step: Step,
         quantity: Option<Quantity>,
         parameter: &[u8],
     ) -> Result<i32, Error> {
         match Parameter::read(parameter)? {
-            Parameter::Word(spelling) => self.limit(setting, spelling),
+            Parameter::Word(spelling) => self.limit(slot, spelling),
             Parameter::Number(text) => {
                 let rounded = number::read(text, quantity)?.in_steps(step);
                 if self.settings.exam_is_on() && rounded.side != Ordering::Equal {
                     return Err(Error::DataOutOfRange);
                 }
-                let lowest = self.settings.lowest(setting);
-                within(lowest, self.settings.highest(setting), rounded)
+                let lowest = self.settings.lowest(slot);
+                within(lowest, self.settings.highest(slot), rounded)
             }
         }
     }
 
     /// The limit that a word names.
-    fn limit(&self, setting: Setting, spelling: Spelling) -> Result<i32, Error> {
+    fn limit(&self, slot: Slot, spelling: Spelling) -> Result<i32, Error> {
         if MINIMUM.is_spelled(spelling) {
-            Ok(self.settings.lowest(setting))
+            Ok(self.settings.lowest(slot))
         } else if MAXIMUM.is_spelled(spelling) {
-            Ok(self.settings.highest(setting))
+            Ok(self.settings.highest(slot))
         } else {
             Err(Error::InvalidCharacterData)
         }
     }
 
     fn write_register(&mut self, register: Register, parameter: &[u8]) -> Result<(), Error> {
-        let text = match Parameter::read(parameter)? {
-            Parameter::Word(_) => return Err(Error::InvalidCharacterData),
-            Parameter::Number(text) => text,
-        };
         let highest = match register {
             Register::EventStatusEnable | Register::ServiceRequestEnable => 255,
             Register::Enable(_)
             | Register::NegativeTransition(_)
             | Register::PositiveTransition(_) => i32::from(FIFTEEN_BITS),
         };
-        let rounded = number::read(text, None)?.in_steps(Step::One);
-        let value = within(0, highest, rounded)? as u16;
+        let value = read_whole(parameter, highest)? as u16;
         match register {
             Register::EventStatusEnable => self.status.ese = value,
             Register::ServiceRequestEnable => self.status.enable_service_request(value),
@@ -196,7 +276,7 @@ impl Instrument {
     /// The query form of a row; -113 if it lacks one (01, check 3).
     fn answer_query(&mut self, row: Row, parameters: &Parameters) -> Result<(), Error> {
         match row {
-            Row::Setting(setting) => self.answer_setting(setting, parameters),
+            Row::Setting(slot) => self.answer_setting(slot, parameters),
             Row::Register(register) => {
                 parameters.none()?;
                 self.answer_register(self.register(register))
@@ -209,7 +289,11 @@ impl Instrument {
                 parameters.none()?;
                 self.answer.add(b"1")
             }
-            Row::Command(_) => Err(Error::UndefinedHeader),
+            Row::Text => {
+                parameters.none()?;
+                self.answer_text()
+            }
+            Row::Command(_) | Row::Setup(_) | Row::Waveform => Err(Error::UndefinedHeader),
         }
     }
 
@@ -256,14 +340,24 @@ impl Instrument {
         self.answer.add(written.text())
     }
 
-    fn answer_setting(&mut self, setting: Setting, parameters: &Parameters) -> Result<(), Error> {
-        let present = self.settings.get(setting);
-        match setting.values() {
+    /// Always in double quotes, of which the text holds none.
+    fn answer_text(&mut self) -> Result<(), Error> {
+        let shown = self.settings.text.shown();
+        let mut quoted = [b'"'; TEXT_LIMIT + 2];
+        quoted[1..=shown.len()].copy_from_slice(shown);
+        let length = shown.len() + 2;
+        quoted[length - 1] = b'"';
+        self.answer.add(&quoted[..length])
+    }
+
+    fn answer_setting(&mut self, slot: Slot, parameters: &Parameters) -> Result<(), Error> {
+        let present = self.settings.get(slot);
+        match slot.values() {
             Values::Number(step, _) => {
                 let value = match parameters.at_most_one()? {
                     None => present,
                     Some(parameter) => match Parameter::read(parameter)? {
-                        Parameter::Word(spelling) => self.limit(setting, spelling)?,
+                        Parameter::Word(spelling) => self.limit(slot, spelling)?,
                         Parameter::Number(_) => return Err(Error::DataTypeError),
                     },
                 };
@@ -282,36 +376,91 @@ impl Instrument {
     }
 }
 
+/// A unit as the line is cut: at every `;` outside quotes (02, #109).
+struct Unit<'line> {
+    text: &'line [u8],
+    seen: Seen,
+    is_last: bool,
+}
+
+impl<'line> Unit<'line> {
+    /// The first unit of the rest of a line. Only one that may hold a quote or a block is cut the
+    /// slower way.
+    #[inline]
+    fn cut(rest: &'line [u8]) -> Unit<'line> {
+        let text = &rest[..find(b';', rest).unwrap_or(rest.len())];
+        let seen = look_over(text);
+        if seen.has_marks {
+            return Unit::cut_outside_quotes(rest);
+        }
+        // It holds no block, so whether it is the last doesn't matter.
+        let is_last = false;
+        Unit {
+            text,
+            seen,
+            is_last,
+        }
+    }
+
+    #[inline(never)]
+    fn cut_outside_quotes(rest: &'line [u8]) -> Unit<'line> {
+        let text = &rest[..part_length(b';', rest)];
+        Unit {
+            text,
+            seen: look_over(text),
+            is_last: text.len() == rest.len(),
+        }
+    }
+}
+
 /// The parameters of a unit. No row of 01 takes more than one, so the first and the count do.
 struct Parameters<'unit> {
     first: &'unit [u8],
     count: usize,
+    /// The first is a block that was cut short, or the second of its line (02, #110).
+    bad_block: bool,
 }
 
 impl<'unit> Parameters<'unit> {
-    /// 01, check 2: commas part the parameters, and none may be empty.
-    fn read(text: &'unit [u8]) -> Result<Parameters<'unit>, Error> {
+    /// 01, check 2: commas part the parameters, but for those in quotes (02, #109), and no
+    /// parameter may be empty.
+    fn read(text: &'unit [u8], has_marks: bool) -> Result<Parameters<'unit>, Error> {
         let mut parameters = Parameters {
             first: &[],
             count: 0,
+            bad_block: false,
         };
         if text.is_empty() {
             return Ok(parameters);
         }
-        for part in text.split(|&byte| byte == b',') {
-            let parameter = trim(part);
-            if parameter.is_empty() {
-                return Err(Error::SyntaxError);
+        let mut rest = text;
+        loop {
+            let length = if has_marks {
+                part_length(b',', rest)
+            } else {
+                find(b',', rest).unwrap_or(rest.len())
+            };
+            parameters.add(trim(&rest[..length]))?;
+            match rest.get(length + 1..) {
+                Some(further) => rest = further,
+                None => return Ok(parameters),
             }
-            if parameters.count == 0 {
-                parameters.first = parameter;
-            }
-            parameters.count += 1;
         }
-        Ok(parameters)
     }
 
-    // 01, check 4, for the rows that take none, one, or one as an option.
+    fn add(&mut self, parameter: &'unit [u8]) -> Result<(), Error> {
+        if parameter.is_empty() {
+            return Err(Error::SyntaxError);
+        }
+        if self.count == 0 {
+            self.first = parameter;
+        }
+        self.count += 1;
+        Ok(())
+    }
+
+    // 01, check 4, for the rows that take none, one, or one as an option; and 02, #110: a bad block
+    // is -161 on any row, before all else of check 5.
 
     fn none(&self) -> Result<(), Error> {
         match self.count {
@@ -327,6 +476,7 @@ impl<'unit> Parameters<'unit> {
     fn at_most_one(&self) -> Result<Option<&'unit [u8]>, Error> {
         match self.count {
             0 => Ok(None),
+            1 if self.bad_block => Err(Error::InvalidBlockData),
             1 => Ok(Some(self.first)),
             _ => Err(Error::ParameterNotAllowed),
         }
@@ -362,6 +512,16 @@ fn read_bool(parameter: &[u8]) -> Result<i32, Error> {
         Parameter::Number(text) => {
             let rounded = number::read(text, None)?.in_steps(Step::One);
             Ok(i32::from(rounded.steps != 0))
+        }
+    }
+}
+
+/// A number of step 1 from 0 on, without MIN or MAX: a register's, or a place of the store.
+fn read_whole(parameter: &[u8], highest: i32) -> Result<i32, Error> {
+    match Parameter::read(parameter)? {
+        Parameter::Word(_) => Err(Error::InvalidCharacterData),
+        Parameter::Number(text) => {
+            within(0, highest, number::read(text, None)?.in_steps(Step::One))
         }
     }
 }

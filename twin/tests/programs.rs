@@ -1,9 +1,9 @@
-//! The three programs, run as programs.
+//! bench24, player and histories, run as programs.
 
 use std::io::Write;
 use std::process::{Child, Command, Stdio};
 
-use twin::{State, ANSWER_LIMIT};
+use twin::{Table, ANSWER_LIMIT};
 
 const BENCH24: &str = env!("CARGO_BIN_EXE_bench24");
 const PLAYER: &str = env!("CARGO_BIN_EXE_player");
@@ -45,13 +45,13 @@ fn bench24_answers_each_line_by_itself() {
     let lines = run(HISTORIES, &["5", "20000", "lines"], b"");
     assert!(lines.len() > 4 * 65_536);
     assert_eq!(lines.lines().count(), 20_000);
-    let mut state = State::power_up();
+    let mut table = Table::default();
     let mut expected = Vec::new();
     let mut buffer = [0; ANSWER_LIMIT];
     for line in lines.split_inclusive('\n') {
-        state.piece(line.as_bytes()).unwrap();
-        if state.look().unwrap() & 16 != 0 {
-            let length = state.take(&mut buffer).unwrap();
+        table.piece(line.as_bytes()).unwrap();
+        if table.look().unwrap() & 16 != 0 {
+            let length = table.take(&mut buffer).unwrap();
             expected.extend_from_slice(&buffer[..length]);
         }
     }
@@ -61,17 +61,17 @@ fn bench24_answers_each_line_by_itself() {
 
 /// Plays lines one at a time, each answer taken: the errors that each raised, and its answer.
 fn play_lines(lines: &str) -> Vec<(usize, usize)> {
-    let mut state = State::power_up();
+    let mut table = Table::default();
     let mut buffer = [0; ANSWER_LIMIT];
     let results = lines.split_inclusive('\n').map(|line| {
-        state.piece(line.as_bytes()).unwrap();
-        let answers = state.look().unwrap() & 16 != 0;
+        table.piece(line.as_bytes()).unwrap();
+        let answers = table.look().unwrap() & 16 != 0;
         let length = if answers {
-            state.take(&mut buffer).unwrap()
+            table.take(&mut buffer).unwrap()
         } else {
             0
         };
-        let errors = std::mem::take(&mut state.instrument.status.queued);
+        let errors = std::mem::take(&mut table.state.instrument.status.queued);
         (errors, length)
     });
     results.collect()
@@ -113,8 +113,8 @@ fn bench24_ends_at_a_failed_write() {
     assert!(!child.wait().unwrap().success());
 }
 
-/// Lock's and warning's registers at power-up.
-const SETS: &str = "0 0 0 32767 0 0 0 0 32767 0";
+/// Lock's and warning's registers at power-up, no block, and an area of zeros.
+const SETS: &str = "0 0 0 32767 0 0 0 0 32767 0 0 0 0 0";
 
 fn play(script: &str) -> Vec<String> {
     let reports = run(PLAYER, &[], script.as_bytes());
@@ -123,7 +123,7 @@ fn play(script: &str) -> Vec<String> {
 
 #[test]
 fn player_events() {
-    let reset = "0,0,1,2,0,0,500,10,1,1,1,1,40,-40,50,0,0";
+    let reset = "0,0,1,2,0,0,500,10,1,1,1,1,40,-40,50,0,0,-,0,0,1,0,0,500,10,1,1,1,1,40,-40";
     let script = "l\np 564F4C543F0A\nt 2\nl\nt 6\nt 0\nc 5\nc 32768\ns\nu\np 2a4944\ns\n";
     let expected = [
         "l 0 0".to_string(),
@@ -148,7 +148,7 @@ fn player_hand_made_records() {
                   x queued 17\nx error.0 101\ns\nx queued 2\nx error.1 350\nl\n\
                   x line 4096\ns\nx line 2\nx answer 3\ns";
     let reports = play(script);
-    let settings = "0,0,1,2,0,0,500,10,1,1,1,1,40,-80,50,0,0";
+    let settings = "0,0,1,2,0,0,500,10,1,1,1,1,40,-80,50,0,0,-,0,0,1,0,0,500,10,1,1,1,1,40,-40";
     let rest = "128 0 0 0 0 0 32767 0";
     assert_eq!(reports[1], "l 4 0");
     assert_eq!(reports[2], "t 4 0 AAAAAA");
@@ -180,8 +180,8 @@ fn player_lock_and_warning() {
                   x lock_ntr 32768\nk 1\nw 1\nc 1\nl";
     let reports = play(script);
     assert_eq!(reports[..4], ["k 0", "w 0", "k 3", "w 3"]);
-    assert!(reports[4].ends_with(" 0 0 0 32767 0 - 0 - - 5 5 0 32767 0 6 6 0 32767 0"));
-    assert!(reports[15].ends_with(" 0 0 0 32767 0 - 0 - - 7 1 2 3 4 17 11 12 13 14"));
+    assert!(reports[4].ends_with(" 0 0 0 32767 0 - 0 - - 5 5 0 32767 0 6 6 0 32767 0 0 0 0 0"));
+    assert!(reports[15].ends_with(" 0 0 0 32767 0 - 0 - - 7 1 2 3 4 17 11 12 13 14 0 0 0 0"));
     assert_eq!(reports[16..], ["x", "k 4", "w 4", "c 4", "l 4 0"]);
 }
 
@@ -226,7 +226,7 @@ fn player_on_what_it_cannot_read() {
         "x lock_ptr 65536",
         "x warn_ptr 1",
         "x operation_ptr 1",
-        "x setting.17 0",
+        "x setting.30 0",
         "x setting.01 0",
         "x setting. 0",
         "x setting.0 2147483648",
@@ -239,6 +239,47 @@ fn player_on_what_it_cannot_read() {
         "x line ",
         "x overlong 1",
         "p 41\r",
+        "x text",
+        "x text ",
+        "x text 4",
+        "x text 4G",
+        "x text 41 42",
+        "x text --",
+        "x text 414243444546474849414243444546474849414243444546474849414243444546",
+        "x TEXT 41",
+        "e ",
+        "e 1",
+        "E",
+        "A",
+        "A ",
+        "A 16385",
+        "A -1",
+        "A 1 2",
+        "x block -1",
+        "x block 65536",
+        "x block",
+        "x coming 1",
+        "S",
+        "S ",
+        "S 8193",
+        "S -1",
+        "S 1 2",
+        "b 0 0",
+        "b 10 0 1",
+        "b 0 512 1",
+        "b 0 0 256",
+        "b 0 0 -1",
+        "b 0 0 1 1",
+        "z",
+        "z 10",
+        "z 1 2",
+        "m 0",
+        "m 0 10",
+        "m 10 0",
+        "m 1 2 3",
+        "r ",
+        "r 0",
+        "R",
     ];
     let reports = play(&unreadable.join("\n"));
     let expected: Vec<String> = (1..=unreadable.len()).map(|n| format!("? {n}")).collect();
@@ -249,10 +290,26 @@ fn player_on_what_it_cannot_read() {
         "t 0",
         "t 8192",
         "x setting.0 -2147483648",
-        "x setting.16 1",
+        "x setting.29 1",
         "k 32768",
         "w 65535",
         "x queued 65535",
+        "x text -",
+        "x text 6a",
+        "x text 00",
+        "e",
+        "A 0",
+        "A 16384",
+        "A 0008192",
+        "x block 65535",
+        "S 0",
+        "S 8192",
+        "S 0005120",
+        "b 9 511 255",
+        "b 00 000 0",
+        "z 9",
+        "m 9 9",
+        "r",
     ];
     assert!(play(&readable.join("\n"))
         .iter()
@@ -294,4 +351,183 @@ fn histories_are_the_same_for_the_same_seed_and_can_be_read() {
             assert_eq!(event.as_bytes()[0], report.as_bytes()[0], "{event}");
         }
     }
+}
+
+#[test]
+fn bench24_lends_a_store_of_zeros() {
+    let lines = b"*RCL 3\nSYST:ERR?\nVOLT 5;*SAV 3;*RST\nVOLT?\n*RCL 3;VOLT?\n";
+    let answers = "-314,\"Save/recall memory lost\"\n0.0\n5.0\n";
+    assert_eq!(run(BENCH24, &[], lines), answers);
+}
+
+#[test]
+fn player_store() {
+    // *SAV 3, *RCL 3
+    let (save, recall) = ("p 2A53415620330A", "p 2A52434C20330A");
+    let script = format!(
+        "r\n{save}\nr\nb 3 14 1\nr\nb 3 14 255\nr\nm 3 0\nm 3 9\nr\nz 3\nr\nu\nr\n{recall}\n\
+         x queued 1\nl\nb 0 508 1\nr\nb 9 511 1\nr"
+    );
+    let expected = "r 0000000000\np 0 1\nr 0001000000\nb\nr 0000000000\nb\nr 0001000000\nm\nm\n\
+                    r 1001000001\nz\nr 1000000001\nu\nr 1000000001\np 0 1\nx\nl 0 4\nb\n\
+                    r 0000000001\nb\nr 0000000000";
+    assert_eq!(play(&script).join("\n"), expected);
+}
+
+#[test]
+fn player_lends_another_store_to_one_event() {
+    let events = ["p 564F4C543F0A", "t 3", "c 5", "c 40000", "k 1", "w 1", "l"];
+    let refused = ["p 5 0", "t 5 0 AAAAAA", "c 5", "c 5", "k 5", "w 5", "l 5 0"];
+    for (event, refused) in events.into_iter().zip(refused) {
+        for length in [0, 1, 512, 5119, 5121, 8192] {
+            let script = format!("u\ns\nS {length}\n{event}\ns\nl");
+            let reports = play(&script);
+            assert_eq!(reports[3], refused);
+            assert_eq!(reports[4], reports[1]);
+            assert_eq!(reports[5], "l 0 0");
+        }
+    }
+    // Only an event that is lent a store uses the length up; the last one given counts.
+    let script =
+        "S 0\nu\ns\nx esr 0\nr\nb 0 0 1\nz 0\nm 0 1\nq\nl\nl\nS 0\nS 5120\nl\nS 5120\nS 1\nl";
+    let reports = play(script);
+    assert_eq!(reports[9..11], ["l 5 0", "l 0 0"]);
+    assert_eq!(reports[13], "l 0 0");
+    assert_eq!(reports[16], "l 5 0");
+    // Before refusals 3 and 4.
+    let script = "x sre 64\nl\nS 5119\nl\nS 5121\nc 65535\nl\nx sre 0\nS 5119\nc 65535\nc 65535";
+    let reports = play(script);
+    let expected = [
+        "x", "l 4 0", "S", "l 5 0", "S", "c 5", "l 4 0", "x", "S", "c 5", "c 3",
+    ];
+    assert_eq!(reports, expected);
+}
+
+#[test]
+fn player_text() {
+    let text = |reports: &[String], line: usize| {
+        let settings = reports[line].split(' ').nth(1).unwrap();
+        settings.split(',').nth(17).unwrap().to_string()
+    };
+    let full = "41".repeat(32);
+    // DISP:TEXT 'ab'
+    let script = format!(
+        "s\nx text 4142\ns\nl\nx text {full}\ns\nl\nx text 41\ns\nx text -\ns\nl\n\
+         p 444953503A544558542027616227\np 0A\ns"
+    );
+    let reports = play(&script);
+    assert_eq!(text(&reports, 0), "-");
+    assert_eq!(text(&reports, 2), "4142");
+    assert_eq!(text(&reports, 5), full);
+    assert_eq!(text(&reports, 8), "41");
+    assert_eq!(text(&reports, 10), "-");
+    assert_eq!(text(&reports, 14), "6162");
+    // Not the box's: a forbidden byte, one that isn't printable, a zero before the last byte.
+    for (hex, shown) in [
+        ("22", "22"),
+        ("411F", "411F"),
+        ("7F", "7F"),
+        ("410042", "41"),
+    ] {
+        let reports = play(&format!("x text {hex}\nl\np 0A\ns\nx text -\nl"));
+        assert_eq!(reports[1..3], ["l 4 0", "p 4 0"], "{hex}");
+        assert_eq!(text(&reports, 3), shown);
+        assert_eq!(reports[5], "l 0 0");
+    }
+    // A zero at the end is no byte of the text, and a zero alone is the empty text.
+    let reports = play("x text 4100\nl\ns\nx text 0000\nl\ns");
+    assert_eq!((&reports[1][..], text(&reports, 2)), ("l 0 0", "41".into()));
+    assert_eq!((&reports[4][..], text(&reports, 5)), ("l 0 0", "-".into()));
+}
+
+#[test]
+fn player_channel_2() {
+    let script: Vec<String> = (17..30)
+        .map(|place| format!("x setting.{place} {}", 100 + place))
+        .collect();
+    let reports = play(&format!("{}\ns\nl", script.join("\n")));
+    let settings = reports[13].split(' ').nth(1).unwrap();
+    let of_two = "117,118,119,120,121,122,123,124,125,126,127,128,129";
+    assert!(settings.ends_with(&format!(",50,0,0,-,{of_two}")));
+    assert_eq!(reports[14], "l 4 0");
+}
+
+#[test]
+fn player_waveform() {
+    // TRAC:DATA #48192, then 1, 2 and zeros: the sum is 1 * 1 + 2 * 2
+    let mark = "p 545241433A4441544120233438313932";
+    let rest = "00".repeat(8190);
+    let script = format!("{mark}\ns\np 0102\ns\np {rest}\ns\ne\ns\nu\ns\ne\n{mark}0A\ne\ns");
+    let reports = play(&script);
+    let block = |line: usize| {
+        let fields: Vec<&str> = reports[line].split(' ').collect();
+        fields[24..].join(" ")
+    };
+    assert_eq!(block(1), "0 0 8192 0");
+    assert_eq!((&reports[2][..], block(3)), ("p 0 0", "2 5 8190 0".into()));
+    assert_eq!(block(5), "8192 5 0 0");
+    assert_eq!((&reports[6][..], block(7)), ("e 0", "0 0 0 5".into()));
+    // The area outlives power-up, and END on a line with no bytes does nothing.
+    assert_eq!((block(9), &reports[10][..]), ("0 0 0 5".into(), "e 0"));
+    // A newline in a block counts; END cuts it short.
+    assert_eq!((&reports[11][..], &reports[12][..]), ("p 0 1", "e 0"));
+    assert_eq!(block(13), "0 0 0 5");
+    assert!(reports[13].contains(" 161 0 - - "));
+}
+
+#[test]
+fn player_lends_another_area_to_one_event() {
+    let events = [
+        "p 564F4C543F0A",
+        "t 3",
+        "c 5",
+        "c 40000",
+        "k 1",
+        "w 1",
+        "l",
+        "e",
+    ];
+    let refused = [
+        "p 5 0",
+        "t 5 0 AAAAAA",
+        "c 5",
+        "c 5",
+        "k 5",
+        "w 5",
+        "l 5 0",
+        "e 5",
+    ];
+    for (event, refused) in events.into_iter().zip(refused) {
+        for length in [0, 5120, 8191, 8193, 16_384] {
+            let reports = play(&format!("u\ns\nA {length}\n{event}\ns\nl"));
+            assert_eq!(reports[2..4], ["A", refused]);
+            assert_eq!(reports[4], reports[1]);
+            assert_eq!(reports[5], "l 0 0");
+        }
+    }
+    // Both lengths hold for the same event.
+    let reports = play("A 0\nS 0\nu\ns\nx esr 0\nr\nl\nl\nA 0\nA 8192\nl\nS 1\nl\nl");
+    assert_eq!(reports[6..8], ["l 5 0", "l 0 0"]);
+    assert_eq!((&reports[10][..], &reports[12][..]), ("l 0 0", "l 5 0"));
+    assert_eq!(reports[13], "l 0 0");
+}
+
+#[test]
+fn player_hand_made_waiting_bytes() {
+    let reports =
+        play("x block 8193\nl\ne\np 0A\nx block 8192\nl\ns\ne\ns\np 0A\ns\nx block 65535\ns");
+    assert_eq!(reports[1..4], ["l 4 0", "e 4", "p 4 0"]);
+    assert_eq!(reports[5], "l 0 0");
+    assert!(reports[6].ends_with(" 8192 0 0 0"));
+    assert_eq!(reports[8], reports[6]);
+    assert!(reports[10].ends_with(" 0 0 0 0"));
+    assert!(reports[12].ends_with(" 65535 0 0 0"));
+}
+
+/// The end of input is no END.
+#[test]
+fn bench24_and_blocks() {
+    let block = [b"TRAC:DATA #48192", &[b'\n'; 8192][..], b"\nSYST:ERR?\n"].concat();
+    assert_eq!(run(BENCH24, &[], &block), "0,\"No error\"\n");
+    assert_eq!(run(BENCH24, &[], b"TRAC:DATA #48192\nVOLT?\n"), "");
 }

@@ -4,10 +4,10 @@
 mod bench;
 
 use bench::*;
-use twin::paper::{nodes, suffixes, Use, HEADERS};
-use twin::{SetName, State, SETTINGS};
+use twin::paper::{nodes, place_in_channel_2, suffixes, Use, CHANNEL_NODES, HEADERS};
+use twin::{SetName, SETTINGS, STORE_LENGTH};
 
-static UNITS: [&str; 77] = [
+static UNITS: [&str; 112] = [
     "VOLT 5",
     "VOLT 12.04",
     "VOLT 12.05",
@@ -85,6 +85,41 @@ static UNITS: [&str; 77] = [
     "VOLT 1E10",
     "VOLT \u{7F}",
     "OUTP:PON 1",
+    "*SAV 1",
+    "*SAV 2",
+    "*RCL 1",
+    "*RCL 1",
+    "*RCL 2",
+    "*RCL 3",
+    "*SAV 9.5",
+    "*RCL",
+    "*SAV MAX",
+    "DISP:TEXT 'a;b'",
+    "DISP:TEXT \"a,b;c\"",
+    "TEXT ''",
+    "TEXT?",
+    "DISP:TEXT?",
+    "TEXT \"it's\"",
+    "DISP:TEXT 'a:b;c'",
+    "DISP:TEXT 'a",
+    "TEXT \"b",
+    "VOLT '5;6'",
+    "VO\"LT 5",
+    "*ESE \"",
+    "FOO 'a;;b',';'",
+    "OUTP2 1",
+    "OUTP2 0",
+    "OUTP2:PON 1",
+    "VOLT2 5",
+    "VOLT2:RANG R24V",
+    "VOLT2:LEV 13",
+    ":VOLT2:RANG R12V",
+    ":VOLT1 6",
+    "CURR2:LIM:RMS 1.5",
+    "FREQ2?",
+    "VOLT3 5",
+    "VOLT2?",
+    "FREQ2 60.05",
 ];
 
 fn random_line(dice: &mut Dice) -> Vec<&'static str> {
@@ -108,21 +143,21 @@ fn pieces_may_be_cut_anywhere() {
             bytes.push(b'\n');
         }
         bytes.extend_from_slice(b"VOLT 3");
-        let mut whole = State::power_up();
+        let mut whole = Bench::power_up();
         assert_eq!(whole.piece(&bytes), Ok(12));
-        let mut single = State::power_up();
+        let mut single = Bench::power_up();
         for byte in bytes.chunks(1) {
             single.piece(byte).unwrap();
         }
-        let mut cut = State::power_up();
+        let mut cut = Bench::power_up();
         let mut rest = &bytes[..];
         while !rest.is_empty() {
             let length = dice.below(40.min(rest.len()) + 1);
             cut.piece(&rest[..length]).unwrap();
             rest = &rest[length..];
         }
-        assert!(same(&whole, &single));
-        assert!(same(&whole, &cut));
+        assert!(agree(&whole, &single));
+        assert!(agree(&whole, &cut));
     }
 }
 
@@ -167,6 +202,28 @@ fn spellings(sequence: &[&str]) -> Vec<String> {
     headers
 }
 
+/// A spelled header with a number after its channel node, if it has one (02, #111).
+fn with_number(header: &str, number: &str) -> Option<String> {
+    let mut found = false;
+    let nodes: Vec<String> = header
+        .split(':')
+        .map(|node| match is_channel_node(node) {
+            true => {
+                found = true;
+                format!("{node}{number}")
+            }
+            false => node.to_string(),
+        })
+        .collect();
+    found.then(|| nodes.join(":"))
+}
+
+fn is_channel_node(node: &str) -> bool {
+    CHANNEL_NODES.iter().any(|[printed, ..]| {
+        node.eq_ignore_ascii_case(printed) || node.eq_ignore_ascii_case(&short(printed))
+    })
+}
+
 fn parameters(takes: Use) -> [&'static str; 2] {
     match takes {
         Use::Bool => ["0", "1"],
@@ -183,24 +240,53 @@ fn every_spelling_reaches_its_row() {
             .flat_map(|nodes| spellings(nodes))
         {
             let Some(place) = place else {
-                let form = if takes == Use::CommandOnly { "" } else { "?" };
-                assert_eq!(after(format!("{header}{form}")).errors(), [], "{header}");
+                let (form, error) = match takes {
+                    Use::CommandOnly => ("", None),
+                    // Only *RCL of a good block raises nothing.
+                    Use::StorePlace if header.eq_ignore_ascii_case("*RCL") => (" 4", Some(314)),
+                    Use::StorePlace => (" 4", None),
+                    Use::Text => (" 'a'", None),
+                    // Without its bytes a block is what follows, the newline too.
+                    Use::Block => (" 1", Some(104)),
+                    _ => ("?", None),
+                };
+                let bench = after(format!("{header}{form}"));
+                assert_eq!(bench.errors(), error.as_slice(), "{header}");
                 continue;
             };
-            let mut bench = Bench::power_up();
-            let mut values = Vec::new();
-            for parameter in parameters(takes) {
-                bench.send(format!("{header} {parameter}"));
-                values.push(bench.setting(place));
-                assert!(bench.ask(format!(":{header}?")).is_some());
-                let mut expected = Bench::power_up().settings();
-                expected[place] = bench.setting(place);
-                assert_eq!(bench.settings(), expected, "{header}");
+            reaches(&header, place, takes);
+            let Some(numbered) = with_number(&header, "2") else {
+                continue;
+            };
+            reaches(&with_number(&header, "1").unwrap(), place, takes);
+            match place_in_channel_2(place) {
+                Some(place) => reaches(&numbered, place, takes),
+                None => refused(format!("{numbered}?"), 114),
             }
-            assert_eq!(bench.errors(), [], "{header}");
-            assert!(values[0] != values[1], "{header}");
+            for number in ["0", "3", "01", "12", "9999999999"] {
+                let numbered = with_number(&header, number).unwrap();
+                refused(format!("{numbered}?"), 114);
+                refused(format!("{numbered} {}", parameters(takes)[0]), 114);
+            }
         }
     }
+}
+
+/// The header sets and answers the setting at this place, and no other.
+#[track_caller]
+fn reaches(header: &str, place: usize, takes: Use) {
+    let mut bench = Bench::power_up();
+    let mut values = Vec::new();
+    for parameter in parameters(takes) {
+        bench.send(format!("{header} {parameter}"));
+        values.push(bench.setting(place));
+        assert!(bench.ask(format!(":{header}?")).is_some());
+        let mut expected = Bench::power_up().settings();
+        expected[place] = bench.setting(place);
+        assert_eq!(bench.settings(), expected, "{header}");
+    }
+    assert_eq!(bench.errors(), [], "{header}");
+    assert!(values[0] != values[1], "{header}");
 }
 
 /// Why one walk finds "kept or left out in any way": no node of a row is spelled like another.
@@ -220,51 +306,96 @@ fn nodes_of_a_row_differ_pairwise() {
     }
 }
 
+static NEARLY_WORDS: [&str; 18] = [
+    "VOLTA",
+    "OUTPU",
+    "FREQUENC",
+    "LIMI",
+    "ERRO",
+    "V",
+    "VOLT1",
+    "STATUSX",
+    "VOLTAGE2",
+    "OUTP2",
+    "CURR2",
+    "FREQ2",
+    "OUTP3",
+    "VOLT0",
+    "CURRENT01",
+    "VOLTA2",
+    "LEV2",
+    "SOUR2",
+];
+
+/// Nodes in any order; half of the headers begin like a known one.
+fn random_header(dice: &mut Dice, words: &[String]) -> String {
+    let count = 1 + dice.below(5);
+    let mut header: Vec<String> = (0..count).map(|_| dice.pick(words).clone()).collect();
+    if dice.below(2) == 0 {
+        let printed = dice.pick(&HEADERS).1;
+        let start: Vec<&str> = nodes(printed).iter().map(|node| node.0).collect();
+        let kept = dice.below(start.len() + 1);
+        header.splice(
+            ..kept.min(count),
+            start[..kept].iter().map(|node| short(node)),
+        );
+    }
+    header.join(":")
+}
+
 #[test]
 fn no_other_header_reaches_a_row() {
-    let mut known = Vec::new();
-    let mut words = Vec::new();
-    for (_, printed, _) in HEADERS.iter().filter(|header| !header.1.starts_with('*')) {
+    let mut known = std::collections::HashSet::new();
+    let mut words = NEARLY_WORDS.map(str::to_string).to_vec();
+    for (_, printed, takes) in HEADERS.iter().filter(|header| !header.1.starts_with('*')) {
         for (node, _) in nodes(printed) {
             words.extend([short(node), node.to_uppercase()]);
         }
-        for nodes in expansions(printed) {
-            known.extend(spellings(&nodes));
+        // It has no query to reach it by.
+        if *takes == Use::Block {
+            continue;
+        }
+        for header in expansions(printed)
+            .iter()
+            .flat_map(|nodes| spellings(nodes))
+        {
+            known.insert(header.to_uppercase());
         }
     }
-    for word in [
-        "VOLTA", "OUTPU", "FREQUENC", "LIMI", "ERRO", "V", "VOLT1", "STATUSX",
-    ] {
-        words.push(word.to_string());
-    }
-    let known: std::collections::HashSet<String> =
-        known.iter().map(|header| header.to_uppercase()).collect();
     let mut dice = Dice(2);
     let mut reached = 0;
     for _ in 0..60_000 {
-        let count = 1 + dice.below(5);
-        // Half of them begin like a known header.
-        let mut header: Vec<String> = (0..count).map(|_| dice.pick(&words).clone()).collect();
-        if dice.below(2) == 0 {
-            let printed = dice.pick(&HEADERS).1;
-            let start: Vec<&str> = nodes(printed).iter().map(|node| node.0).collect();
-            let kept = dice.below(start.len() + 1);
-            header.splice(
-                ..kept.min(count),
-                start[..kept].iter().map(|node| short(node)),
-            );
-        }
-        let header = header.join(":");
+        let header = random_header(&mut dice, &words);
         if header.contains('*') {
             continue;
         }
         let errors = after(format!("{header}?")).errors().to_vec();
-        let expected = known.contains(&header.to_uppercase());
-        assert_eq!(errors.is_empty(), expected, "{header}");
-        assert!(errors.is_empty() || errors == [113], "{header}");
-        reached += usize::from(expected);
+        assert_eq!(errors, error_of(&header, &known).as_slice(), "{header}");
+        reached += usize::from(errors.is_empty());
     }
     assert!(reached > 1000);
+}
+
+/// -113 or -114, if a header with numbers on its nodes deserves one (02, #111).
+fn error_of(header: &str, known: &std::collections::HashSet<String>) -> Option<u16> {
+    let mut numbers = Vec::new();
+    let nodes: Vec<String> = header
+        .split(':')
+        .map(|node| {
+            let word = node.trim_end_matches(|letter: char| letter.is_ascii_digit());
+            if !is_channel_node(word) || word == node {
+                return node.to_uppercase();
+            }
+            numbers.push(&node[word.len()..]);
+            word.to_uppercase()
+        })
+        .collect();
+    if !known.contains(&nodes.join(":")) {
+        return Some(113);
+    }
+    let monitor = header.to_uppercase().contains(":MON");
+    let good = |number: &&str| *number == "1" || *number == "2" && !monitor;
+    (!numbers.iter().all(good)).then_some(114)
 }
 
 /// A number's text in parts, and what 01 says of it on a row, worked out on lists of digits.
@@ -414,23 +545,33 @@ fn answers_can_be_sent_back() {
             Use::Number(lowest, highest, false) => lowest / 10..=highest / 10,
             _ => continue,
         };
+        let in_channel_2 = with_number(&header, "2").zip(place_in_channel_2(place));
         for (value, exam) in values.flat_map(|value| [(value, 0), (value, 1)]) {
-            let mut bench = Bench::power_up();
-            let settings = &mut bench.state.instrument.settings.values;
-            settings[RANGE] = 1;
-            settings[EXAM] = exam;
-            settings[place] = value;
-            let before = bench.settings();
-            let answer = bench.ask(format!("{header}?")).unwrap();
-            bench.send(format!("{header} {answer}"));
-            assert_eq!(bench.errors(), []);
-            assert_eq!(bench.settings(), before);
+            can_be_sent_back(&header, place, value, exam);
+            if let Some((header, place)) = &in_channel_2 {
+                can_be_sent_back(header, *place, value, exam);
+            }
         }
     }
 }
 
-/// Demand 3: a line refused at unit n+1 leaves what its first n units leave, but for queue and
-/// event status register.
+#[track_caller]
+fn can_be_sent_back(header: &str, place: usize, value: i32, exam: i32) {
+    let mut bench = Bench::power_up();
+    let settings = &mut bench.state.instrument.settings.values;
+    settings[RANGE] = 1;
+    settings[RANGE_2] = 1;
+    settings[EXAM] = exam;
+    settings[place] = value;
+    let before = bench.settings();
+    let answer = bench.ask(format!("{header}?")).unwrap();
+    bench.send(format!("{header} {answer}"));
+    assert_eq!(bench.errors(), []);
+    assert_eq!(bench.settings(), before);
+}
+
+/// Demand 3: a line refused at unit n+1 leaves what its first n units leave, the store too, but
+/// for queue and event status register.
 #[test]
 fn refused_line_is_its_first_units() {
     let mut dice = Dice(4);
@@ -439,15 +580,15 @@ fn refused_line_is_its_first_units() {
         let mut bench = Bench::power_up();
         for _ in 0..10 {
             let line = random_line(&mut dice).join(";");
-            let mut sent = bench.state.clone();
+            let mut sent = bench.clone();
             let raised = play(&mut sent, &line);
             if let [error] = raised[..] {
                 if error != 430 {
                     refused_lines += 1;
-                    assert!(agrees_with_a_cut(&bench.state, &sent, &line), "{line}");
+                    assert!(agrees_with_a_cut(&bench, &sent, &line), "{line}");
                 }
             }
-            bench.state = sent;
+            bench = sent;
             if dice.below(3) > 0 {
                 bench.answer();
             }
@@ -457,7 +598,7 @@ fn refused_line_is_its_first_units() {
                 SetName::Lock if dice.below(4) > 0 => 0,
                 _ => dice.below(8) as u16,
             };
-            bench.state.condition(name, value).unwrap();
+            bench.condition(name, value).unwrap();
         }
     }
     assert!(refused_lines > 5000);
@@ -470,47 +611,69 @@ fn nothing_changes_under_lock() {
     let mut switched_off = 0;
     let mut blocked = 0;
     for _ in 0..2000 {
-        let mut bench = after("OUTP 1");
+        let mut bench = after("OUTP 1;OUTP2 1");
         for _ in 0..3 {
             bench.send(random_line(&mut dice).join(";"));
         }
         let bit = 1 << dice.below(15);
-        bench.state.condition(SetName::Lock, bit).unwrap();
+        bench.condition(SetName::Lock, bit).unwrap();
         let before = bench.settings();
         for _ in 0..3 {
             let line = random_line(&mut dice).join(";");
-            blocked += usize::from(play(&mut bench.state, &line) == [221]);
+            blocked += usize::from(play(&mut bench, &line) == [221]);
         }
         let mut allowed = before;
-        allowed[0] = bench.setting(0);
-        assert!(bench.setting(0) <= before[0]);
+        for output in [0, OUTPUT_2] {
+            allowed[output] = bench.setting(output);
+            assert!(bench.setting(output) <= before[output]);
+            switched_off += before[output] - bench.setting(output);
+        }
         assert_eq!(bench.settings(), allowed);
-        switched_off += before[0] - bench.setting(0);
     }
     assert!(switched_off > 50);
     assert!(blocked > 1000);
 }
 
 /// Runs a line from an emptied queue and event status register, so that what it raises shows.
-fn play(state: &mut State, line: &str) -> Vec<u16> {
-    state.instrument.answer.length = 0;
-    state.instrument.status.queued = 0;
-    state.instrument.status.esr = 0;
-    state.piece(format!("{line}\n").as_bytes()).unwrap();
-    let status = &state.instrument.status;
-    status.errors[..status.queued].to_vec()
+fn play(bench: &mut Bench, line: &str) -> Vec<u16> {
+    bench.state.instrument.answer.length = 0;
+    bench.state.instrument.status.queued = 0;
+    bench.state.instrument.status.esr = 0;
+    bench.send(line);
+    bench.errors().to_vec()
 }
 
-fn agrees_with_a_cut(before: &State, after: &State, line: &str) -> bool {
-    let units: Vec<&str> = line.split(';').collect();
+/// The units of a line, by 02, #109: no `;` in quotes separates.
+fn cut_outside_quotes(line: &str) -> Vec<&str> {
+    let mut units = Vec::new();
+    let mut start = 0;
+    let mut open = None;
+    for (place, byte) in line.char_indices() {
+        match open {
+            Some(quote) if quote == byte => open = None,
+            None if byte == '"' || byte == '\'' => open = Some(byte),
+            None if byte == ';' => {
+                units.push(&line[start..place]);
+                start = place + 1;
+            }
+            _ => {}
+        }
+    }
+    units.push(&line[start..]);
+    units
+}
+
+fn agrees_with_a_cut(before: &Bench, after: &Bench, line: &str) -> bool {
+    let units = cut_outside_quotes(line);
     (0..units.len()).rev().any(|count| {
         let mut cut = before.clone();
         let raised = play(&mut cut, &units[..count].join(";"));
         let mut after = after.clone();
-        after.instrument.status.queued = cut.instrument.status.queued;
-        after.instrument.status.errors = cut.instrument.status.errors;
-        after.instrument.status.esr = cut.instrument.status.esr;
-        raised.is_empty() && same(&after, &cut)
+        let status = &mut after.state.instrument.status;
+        status.queued = cut.state.instrument.status.queued;
+        status.errors = cut.state.instrument.status.errors;
+        status.esr = cut.state.instrument.status.esr;
+        raised.is_empty() && agree(&after, &cut)
     })
 }
 
@@ -519,20 +682,26 @@ fn agrees_with_a_cut(before: &State, after: &State, line: &str) -> bool {
 fn nothing_panics() {
     let mut dice = Dice(5);
     for _ in 0..5000 {
-        let mut state = State::power_up();
+        let mut bench = Bench::power_up();
         for _ in 0..dice.below(4) {
-            overwrite_something(&mut state, &mut dice);
+            overwrite_something(&mut bench, &mut dice);
         }
         for _ in 0..4 {
             let length = *dice.pick(&[0, 1, 5, 30, 60, 90, 520, 4100]);
-            let piece: Vec<u8> = (0..length).map(|_| random_byte(&mut dice)).collect();
+            let mut piece: Vec<u8> = (0..length).map(|_| random_byte(&mut dice)).collect();
+            if dice.below(4) == 0 {
+                piece.extend_from_slice(b"TRAC:DATA #48192");
+            }
             let newlines = piece.iter().filter(|&&byte| byte == b'\n').count();
-            let result = state.piece(&piece);
+            let result = bench.piece(&piece);
             assert!(result.is_err() || result == Ok(newlines));
-            let _ = state.take(&mut vec![0; dice.below(4200)]);
+            let _ = bench.take(&mut vec![0; dice.below(4200)]);
             let name = *dice.pick(&SetName::ALL);
-            let _ = state.condition(name, dice.below(65_536) as u16);
-            let _ = state.look();
+            let _ = bench.condition(name, dice.below(65_536) as u16);
+            let _ = bench.look();
+            if dice.below(3) == 0 {
+                let _ = bench.end();
+            }
         }
     }
 }
@@ -540,17 +709,18 @@ fn nothing_panics() {
 fn random_byte(dice: &mut Dice) -> u8 {
     match dice.below(3) {
         0 => dice.below(256) as u8,
-        1 => *dice.pick(b"\n\n;:*?, .+-E019#_"),
+        1 => *dice.pick(b"\n\n;:*?, .+-E019#_\"'"),
         _ => *dice.pick(b"VOLTFREQCURSYAIDN"),
     }
 }
 
-fn overwrite_something(state: &mut State, dice: &mut Dice) {
+fn overwrite_something(bench: &mut Bench, dice: &mut Dice) {
     let odd = *dice.pick(&[
         0, 1, 16, 17, 64, 255, 256, 513, 1025, 4096, 4097, 32_768, 65_535,
     ]);
+    let state = &mut bench.state;
     let status = &mut state.instrument.status;
-    match dice.below(8) {
+    match dice.below(11) {
         0 => state.instrument.settings.values[dice.below(SETTINGS)] = odd as i32 - 100,
         1 => status.queued = odd,
         2 => status.errors[dice.below(16)] = odd as u16,
@@ -558,6 +728,9 @@ fn overwrite_something(state: &mut State, dice: &mut Dice) {
         4 => status.sre = odd as u16,
         5 => status.set_mut(*dice.pick(&SetName::ALL)).ptr = odd as u16,
         6 => state.line.length = odd,
-        _ => state.instrument.answer.length = odd,
+        7 => state.instrument.answer.length = odd,
+        9 => state.line.block.length = odd,
+        8 => state.instrument.settings.text.bytes[dice.below(32)] = odd as u8,
+        _ => bench.store[dice.below(STORE_LENGTH)] = odd as u8,
     }
 }

@@ -66,7 +66,7 @@ mod lines_and_units {
     fn hand_made_overlong_mark() {
         let mut bench = Bench::power_up();
         bench.state.line.overlong = true;
-        assert_eq!(bench.state.piece(b"VOLT 5"), Ok(0));
+        assert_eq!(bench.piece(b"VOLT 5"), Ok(0));
         assert_eq!(
             &bench.state.line.bytes[..bench.state.line.length],
             b"VOLT 5"
@@ -81,10 +81,10 @@ mod lines_and_units {
     #[test]
     fn stored_line_never_exceeds_its_limit() {
         let mut bench = Bench::power_up();
-        assert_eq!(bench.state.piece(&[b'A'; 5000]), Ok(0));
+        assert_eq!(bench.piece(&[b'A'; 5000]), Ok(0));
         assert_eq!(bench.state.line.length, 4096);
         assert!(bench.state.line.overlong);
-        assert_eq!(bench.state.look(), Ok(0));
+        assert_eq!(bench.look(), Ok(0));
     }
 
     #[test]
@@ -107,39 +107,41 @@ mod lines_and_units {
         bench.state.instrument.answer.length = 3;
         bench.state.instrument.answer.bytes[..3].copy_from_slice(b"abc");
         let mut buffer = [0xAA; 4];
-        assert_eq!(bench.state.take(&mut buffer), Ok(3));
+        assert_eq!(bench.take(&mut buffer), Ok(3));
         assert_eq!(&buffer, b"abc\xAA");
     }
 
     #[test]
     fn numbers_that_the_queue_may_hold() {
         let allowed = [
-            101, 102, 104, 108, 109, 113, 121, 123, 124, 131, 138, 141, 221, 222, 350, 363, 410,
-            420, 430,
+            101, 102, 104, 108, 109, 113, 114, 121, 123, 124, 131, 138, 141, 150, 151, 161, 221,
+            222, 223, 314, 350, 363, 410, 420, 430,
         ];
         for number in 0..=u16::MAX {
-            let mut state = State::power_up();
-            state.instrument.status.errors[2] = number;
-            assert_eq!(state.look(), Ok(0));
-            state.instrument.status.errors[..2].fill(350);
-            state.instrument.status.queued = 3;
+            let mut bench = Bench::power_up();
+            let status = &mut bench.state.instrument.status;
+            status.errors[2] = number;
+            status.errors[..2].fill(350);
+            status.queued = 2;
+            assert_eq!(bench.look(), Ok(4));
+            bench.state.instrument.status.queued = 3;
             let expected = match allowed.contains(&number) {
                 true => Ok(4),
                 false => Err(Refusal::NotTheBoxs),
             };
-            assert_eq!(state.look(), expected, "{number}");
+            assert_eq!(bench.look(), expected, "{number}");
         }
     }
 
     #[test]
     fn take_into_no_buffer() {
         let mut bench = Bench::power_up();
-        assert_eq!(bench.state.take(&mut []), Err(Refusal::NoAnswerWaits));
+        assert_eq!(bench.take(&mut []), Err(Refusal::NoAnswerWaits));
         bench.send("VOLT?");
         let refusal = Err(Refusal::BufferTooShort { needed: 4 });
-        assert_eq!(bench.state.take(&mut []), refusal);
+        assert_eq!(bench.take(&mut []), refusal);
         let mut buffer = [0; 4];
-        assert_eq!(bench.state.take(&mut buffer), Ok(4));
+        assert_eq!(bench.take(&mut buffer), Ok(4));
         assert_eq!(&buffer, b"0.0\n");
     }
 }
@@ -173,7 +175,8 @@ mod headers_and_path {
         refused("STAT:PRES", 113);
         refused("FREQ:IMM 60", 113);
         refused("DISP:CONT 5", 113);
-        refused("VOLT1 5", 113);
+        sets("VOLT1 5", VOLTAGE, 50);
+        refused("VOLTA1 5", 113);
         refused("VOLT".repeat(20), 113);
         refused("VOLTAGEVOLTAGEVOLTAGE 5", 113);
         refused("X".repeat(300) + ":VOLT 5", 113);
@@ -356,7 +359,7 @@ mod answers_status_queue {
         let mut bench = after(&line);
         assert_eq!(bench.errors(), []);
         assert_eq!(bench.state.instrument.answer.length, 4096);
-        assert_eq!(bench.state.look(), Ok(16));
+        assert_eq!(bench.look(), Ok(16));
         assert_eq!(bench.answer().unwrap().len(), 4095);
 
         let line = units(&[(186, "*IDN?"), (1, "FREQ?")]);
@@ -369,7 +372,7 @@ mod answers_status_queue {
         let mut bench = after(line);
         assert_eq!(bench.errors(), [430]);
         assert_eq!(bench.setting(VOLTAGE), 50);
-        assert_eq!(bench.state.look(), Ok(4));
+        assert_eq!(bench.look(), Ok(4));
         assert_eq!(bench.answer(), None);
     }
 
@@ -378,7 +381,7 @@ mod answers_status_queue {
         let mut bench = after("FOO");
         bench.send(units(&[(186, "*IDN?"), (1, "SYST:ERR?")]));
         assert_eq!(bench.errors(), [113, 430]);
-        bench.state.condition(SetName::Operation, 1).unwrap();
+        bench.condition(SetName::Operation, 1).unwrap();
         let before = bench.state.instrument.status.clone();
         bench.send(units(&[(186, "*IDN?"), (1, "*OPC?"), (1, "*ESR?")]));
         assert_eq!(bench.esr(), before.esr);
@@ -412,7 +415,7 @@ mod answers_status_queue {
     #[test]
     fn transition_filters_make_no_event() {
         let mut bench = after("STAT:OPER:PTR 0");
-        bench.state.condition(SetName::Operation, 3).unwrap();
+        bench.condition(SetName::Operation, 3).unwrap();
         bench.send("STAT:OPER:PTR 3;NTR 3");
         assert_eq!(
             bench.state.instrument.status.set(SetName::Operation).event,
@@ -429,6 +432,7 @@ mod answers_status_queue {
             (108, "Parameter not allowed"),
             (109, "Missing parameter"),
             (113, "Undefined header"),
+            (114, "Header suffix out of range"),
             (121, "Invalid character in number"),
             (123, "Exponent too large"),
             (124, "Too many digits"),
@@ -437,6 +441,11 @@ mod answers_status_queue {
             (141, "Invalid character data"),
             (221, "Settings conflict"),
             (222, "Data out of range"),
+            (150, "String data error"),
+            (151, "Invalid string data"),
+            (161, "Invalid block data"),
+            (223, "Too much data"),
+            (314, "Save/recall memory lost"),
             (350, "Queue overflow"),
             (363, "Input buffer overrun"),
             (410, "Query INTERRUPTED"),

@@ -1,4 +1,4 @@
-//! The requests of 02 that are built in: their own examples and those of the settled readings.
+//! The requests of 02 up to #107: their own examples and those of the settled readings.
 
 mod bench;
 
@@ -214,18 +214,18 @@ mod lock_and_warning_registers {
     fn summaries_by_table_2_1() {
         for (name, header, weight) in SETS {
             let mut bench = after(format!("STAT:{header}:ENAB 5"));
-            bench.state.condition(name, 4).unwrap();
+            bench.condition(name, 4).unwrap();
             assert_eq!(bench.ask("*STB?"), Some(weight.to_string()));
-            assert_eq!(bench.state.look(), Ok(weight));
+            assert_eq!(bench.look(), Ok(weight));
             bench.send(format!("*SRE {weight}"));
-            assert_eq!(bench.state.look(), Ok(weight + 64));
+            assert_eq!(bench.look(), Ok(weight + 64));
             // A summary is event AND enable.
             bench.send(format!("STAT:{header}:ENAB 2"));
-            assert_eq!(bench.state.look(), Ok(0));
+            assert_eq!(bench.look(), Ok(0));
         }
         let mut bench = after("STAT:LOCK:ENAB 1;*SRE 1");
-        bench.state.condition(SetName::Lock, 1).unwrap();
-        assert_eq!(bench.state.look(), Ok(65));
+        bench.condition(SetName::Lock, 1).unwrap();
+        assert_eq!(bench.look(), Ok(65));
     }
 
     #[test]
@@ -233,11 +233,11 @@ mod lock_and_warning_registers {
         let mut bench = after("*SRE 255;*ESE 255");
         for (name, header, _) in SETS {
             bench.send(format!("STAT:{header}:ENAB 32767;NTR 32767"));
-            bench.state.condition(name, 32_767).unwrap();
+            bench.condition(name, 32_767).unwrap();
         }
         bench.send("FOO");
         bench.send("VOLT?");
-        assert_eq!(bench.state.look(), Ok(255 - 8));
+        assert_eq!(bench.look(), Ok(255 - 8));
     }
 
     #[test]
@@ -246,10 +246,10 @@ mod lock_and_warning_registers {
             let registers = format!("STAT:{header}:COND?;EVEN?;ENAB?;NTR?;PTR?");
             answers(&registers, "0;0;0;0;32767");
             let mut bench = after(format!("STAT:{header}:ENAB 3;NTR 4;PTR 5"));
-            bench.state.condition(name, 7).unwrap();
+            bench.condition(name, 7).unwrap();
             assert_eq!(bench.ask(&registers).as_deref(), Some("7;5;3;4;5"));
             assert_eq!(bench.ask(&registers).as_deref(), Some("7;0;3;4;5"));
-            bench.state.condition(name, 0).unwrap();
+            bench.condition(name, 0).unwrap();
             let event = format!("STAT:{header}?;{header}:EVEN?");
             assert_eq!(bench.ask(event).as_deref(), Some("4;0"));
             refused(format!("STAT:{header} 1"), 113);
@@ -268,7 +268,7 @@ mod lock_and_warning_registers {
         for (name, ..) in SETS {
             let mut bench = Bench::power_up();
             let mut expected = bench.state.clone();
-            bench.state.condition(name, 21).unwrap();
+            bench.condition(name, 21).unwrap();
             expected.instrument.status.set_mut(name).condition = 21;
             expected.instrument.status.set_mut(name).event = 21;
             assert!(same(&bench.state, &expected));
@@ -280,7 +280,7 @@ mod lock_and_warning_registers {
         for (name, header, _) in SETS {
             let mut bench = after(format!("STAT:{header}:PTR 6;NTR 12"));
             let mut report = |value| {
-                bench.state.condition(name, value).unwrap();
+                bench.condition(name, value).unwrap();
                 bench.state.instrument.status.set(name).event
             };
             assert_eq!(report(0b0011), 0b0010);
@@ -293,7 +293,7 @@ mod lock_and_warning_registers {
     fn clear_clears_all_three_events() {
         let mut bench = after("STAT:LOCK:ENAB 1;NTR 2;:STAT:WARN:ENAB 3;PTR 7");
         for (name, ..) in SETS {
-            bench.state.condition(name, 7).unwrap();
+            bench.condition(name, 7).unwrap();
         }
         let mut expected = bench.state.clone();
         bench.send("*CLS");
@@ -308,7 +308,7 @@ mod lock_and_warning_registers {
     fn a_query_that_does_not_fit_clears_nothing() {
         for (name, header, _) in SETS {
             let mut bench = Bench::power_up();
-            bench.state.condition(name, 1).unwrap();
+            bench.condition(name, 1).unwrap();
             let filling = "*IDN?;".repeat(186);
             bench.send(format!("{filling}VOLT?;STAT:{header}?"));
             assert_eq!(bench.errors(), [430]);
@@ -327,7 +327,7 @@ mod no_changes_under_lock {
     fn locked(line: &str, bits: u16) -> Bench {
         let mut bench = after(line);
         assert_eq!(bench.errors(), [], "{line}");
-        bench.state.condition(SetName::Lock, bits).unwrap();
+        bench.condition(SetName::Lock, bits).unwrap();
         bench
     }
 
@@ -455,7 +455,7 @@ mod no_changes_under_lock {
                 Use::CommandOnly if header != "*RST" => bench.send(&header),
                 _ => {}
             }
-            if takes != Use::CommandOnly {
+            if !matches!(takes, Use::CommandOnly | Use::StorePlace | Use::Block) {
                 assert!(bench.ask(format!("{header}?")).is_some());
             }
             if let (Some(_), Use::Number(..)) = (place, takes) {
@@ -474,9 +474,9 @@ mod no_changes_under_lock {
     fn only_the_lock_condition_locks() {
         // An event left over, and the other sets' conditions, lock nothing.
         let mut bench = locked("*WAI", 1);
-        bench.state.condition(SetName::Lock, 0).unwrap();
-        bench.state.condition(SetName::Operation, 32_767).unwrap();
-        bench.state.condition(SetName::Warning, 32_767).unwrap();
+        bench.condition(SetName::Lock, 0).unwrap();
+        bench.condition(SetName::Operation, 32_767).unwrap();
+        bench.condition(SetName::Warning, 32_767).unwrap();
         bench.send("VOLT 5;*RST;FREQ 60");
         assert_eq!(bench.errors(), []);
         assert_eq!(bench.setting(FREQUENCY), 600);
@@ -509,9 +509,9 @@ mod longer_lines {
         sets("VOLT 5".to_string() + &" ".repeat(4090), VOLTAGE, 50);
         refused("VOLT 5".to_string() + &" ".repeat(4091), 363);
         let mut bench = Bench::power_up();
-        assert_eq!(bench.state.piece(&[b' '; 4096]), Ok(0));
+        assert_eq!(bench.piece(&[b' '; 4096]), Ok(0));
         assert!(!bench.state.line.overlong);
-        assert_eq!(bench.state.piece(b" "), Ok(0));
+        assert_eq!(bench.piece(b" "), Ok(0));
         assert!(bench.state.line.overlong);
         assert_eq!(bench.state.line.length, 4096);
     }
@@ -522,8 +522,8 @@ mod longer_lines {
         let mut bench = after(format!("{filling}VOLT?"));
         assert_eq!(bench.errors(), []);
         let refusal = Err(Refusal::BufferTooShort { needed: 4096 });
-        assert_eq!(bench.state.take(&mut [0; 4095]), refusal);
-        assert_eq!(bench.state.take(&mut [0; 4096]), Ok(4096));
+        assert_eq!(bench.take(&mut [0; 4095]), refusal);
+        assert_eq!(bench.take(&mut [0; 4096]), Ok(4096));
         refused(format!("{filling}FREQ?"), 430);
         refused(format!("{filling}VOLT?;*TST?"), 430);
         assert_eq!(after(format!("{filling}VOLT?;*WAI")).errors(), []);

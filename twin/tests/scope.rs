@@ -88,15 +88,14 @@ fn service_request() {
     let mut bench = after("*SRE 32;*ESE 16");
     bench.send("VOLT 30");
     assert_eq!(bench.ask("*STB?").as_deref(), Some("100"));
-    assert_eq!(bench.state.look(), Ok(100));
+    assert_eq!(bench.look(), Ok(100));
 }
 
 #[test]
 fn power_up_and_reset() {
-    let reset = [0, 0, 1, 2, 0, 0, 500, 10, 1, 1, 1, 1, 40, -40, 50, 0, 0];
     let mut bench = Bench::power_up();
-    assert_eq!(bench.settings(), reset);
-    assert_eq!(bench.state.look(), Ok(0));
+    assert_eq!(bench.settings(), RESET);
+    assert_eq!(bench.look(), Ok(0));
     let registers = bench.ask("*ESR?;*ESE?;*SRE?;STAT:OPER:COND?;EVEN?;ENAB?;NTR?;PTR?");
     assert_eq!(registers.as_deref(), Some("128;0;0;0;0;0;0;32767"));
     assert_eq!(bench.ask("SYST:ERR?").as_deref(), Some("0,\"No error\""));
@@ -107,7 +106,7 @@ fn power_up_and_reset() {
     let before = bench.state.clone();
     bench.send("*RST");
     let mut expected = before;
-    expected.instrument.settings.values = reset;
+    expected.instrument.settings.values = RESET;
     assert!(same(&bench.state, &expected));
 }
 
@@ -127,7 +126,7 @@ fn common_commands() {
 #[test]
 fn clear() {
     let mut bench = after("*ESE 60;*SRE 255;STAT:OPER:ENAB 3;NTR 4;PTR 5;:VOLT 5");
-    bench.state.condition(SetName::Operation, 5).unwrap();
+    bench.condition(SetName::Operation, 5).unwrap();
     bench.send("FOO");
     let mut expected = bench.state.clone();
     bench.send("*CLS");
@@ -140,17 +139,17 @@ fn clear() {
 #[test]
 fn transitions() {
     let mut bench = after("STAT:OPER:PTR 6;NTR 12");
-    bench.state.condition(SetName::Operation, 0b0011).unwrap();
+    bench.condition(SetName::Operation, 0b0011).unwrap();
     assert_eq!(
         bench.state.instrument.status.set(SetName::Operation).event,
         0b0010
     );
-    bench.state.condition(SetName::Operation, 0b1100).unwrap();
+    bench.condition(SetName::Operation, 0b1100).unwrap();
     assert_eq!(
         bench.state.instrument.status.set(SetName::Operation).event,
         0b0110
     );
-    bench.state.condition(SetName::Operation, 0).unwrap();
+    bench.condition(SetName::Operation, 0).unwrap();
     let answer = bench.ask("STAT:OPER:COND?;EVEN?;EVEN?");
     assert_eq!(answer.as_deref(), Some("0;14;0"));
 }
@@ -158,18 +157,18 @@ fn transitions() {
 #[test]
 fn status_byte_bits() {
     let mut bench = after("STAT:OPER:ENAB 1");
-    bench.state.condition(SetName::Operation, 1).unwrap();
-    assert_eq!(bench.state.look(), Ok(128));
+    bench.condition(SetName::Operation, 1).unwrap();
+    assert_eq!(bench.look(), Ok(128));
     bench.send("*SRE 128");
-    assert_eq!(bench.state.look(), Ok(128 + 64));
+    assert_eq!(bench.look(), Ok(128 + 64));
     bench.send("*SRE 64");
-    assert_eq!(bench.state.look(), Ok(128));
+    assert_eq!(bench.look(), Ok(128));
     bench.send("*ESE 128");
-    assert_eq!(bench.state.look(), Ok(128 + 32));
+    assert_eq!(bench.look(), Ok(128 + 32));
     bench.send("VOLT?");
-    assert_eq!(bench.state.look(), Ok(128 + 32 + 16));
+    assert_eq!(bench.look(), Ok(128 + 32 + 16));
     bench.send("FOO");
-    assert_eq!(bench.state.look(), Ok(128 + 32 + 4));
+    assert_eq!(bench.look(), Ok(128 + 32 + 4));
 }
 
 #[test]

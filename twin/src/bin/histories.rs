@@ -11,6 +11,14 @@ mod lines;
 mod mild;
 #[path = "histories/script.rs"]
 mod script;
+#[path = "histories/sessions.rs"]
+mod sessions;
+#[path = "histories/setups.rs"]
+mod setups;
+#[path = "histories/strings.rs"]
+mod strings;
+#[path = "histories/waveforms.rs"]
+mod waveforms;
 
 use std::env;
 use std::io::{self, BufWriter, Write};
@@ -19,8 +27,10 @@ use std::process::ExitCode;
 use dice::Dice;
 use lines::{Lines, Manner, Units};
 use script::Script;
+use sessions::Fault;
 
 const USAGE: &str = "histories SEED COUNT mild|hostile|lines|settings|queries|faulty
+histories SEED COUNT session|spoiled|broken
 histories SEED COUNT long BYTES";
 
 /// What is written.
@@ -32,6 +42,7 @@ enum Kind {
     Queries,
     Faulty,
     Long(usize),
+    Session(Fault),
 }
 
 fn read_kind(arguments: &[String]) -> Option<Kind> {
@@ -43,6 +54,9 @@ fn read_kind(arguments: &[String]) -> Option<Kind> {
         ["settings"] => Some(Kind::Settings),
         ["queries"] => Some(Kind::Queries),
         ["faulty"] => Some(Kind::Faulty),
+        ["session"] => Some(Kind::Session(Fault::None)),
+        ["spoiled"] => Some(Kind::Session(Fault::Spoiled)),
+        ["broken"] => Some(Kind::Session(Fault::Broken)),
         ["long", bytes] => Some(Kind::Long(bytes.parse().ok()?)),
         _ => None,
     }
@@ -84,6 +98,7 @@ fn run(seed: u64, count: usize, kind: Kind) -> io::Result<()> {
         Kind::Settings => write_lines(count, &mut output, || settings.good(&mut dice))?,
         Kind::Queries => write_lines(count, &mut output, || queries.good(&mut dice))?,
         Kind::Faulty => write_lines(count, &mut output, || plain.always_faulty(&mut dice))?,
+        Kind::Session(fault) => sessions::write(&mut dice, &mut output, count, fault)?,
         Kind::Long(bytes) => write_lines(count, &mut output, || both.long(&mut dice, bytes))?,
     }
     output.flush()

@@ -9,29 +9,15 @@ use twin::{SetName, SETTINGS};
 use crate::dice::Dice;
 use crate::lines::{mix_case, spell, with_suffix, Lines, Manner};
 use crate::script::{Field, Script};
+use crate::setups;
+use crate::strings;
+use crate::waveforms;
 
 pub fn write(script: &mut Script, count: usize) -> io::Result<()> {
     let lines = Lines::new(Manner::Varied);
     script.power_up()?;
     while script.events < count {
-        match script.dice.below(22) {
-            0..=3 => send_line(script, |dice| lines.good(dice))?,
-            4 => send_line(script, |dice| lines.faulty(dice))?,
-            5 => send_line(script, odd_bytes)?,
-            6 if script.dice.chance(50) => send_line(script, |dice| full_line(dice, &lines))?,
-            6 | 7 => send_line(script, |dice| lines.long(dice, 400))?,
-            8 | 9 => send_line(script, full_answer)?,
-            10 => send_line(script, many_units)?,
-            11 | 12 => send_line(script, near_miss)?,
-            13 | 14 => send_line(script, odd_number)?,
-            15 => send_line(script, near_limit)?,
-            16 if script.dice.chance(50) => full_queue(script)?,
-            16 => query_that_does_not_fit(script)?,
-            17 => hand_made_from_power_up(script, &lines)?,
-            18 => hand_made_on_the_way(script, &lines)?,
-            19 | 20 => under_lock(script, &lines)?,
-            _ => script.between()?,
-        }
+        look_for_an_edge(script, &lines)?;
         let length = match script.dice.below(100) {
             0 => script.dice.below(8193),
             1 => script.dice.between(4090, 4098) as usize,
@@ -42,12 +28,37 @@ pub fn write(script: &mut Script, count: usize) -> io::Result<()> {
             script.state()?;
         }
         script.collect(length)?;
+        script.close_block()?;
         script.empty_queue()?;
         if script.dice.chance(2) {
             script.power_up()?;
         }
     }
     script.state()
+}
+
+fn look_for_an_edge(script: &mut Script, lines: &Lines) -> io::Result<()> {
+    match script.dice.below(30) {
+        0..=3 => send_line(script, |dice| lines.good(dice)),
+        4 => send_line(script, |dice| lines.faulty(dice)),
+        5 => send_line(script, odd_bytes),
+        6 if script.dice.chance(50) => send_line(script, |dice| full_line(dice, lines)),
+        6 | 7 => send_line(script, |dice| lines.long(dice, 400)),
+        8 | 9 => send_line(script, full_answer),
+        10 => send_line(script, many_units),
+        11 | 12 => send_line(script, near_miss),
+        13 | 14 => send_line(script, odd_number),
+        15 => send_line(script, near_limit),
+        16 if script.dice.chance(50) => full_queue(script),
+        16 => query_that_does_not_fit(script),
+        17 => hand_made_from_power_up(script, lines),
+        18 => hand_made_on_the_way(script, lines),
+        19 | 20 => under_lock(script, lines),
+        21 | 22 => setups::hostile(script),
+        23..=25 => send_line(script, |dice| strings::odd_line(dice, lines)),
+        26..=28 => waveforms::hostile(script, lines),
+        _ => script.between(),
+    }
 }
 
 fn send_line(script: &mut Script, line: impl Fn(&mut Dice) -> Vec<u8>) -> io::Result<()> {
@@ -210,7 +221,7 @@ fn nearly(dice: &mut Dice, word: &str) -> String {
     letters.into_iter().collect()
 }
 
-static NUMBER_HEADERS: [&str; 20] = [
+static NUMBER_HEADERS: [&str; 25] = [
     "VOLT",
     "FREQ",
     "CURR:LIM:RMS",
@@ -231,6 +242,11 @@ static NUMBER_HEADERS: [&str; 20] = [
     "STAT:WARN:NTR",
     "VOLT:RANG",
     "VOLT?",
+    "VOLT2",
+    "FREQ2",
+    "OUTP2",
+    "CURR2:LIM:PEAK:LOW",
+    "VOLT3",
 ];
 
 /// Suffixes of all rows (02, #101), and some that none takes.
@@ -304,7 +320,11 @@ fn near_limit(dice: &mut Dice) -> Vec<u8> {
     let (header, place, lowest, highest, tenth) = dice.pick(&[
         ("VOLT", 4, 0, 120, true),
         ("VOLT:RANG R24V;LEV", 4, 0, 240, true),
+        ("VOLT2", 4, 0, 120, true),
+        ("VOLT2:RANG R24V;LEV", 4, 0, 240, true),
+        ("VOLT:RANG R24V;:VOLT2", 4, 0, 120, true),
         ("FREQ", 6, 400, 5500, true),
+        ("CURR2:LIM:RMS:TIME", 10, 10, 100, false),
         ("CURR:LIM:RMS", 7, 1, 20, true),
         ("CURR:LIM:RMS:TIME", 10, 10, 100, false),
         ("CURR:LIM:PEAK:TIME", 11, 10, 100, false),
@@ -363,7 +383,7 @@ fn query_that_does_not_fit(script: &mut Script) -> io::Result<()> {
 }
 
 /// Lines that a lock blocks, whole or in part, or doesn't block (02, #105).
-static LINES_AND_LOCK: [&str; 40] = [
+static LINES_AND_LOCK: [&str; 60] = [
     "OUTP 0",
     "OUTP OFF",
     "OUTP:STAT 0.4",
@@ -404,6 +424,26 @@ static LINES_AND_LOCK: [&str; 40] = [
     "STAT:LOCK?;LOCK:COND?",
     "STAT:WARN:ENAB 3;:VOLT 4",
     "SYST:ERR?;:VOLT?",
+    "*SAV 1",
+    "*SAV 10",
+    "*RCL 1",
+    "*RCL 9",
+    "*RCL 9.5",
+    "VOLT?;*RCL 2;FREQ?",
+    "DISP:TEXT 'a'",
+    "DISP:TEXT ''",
+    "DISP:TEXT 'a:b'",
+    "DISP:TEXT \"a",
+    "DISP:TEXT?;TEXT 'x;y'",
+    "OUTP2 0",
+    "OUTP2:STAT OFF",
+    "OUTP2 0.4;OUTP 0",
+    "OUTP1 0;OUTP2 1",
+    "OUTP2 1",
+    "OUTP2:PON 0",
+    "VOLT2 5",
+    "VOLT3 99",
+    "VOLT2?;FREQ2?;:VOLT2:RANG R12V",
 ];
 
 /// Some lines between the lock's coming and, most often, its going.
@@ -453,15 +493,16 @@ fn full_queue(script: &mut Script) -> io::Result<()> {
     Ok(())
 }
 
-static ALLOWED_ERRORS: [i32; 19] = [
-    101, 102, 104, 108, 109, 113, 121, 123, 124, 131, 138, 141, 221, 222, 350, 363, 410, 420, 430,
+static ALLOWED_ERRORS: [i32; 25] = [
+    101, 102, 104, 108, 109, 113, 114, 121, 123, 124, 131, 138, 141, 150, 151, 161, 221, 222, 223,
+    314, 350, 363, 410, 420, 430,
 ];
 
 static REGISTERS: [&str; 3] = ["esr", "ese", "sre"];
 static SET_REGISTERS: [&str; 5] = ["condition", "event", "enable", "ptr", "ntr"];
 
 /// The settings' limits, and the voltage's in both ranges.
-static SETTING_LIMITS: [(usize, i32, i32); 18] = [
+pub static SETTING_LIMITS: [(usize, i32, i32); 32] = [
     (0, 0, 1),
     (1, 0, 1),
     (2, 0, 1),
@@ -480,6 +521,20 @@ static SETTING_LIMITS: [(usize, i32, i32); 18] = [
     (14, 0, 99),
     (15, 0, 1),
     (16, 0, 1),
+    (17, 0, 1),
+    (18, 0, 1),
+    (19, 0, 1),
+    (20, 0, 120),
+    (20, 0, 240),
+    (21, 0, 1),
+    (22, 400, 5500),
+    (23, 1, 20),
+    (24, 0, 1),
+    (25, 0, 1),
+    (26, 1, 10),
+    (27, 1, 10),
+    (28, 5, 80),
+    (29, -80, -5),
 ];
 
 /// A number that may stand in the record at any time, or just not.
@@ -504,7 +559,9 @@ fn number_for_any_time(dice: &mut Dice) -> (Field, i32) {
         _ => {
             let number = match dice.below(3) {
                 0 => dice.below(65_536) as i32,
-                1 => dice.pick(&[0, 100, 103, 114, 130, 132, 150, 220, 223, 314, 351, 440]),
+                1 => dice.pick(&[
+                    0, 100, 103, 112, 115, 130, 132, 149, 152, 160, 162, 220, 224, 313, 351, 440,
+                ]),
                 _ => dice.pick(&ALLOWED_ERRORS),
             };
             (Field::Error(dice.below(16)), number)
@@ -516,7 +573,7 @@ fn number_for_any_time(dice: &mut Dice) -> (Field, i32) {
 fn hand_made_from_power_up(script: &mut Script, lines: &Lines) -> io::Result<()> {
     script.power_up()?;
     for _ in 0..1 + script.dice.below(3) {
-        match script.dice.below(5) {
+        match script.dice.below(7) {
             0 => {
                 let length = script
                     .dice
@@ -528,6 +585,14 @@ fn hand_made_from_power_up(script: &mut Script, lines: &Lines) -> io::Result<()>
                 script.overwrite(Field::Answer, length)?;
             }
             2 => hand_made_queue(script)?,
+            4 => {
+                let length = script.dice.pick(&[1, 100, 8191, 8192, 8192, 8193, 65_535]);
+                script.overwrite(Field::Block, length)?;
+            }
+            3 => {
+                let text = strings::hand_made(&mut script.dice);
+                script.overwrite_text(&text)?;
+            }
             _ => {
                 let (field, value) = number_for_any_time(&mut script.dice);
                 script.overwrite(field, value)?;
@@ -535,7 +600,7 @@ fn hand_made_from_power_up(script: &mut Script, lines: &Lines) -> io::Result<()>
         }
     }
     play_on(script, lines)?;
-    if script.dice.chance(60) || script.box_state.look().is_err() {
+    if script.dice.chance(60) || !script.is_the_boxs() {
         script.power_up()?;
     }
     Ok(())
@@ -555,22 +620,22 @@ fn hand_made_on_the_way(script: &mut Script, lines: &Lines) -> io::Result<()> {
     let (field, value) = if script.dice.chance(30) {
         let field = script
             .dice
-            .pick(&[Field::Queued, Field::Line, Field::Answer]);
-        let length = field.value(&mut script.box_state);
+            .pick(&[Field::Queued, Field::Line, Field::Answer, Field::Block]);
+        let length = field.value(&mut script.table.state);
         (field, script.dice.between(0, length))
     } else {
         number_for_any_time(&mut script.dice)
     };
-    let before = field.value(&mut script.box_state);
+    let before = field.value(&mut script.table.state);
     script.overwrite(field, value)?;
     play_on(script, lines)?;
-    if script.box_state.look().is_ok() {
+    if script.is_the_boxs() {
         return Ok(());
     }
     if script.dice.chance(50) {
         script.overwrite(field, before)?;
     }
-    if script.box_state.look().is_err() {
+    if !script.is_the_boxs() {
         script.power_up()?;
     }
     Ok(())
@@ -579,10 +644,10 @@ fn hand_made_on_the_way(script: &mut Script, lines: &Lines) -> io::Result<()> {
 /// Some events on a record that may be no box's.
 fn play_on(script: &mut Script, lines: &Lines) -> io::Result<()> {
     for _ in 0..2 + script.dice.below(4) {
-        if script.dice.chance(50) {
-            send_line(script, |dice| lines.good(dice))?;
-        } else {
-            script.between()?;
+        match script.dice.below(10) {
+            0..=4 => send_line(script, |dice| lines.good(dice))?,
+            5 => waveforms::hostile(script, lines)?,
+            _ => script.between()?,
         }
     }
     script.state()

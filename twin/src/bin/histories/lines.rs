@@ -1,8 +1,9 @@
 //! Command lines in all spellings.
 
-use twin::paper::{nodes, suffixes, Printed, Use, HEADERS, OF_01};
+use twin::paper::{nodes, suffixes, Printed, Use, CHANNEL_NODES, HEADERS, OF_01};
 
 use crate::dice::Dice;
+use crate::strings;
 
 #[derive(Clone, Copy, PartialEq, Eq)]
 pub enum Manner {
@@ -61,10 +62,11 @@ static VARIED_BOOLS: [&str; 18] = [
     "000.50",
 ];
 
-/// Good since #101, and kept among the faulty units for the same lines at every request.
+// Good since these requests, and kept among the faulty units for the same lines at every request.
 const GOOD_SINCE_101: &str = ":VOLT 5V";
+const GOOD_SINCE_111: &str = ":VOLT1 5";
 
-/// Units that are refused wherever they stand, but for one.
+/// Units that are refused wherever they stand, but for two.
 static FAULTY_UNITS: [&str; 72] = [
     "VOLTA 5",
     ":VOLTA?",
@@ -79,7 +81,7 @@ static FAULTY_UNITS: [&str; 72] = [
     ":STAT:OPER 1",
     ":STAT:OPER:COND 1",
     ":DISP:CONT 5",
-    ":VOLT1 5",
+    GOOD_SINCE_111,
     "RST",
     "*RST?",
     "*IDN",
@@ -138,6 +140,30 @@ static FAULTY_UNITS: [&str; 72] = [
     ":CURR:LIM:RMS:TIME 0",
     ":DISP:BRIG 99.5",
     "*SRE 256",
+];
+
+/// Units that are refused for a channel's number (02, #111).
+static FAULTY_CHANNELS: [&str; 20] = [
+    ":VOLT0 5",
+    ":VOLT3 5",
+    ":VOLT01 5",
+    ":VOLT12?",
+    ":VOLTAGE22 5",
+    ":SOUR:FREQ3 60",
+    ":SOUR2:VOLT 5",
+    ":SOUR2:VOLT2 5",
+    ":VOLT3:FOO 5",
+    ":VOLT3:RANG R24V",
+    ":VOLT_2 5",
+    ":VOLT2A 5",
+    ":VOLT2:LEV2 5",
+    ":VOLTA2 5",
+    ":OUTP2:MON:MODE CURR",
+    ":OUTP2:PON 1;MON:MODE?",
+    ":OUTP3:STAT 1",
+    ":CURR2:LIM3:RMS 1",
+    ":CURR99999999999999999999:LIM:RMS 1",
+    ":DISP2:BRIG 5",
 ];
 
 /// Units that are refused for or despite their suffix (02, #101), one of them in R12V only.
@@ -199,6 +225,8 @@ impl Lines {
         }
         let fault = if self.manner == Manner::Varied && dice.chance(20) {
             dice.pick(&FAULTY_SUFFIXES)
+        } else if self.manner == Manner::Varied && dice.chance(20) {
+            dice.pick(&FAULTY_CHANNELS)
         } else {
             dice.pick(&FAULTY_UNITS)
         };
@@ -209,7 +237,7 @@ impl Lines {
     pub fn always_faulty(&self, dice: &mut Dice) -> Vec<u8> {
         loop {
             let fault = dice.pick(&FAULTY_UNITS);
-            if fault != GOOD_SINCE_101 {
+            if fault != GOOD_SINCE_101 && fault != GOOD_SINCE_111 {
                 return self.line_with(dice, fault);
             }
         }
@@ -245,7 +273,7 @@ impl Lines {
         let mut line = self.good(dice);
         let place = dice.below(line.len());
         let byte = match dice.below(4) {
-            0 => dice.pick(b";:,*?. _#\"E-+0\0\t"),
+            0 => dice.pick(b";:,*?. _#\"\"''E-+0\0\t"),
             1 => 127 + dice.below(129) as u8,
             _ => 33 + dice.below(94) as u8,
         };
@@ -281,9 +309,16 @@ impl Lines {
             if self.units == Units::Queries && printed.2 == Use::CommandOnly {
                 continue;
             }
+            // A line with a block in it is made elsewhere.
+            if printed.2 == Use::Block {
+                continue;
+            }
             let nodes = nodes(printed.1).into_iter();
             let kept = nodes.filter(|&(_, optional)| !optional || dice.chance(40));
-            let written: Vec<&str> = kept.map(|(node, _)| node).collect();
+            let mut written: Vec<&str> = kept.map(|(node, _)| node).collect();
+            if self.manner == Manner::Varied {
+                number_channel(dice, &mut written, path);
+            }
             tries -= 1;
             if tries == 0 || written.len() > path.len() && written.starts_with(path) {
                 return (written, printed);
@@ -305,7 +340,7 @@ impl Lines {
 
     fn asks(&self, dice: &mut Dice, takes: Use) -> bool {
         match (self.units, takes) {
-            (Units::Settings, _) | (_, Use::CommandOnly) => false,
+            (Units::Settings, _) | (_, Use::CommandOnly | Use::StorePlace | Use::Block) => false,
             (Units::Queries, _) | (_, Use::QueryOnly) => true,
             _ => dice.chance(45),
         }
@@ -321,7 +356,9 @@ impl Lines {
                 Some(spell(dice, limit))
             }
             _ if query => None,
-            Use::QueryOnly | Use::CommandOnly | Use::Both => None,
+            Use::QueryOnly | Use::CommandOnly | Use::Both | Use::Block => None,
+            Use::StorePlace => Some(number(dice, 0, 90, false)),
+            Use::Text => Some(strings::good(dice)),
             Use::Bool if self.manner == Manner::Plain => Some(dice.pick(&PLAIN_BOOLS).into()),
             Use::Bool => Some(dice.pick(&VARIED_BOOLS).into()),
             Use::Words(words) => {
@@ -351,6 +388,22 @@ impl Lines {
         } else {
             " "
         }
+    }
+}
+
+/// Gives a node that takes one the number of a channel (02, #111), mostly the path's own.
+fn number_channel(dice: &mut Dice, nodes: &mut [&'static str], path: &[&str]) {
+    let alone = nodes.contains(&"MONitor");
+    for node in nodes {
+        let Some(spelled) = CHANNEL_NODES.iter().find(|spelled| spelled[0] == *node) else {
+            continue;
+        };
+        let in_path = spelled.iter().find(|node| path.contains(node));
+        *node = match in_path {
+            Some(node) if dice.chance(80) => node,
+            _ if alone => dice.pick(&spelled[..2]),
+            _ => dice.pick(&[spelled[0], spelled[0], spelled[1], spelled[2], spelled[2]]),
+        };
     }
 }
 

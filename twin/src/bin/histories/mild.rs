@@ -4,6 +4,8 @@ use std::io;
 
 use crate::lines::{Lines, Manner};
 use crate::script::Script;
+use crate::setups;
+use crate::waveforms;
 
 pub fn write(script: &mut Script, count: usize) -> io::Result<()> {
     let lines = Lines::new(Manner::Varied);
@@ -21,6 +23,13 @@ pub fn write(script: &mut Script, count: usize) -> io::Result<()> {
         if script.dice.chance(15) {
             script.between()?;
         }
+        if script.dice.chance(8) {
+            setups::mild(script)?;
+        }
+        if script.dice.chance(3) {
+            waveforms::mild(script, &lines)?;
+        }
+        script.close_block()?;
         if script.dice.chance(1) {
             script.power_up()?;
         }

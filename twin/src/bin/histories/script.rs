@@ -3,13 +3,19 @@
 
 use std::io::{self, Write};
 
-use twin::{SetName, State};
+use twin::{Lent, SetName, State, Table, Text, AREA_LENGTH, STORE_LENGTH};
 
 use crate::dice::Dice;
 
+/// The player's.
+const LONGEST_BUFFER: usize = 8192;
+
+/// Not the player's: a script's lines are long enough with it.
+const LONGEST_PIECE: usize = 12_000;
+
 pub struct Script<'output> {
     pub dice: Dice,
-    pub box_state: State,
+    pub table: Table,
     pub events: usize,
     until_state: usize,
     output: &'output mut dyn Write,
@@ -19,7 +25,7 @@ impl<'output> Script<'output> {
     pub fn new(dice: Dice, output: &'output mut dyn Write) -> Script<'output> {
         Script {
             dice,
-            box_state: State::power_up(),
+            table: Table::default(),
             events: 0,
             until_state: 20,
             output,
@@ -42,26 +48,26 @@ impl<'output> Script<'output> {
     }
 
     pub fn power_up(&mut self) -> io::Result<()> {
-        self.box_state = State::power_up();
+        self.table.power_up();
         writeln!(self.output, "u")?;
         self.count()
     }
 
     pub fn piece(&mut self, bytes: &[u8]) -> io::Result<()> {
-        let _ = self.box_state.piece(bytes);
-        let hex: String = bytes.iter().map(|byte| format!("{byte:02X}")).collect();
+        let _ = self.table.piece(bytes);
+        let hex = write_hex(bytes);
         writeln!(self.output, "{}", format!("p {hex}").trim_end())?;
         self.count()
     }
 
     pub fn take(&mut self, length: usize) -> io::Result<()> {
-        let _ = self.box_state.take(&mut vec![0; length]);
+        let _ = self.table.take(&mut vec![0; length]);
         writeln!(self.output, "t {length}")?;
         self.count()
     }
 
     pub fn condition(&mut self, name: SetName, value: u16) -> io::Result<()> {
-        let _ = self.box_state.condition(name, value);
+        let _ = self.table.condition(name, value);
         let letter = match name {
             SetName::Operation => 'c',
             SetName::Lock => 'k',
@@ -72,20 +78,91 @@ impl<'output> Script<'output> {
     }
 
     pub fn look(&mut self) -> io::Result<()> {
+        let _ = self.table.look();
         writeln!(self.output, "l")?;
         self.count()
     }
 
     /// Overwrites one number of the raw record.
     pub fn overwrite(&mut self, field: Field, value: i32) -> io::Result<()> {
-        field.overwrite(&mut self.box_state, value);
+        field.overwrite(&mut self.table.state, value);
         writeln!(self.output, "x {} {value}", field.name())?;
         self.count()
+    }
+
+    /// Overwrites the text of the raw record with up to 32 bytes.
+    pub fn overwrite_text(&mut self, bytes: &[u8]) -> io::Result<()> {
+        let mut text = Text::EMPTY;
+        text.bytes[..bytes.len()].copy_from_slice(bytes);
+        self.table.state.instrument.settings.text = text;
+        let hex = match write_hex(bytes) {
+            empty if empty.is_empty() => "-".to_string(),
+            hex => hex,
+        };
+        writeln!(self.output, "x text {hex}")?;
+        self.count()
+    }
+
+    /// The next event is lent a store of this length.
+    pub fn lend_store(&mut self, length: usize) -> io::Result<()> {
+        self.table.lend_store(length);
+        writeln!(self.output, "S {length}")?;
+        self.count()
+    }
+
+    /// The next event is lent an area of this length.
+    pub fn lend_area(&mut self, length: usize) -> io::Result<()> {
+        self.table.lend_area(length);
+        writeln!(self.output, "A {length}")?;
+        self.count()
+    }
+
+    pub fn end(&mut self) -> io::Result<()> {
+        let _ = self.table.end();
+        writeln!(self.output, "e")?;
+        self.count()
+    }
+
+    pub fn alter(&mut self, place: usize, byte: usize, value: u8) -> io::Result<()> {
+        self.table.alter(place, byte, value);
+        writeln!(self.output, "b {place} {byte} {value}")?;
+        self.count()
+    }
+
+    pub fn zero(&mut self, place: usize) -> io::Result<()> {
+        self.table.zero(place);
+        writeln!(self.output, "z {place}")?;
+        self.count()
+    }
+
+    pub fn copy(&mut self, from: usize, to: usize) -> io::Result<()> {
+        self.table.copy(from, to);
+        writeln!(self.output, "m {from} {to}")?;
+        self.count()
+    }
+
+    pub fn recallable(&mut self) -> io::Result<()> {
+        writeln!(self.output, "r")?;
+        self.count()
+    }
+
+    /// Whether number 4 would refuse no event.
+    pub fn is_the_boxs(&self) -> bool {
+        let lent = Lent {
+            store: &mut [0; STORE_LENGTH],
+            area: &mut [0; AREA_LENGTH],
+        };
+        self.table.state.look(&lent).is_ok()
     }
 
     /// Sends bytes in one piece or in several, now and then with other events between them.
     pub fn send(&mut self, bytes: &[u8]) -> io::Result<()> {
         let mut rest = bytes;
+        while rest.len() > LONGEST_PIECE {
+            let (piece, further) = rest.split_at(LONGEST_PIECE - self.dice.below(2000));
+            self.piece(piece)?;
+            rest = further;
+        }
         while rest.len() > 1 && self.dice.chance(25) {
             let (piece, further) = rest.split_at(self.dice.below(rest.len() + 1));
             self.piece(piece)?;
@@ -100,7 +177,7 @@ impl<'output> Script<'output> {
     /// Takes what a line may have answered: mostly if something waits, seldom if not, so that
     /// the queue doesn't fill up with -410 and -420 alone.
     pub fn collect(&mut self, length: usize) -> io::Result<()> {
-        let waits = self.box_state.instrument.answer.length > 0;
+        let waits = self.table.state.instrument.answer.length > 0;
         if self.dice.chance(if waits { 90 } else { 4 }) {
             self.take(length)?;
         }
@@ -109,12 +186,21 @@ impl<'output> Script<'output> {
 
     /// The length of a buffer that holds what waits, and hardly more: a report shows all of it.
     pub fn enough(&mut self) -> usize {
-        self.box_state.instrument.answer.length + self.dice.below(9)
+        let length = self.table.state.instrument.answer.length + self.dice.below(9);
+        length.min(LONGEST_BUFFER)
+    }
+
+    /// Ends a block that was left open, mostly, or it would take in all that follows.
+    pub fn close_block(&mut self) -> io::Result<()> {
+        if self.table.state.line.block.coming > 0 && self.dice.chance(85) {
+            self.end()?;
+        }
+        Ok(())
     }
 
     /// Reads or clears a queue that is filling up, now and then.
     pub fn empty_queue(&mut self) -> io::Result<()> {
-        while self.box_state.instrument.status.queued > 6 && self.dice.chance(40) {
+        while self.table.state.instrument.status.queued > 6 && self.dice.chance(40) {
             let line = self
                 .dice
                 .pick(&["SYST:ERR?\n", "*CLS\n", "SYST:ERR?;ERR?;ERR?\n"]);
@@ -127,7 +213,7 @@ impl<'output> Script<'output> {
 
     /// An event that is no piece.
     pub fn between(&mut self) -> io::Result<()> {
-        match self.dice.below(10) {
+        match self.dice.below(11) {
             0..=2 => self.look(),
             3..=5 => {
                 let name = self.dice.pick(&SetName::ALL);
@@ -139,6 +225,7 @@ impl<'output> Script<'output> {
                 self.condition(name, value)
             }
             6 => self.state(),
+            10 => self.end(),
             7 => {
                 let length = self.dice.below(30);
                 self.take(length)
@@ -160,6 +247,10 @@ impl<'output> Script<'output> {
     }
 }
 
+fn write_hex(bytes: &[u8]) -> String {
+    bytes.iter().map(|byte| format!("{byte:02X}")).collect()
+}
+
 /// A number of the raw record.
 #[derive(Clone, Copy)]
 pub enum Field {
@@ -169,6 +260,7 @@ pub enum Field {
     Error(usize),
     Queued,
     Line,
+    Block,
     Answer,
 }
 
@@ -182,6 +274,7 @@ impl Field {
             Field::Error(place) => format!("error.{place}"),
             Field::Queued => "queued".to_string(),
             Field::Line => "line".to_string(),
+            Field::Block => "block".to_string(),
             Field::Answer => "answer".to_string(),
         }
     }
@@ -214,6 +307,7 @@ impl Field {
             Field::Error(place) => state.instrument.status.errors[place] = value as u16,
             Field::Queued => state.instrument.status.queued = value as usize,
             Field::Line => state.line.length = value as usize,
+            Field::Block => state.line.block.length = value as usize,
             Field::Answer => state.instrument.answer.length = value as usize,
         }
     }
@@ -226,6 +320,7 @@ impl Field {
             Field::Error(place) => i32::from(state.instrument.status.errors[place]),
             Field::Queued => state.instrument.status.queued as i32,
             Field::Line => state.line.length as i32,
+            Field::Block => state.line.block.length as i32,
             Field::Answer => state.instrument.answer.length as i32,
         }
     }
