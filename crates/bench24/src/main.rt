@@ -19,6 +19,8 @@ ghost use Rattle.interpreter.specs.Box.{most_answer, store_size, memory};
 ghost use Rattle.interpreter.specs.State.{possible_state};
 ghost use Rattle.bench24.specs.Heard.{Answers, HeardPart, HeardRead, HeardSince};
 
+#![tactic(auto)]
+
 use interpreter::server;
 use interpreter::state::{STORE, State};
 

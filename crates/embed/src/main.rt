@@ -3,6 +3,8 @@
 use interpreter::state::{ANSWER, STORE, State};
 use registers::status::RegisterSet;
 
+#![tactic(auto)]
+
 // Hands the box a line and writes its answer, if it has one. Bit 4 of the status byte tells, so no
 // take is made in vain: that would be error -420.
 fn send(state: State, store: &mut [u8], line: &[u8], buffer: &mut [u8]) -> State {

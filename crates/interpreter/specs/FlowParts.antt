@@ -1,6 +1,6 @@
 -- What the functions that take bytes in say. Nothing of 01 is defined here: see Line.antt.
 use Rattle.std.specs.Prelude.{◌≡◌, ◌+◌, ◌≤◌, length, take}
-use Rattle.bytes.specs.Bytes.{index_of}
+use Rattle.registers.specs.Text.{index_of}
 use Rattle.registers.specs.Text.{Text}
 use Rattle.registers.specs.Queue.{most}
 use Rattle.interpreter.specs.Box.{Memory, Box, most_line, most_answer}

@@ -9,7 +9,7 @@ use registers::status::{Register, RegisterSet};
 
 // A change of settings or registers, and what was rounded off the number that it was given. An enum holds no array: the text of a
 // label goes beside it.
-#[derive(Drop)]
+#[derive(Clone, Copy)]
 pub enum Change {
     Nothing,
     Put {
@@ -27,7 +27,7 @@ pub enum Change {
 }
 
 // A query that sees settings and registers alone.
-#[derive(Drop)]
+#[derive(Clone, Copy)]
 pub enum Query {
     Identity,
     SelfTest,
@@ -41,7 +41,7 @@ pub enum Query {
 }
 
 // The three queries that see the event status register or the error queue.
-#[derive(Drop)]
+#[derive(Clone, Copy)]
 pub enum Inquiry {
     StandardEvents,
     StatusByte,
@@ -49,14 +49,14 @@ pub enum Inquiry {
 }
 
 // What *SAV and *RCL do with the lent store (02, #108).
-#[derive(Drop)]
+#[derive(Clone, Copy)]
 pub enum Saving {
     Save,
     Recall,
 }
 
 // What an accepted unit does.
-#[derive(Drop)]
+#[derive(Clone, Copy)]
 pub enum Deed {
     Change(Change),
     Complete,
@@ -68,14 +68,14 @@ pub enum Deed {
 
 // What a header comes to: its place, and whether it asks. The place is its setting's slot, or after the slots its row among the
 // others; NOWHERE where it has no row, and NO_CHANNEL where its row doesn't take its suffix.
-#[derive(Drop)]
+#[derive(Clone, Copy)]
 pub(crate) struct Heading {
     pub(crate) place: usize,
     pub(crate) asked: bool,
 }
 
 // A setting, a register or the display's text is set and asked; every other header has only one form, and one deed, or is given a place.
-#[derive(Drop)]
+#[derive(Clone, Copy)]
 pub enum Role {
     Setting(usize),
     Register(Register),

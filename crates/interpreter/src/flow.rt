@@ -9,9 +9,10 @@ ghost use Rattle.interpreter.specs.FlowParts.{FlowFits, first_line, FlowFed};
 use crate::present::Present;
 use crate::sizes::{ANSWER, LINE};
 use crate::{line, memory, table};
+use registers::text;
 
 // The small part of a state, and how many bytes and newlines were taken in; the two arrays are lent beside it.
-#[derive(Drop)]
+#[derive(Clone, Copy)]
 pub(crate) struct Flow {
     pub(crate) present: Present,
     pub(crate) filled: usize,
@@ -79,7 +80,7 @@ pub(crate) fn feed_line(
     ensures { FlowFed flow line.old out.old (memory store.old) (first_line (drop flow.read bytes.now)) result line.new out.new (memory store.new) }
 {
     let at = flow.read;
-    let end = bytes::scan::find(bytes, at, bytes.len(), b'\n');
+    let end = text::find(bytes, at, b'\n');
     let held = hold(flow, line, &bytes[at..end]);
     if end < bytes.len() {
         return newline(table, held, line, out, store);

@@ -18,7 +18,7 @@ use registers::text;
 pub(crate) const MOST_NAMES: usize = 7;
 
 // The names of a header: whether it is one, whether it asks, where it ends, and how many names are held.
-#[derive(Drop)]
+#[derive(Clone, Copy)]
 struct Names {
     good: bool,
     asked: bool,
@@ -27,7 +27,7 @@ struct Names {
 }
 
 // What is found of a header, how many names the new path has, and where the header ends.
-#[derive(Drop)]
+#[derive(Clone, Copy)]
 pub(crate) enum Looked {
     Bad,
     At {

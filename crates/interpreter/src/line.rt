@@ -24,7 +24,7 @@ use registers::error::Error;
 use registers::{setup, text};
 
 // What the units so far leave: how many names the path has, and whether the last one was obeyed.
-#[derive(Drop)]
+#[derive(Clone, Copy)]
 struct Done {
     present: Present,
     used: usize,

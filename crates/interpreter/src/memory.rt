@@ -8,5 +8,6 @@ pub(crate) fn paste(text: &[u8], n: usize, into: &mut [u8], at: usize) -> usize
     ensures value { result ≡ at + n }
     ensures into_after { into.new ≡ seq.paste into.old at text.now n }
 {
-    at + bytes::copy(&text[0..n], &mut into[at..])
+    into[at..at + n].copy_from_slice(&text[0..n]);
+    at + n
 }

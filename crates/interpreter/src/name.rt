@@ -12,7 +12,7 @@ use crate::table::FIRST_CODE;
 use registers::text;
 
 // A name's number, 0 where none starts, and where it ends.
-#[derive(Drop)]
+#[derive(Clone, Copy)]
 pub(crate) struct Name {
     pub(crate) key: u64,
     pub(crate) end: usize,

@@ -19,7 +19,7 @@ use registers::suffix::Quantity;
 use registers::{number, rounding, text};
 
 // Checks 5 and 6 on a parameter: a word of the row by its place in the row's list, or a number.
-#[derive(Drop)]
+#[derive(Clone, Copy)]
 pub(crate) enum Parameter {
     Refused(Error),
     Word(usize),
@@ -27,21 +27,21 @@ pub(crate) enum Parameter {
 }
 
 // Checks 5 to 7 on a unit's parameters.
-#[derive(Drop)]
+#[derive(Clone, Copy)]
 pub(crate) enum Decision {
     Refused(Error),
     Obey(Deed),
 }
 
 // How many parameters there are, and whether none of them is empty.
-#[derive(Drop)]
+#[derive(Clone, Copy)]
 pub(crate) struct Counted {
     pub(crate) parts: usize,
     pub(crate) full: bool,
 }
 
 // What may be given: words, and numbers of a quantity or none.
-#[derive(Drop)]
+#[derive(Clone, Copy)]
 struct Takes {
     words: Words,
     numbers: bool,

@@ -8,7 +8,7 @@ use registers::status::Status;
 
 // The settings, the status, and how many bytes of the answer's buffer are written. It is small and goes by value; the line and
 // the answer's buffer are lent beside it.
-#[derive(Drop)]
+#[derive(Clone, Copy)]
 pub(crate) struct Present {
     pub(crate) settings: Settings,
     pub(crate) status: Status,

@@ -20,7 +20,7 @@ use registers::status::Status;
 use registers::{answer, error, label};
 
 // What is answered, by how it is written: a word by its place in the table. The display's text goes beside it.
-#[derive(Drop)]
+#[derive(Clone, Copy)]
 enum Reply {
     Nothing,
     Identity,
@@ -33,7 +33,7 @@ enum Reply {
 }
 
 // What comes of answering a deed: the place where the line's answers end then, or a refusal.
-#[derive(Drop)]
+#[derive(Clone, Copy)]
 pub(crate) enum Told {
     Until(usize),
     Refused(Error),

@@ -11,7 +11,7 @@ use crate::table::{
 };
 
 // Where a walk over a row's nodes goes on.
-#[derive(Drop)]
+#[derive(Clone, Copy)]
 enum Walk {
     To(usize),
     Missed,

@@ -12,7 +12,7 @@ use crate::state::{Outcome, State};
 use crate::{flow, memory, state, table};
 
 // How far a chunk was served: bytes read of the input, and written of the output.
-#[derive(Drop)]
+#[derive(Clone, Copy)]
 pub struct Served {
     pub outcome: Outcome,
     pub read: usize,
@@ -21,7 +21,7 @@ pub struct Served {
 }
 
 // The lines served so far: the small part of the state, and how many bytes of the output are written.
-#[derive(Drop)]
+#[derive(Clone, Copy)]
 struct Progress {
     flow: Flow,
     written: usize,

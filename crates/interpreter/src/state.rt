@@ -22,7 +22,7 @@ pub const ANSWER: usize = sizes::ANSWER;
 pub const STORE: usize = sizes::STORE;
 
 // Everything that the box keeps from one event to the next.
-#[derive(Drop)]
+#[derive(Clone, Copy)]
 pub struct State {
     pub settings: Settings,
     pub status: Status,
@@ -34,7 +34,7 @@ pub struct State {
 }
 
 // Why an event was refused, by 01's table and 02 (#108), or that it was not.
-#[derive(Drop)]
+#[derive(Clone, Copy)]
 pub enum Outcome {
     Done,
     BufferTooShort,
@@ -45,7 +45,7 @@ pub enum Outcome {
 }
 
 // What a piece leaves: the number of newlines in it.
-#[derive(Drop)]
+#[derive(Clone, Copy)]
 pub struct Fed {
     pub outcome: Outcome,
     pub count: usize,
@@ -53,7 +53,7 @@ pub struct Fed {
 }
 
 // What a take leaves: the answer's length, or the length that the buffer needs.
-#[derive(Drop)]
+#[derive(Clone, Copy)]
 pub struct Taken {
     pub outcome: Outcome,
     pub length: usize,
@@ -61,14 +61,14 @@ pub struct Taken {
 }
 
 // What a report of a condition leaves.
-#[derive(Drop)]
+#[derive(Clone, Copy)]
 pub struct Reported {
     pub outcome: Outcome,
     pub state: State,
 }
 
 // What a look tells: the status byte.
-#[derive(Drop)]
+#[derive(Clone, Copy)]
 pub struct Seen {
     pub outcome: Outcome,
     pub byte: u8,

@@ -19,14 +19,14 @@ use registers::settings::Settings;
 use registers::text;
 
 // A part of a text, by its places.
-#[derive(Drop)]
+#[derive(Clone, Copy)]
 pub(crate) struct Span {
     pub(crate) from: usize,
     pub(crate) to: usize,
 }
 
 // What checks 1 to 7 say of a unit, where its parameters stand in it, and how many names the path has that it leaves.
-#[derive(Drop)]
+#[derive(Clone, Copy)]
 pub(crate) struct Reading {
     pub(crate) decision: Decision,
     pub(crate) given: Span,

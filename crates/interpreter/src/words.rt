@@ -12,7 +12,7 @@ use registers::settings::Settings;
 use registers::{answer, text};
 
 // Words that stand together in the table: where they begin, and how many there are.
-#[derive(Drop)]
+#[derive(Clone, Copy)]
 pub(crate) struct Words {
     pub(crate) first: usize,
     pub(crate) count: usize,

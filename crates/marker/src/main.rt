@@ -20,6 +20,8 @@
 // its line's number once it is needed, in the buffer; of a session of more than 1,048,575 bytes the numbers and the box's answer are told.
 ghost use Rattle.std.specs.Prelude.{◌≤◌, length};
 
+#![tactic(auto)]
+
 use interpreter::state::{ANSWER, STORE};
 use writer::session;
 use writer::session::{Found, Report};

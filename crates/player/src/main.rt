@@ -54,6 +54,8 @@ mod report;
 mod script;
 mod store;
 
+#![tactic(auto)]
+
 use interpreter::state::{STORE, State};
 
 // The room for a script line, and for a report. The longest reports are that of a state whose line

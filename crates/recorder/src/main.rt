@@ -11,6 +11,8 @@
 use interpreter::server;
 use interpreter::state::{ANSWER, STORE, State};
 
+#![tactic(auto)]
+
 // The room for a line that is a byte too long, and its newline.
 const HELD: usize = 4098;
 

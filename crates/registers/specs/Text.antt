@@ -95,6 +95,15 @@ abbrev pub after : (ℕ → Bool) → Text → Text
 after p [] = []
 after p (b ∷ bs) = if p b then after p bs else b ∷ bs
 
+-- how many bytes stand before the first of this kind; all of them where there is none
+unfoldable pub index_after : Bool → ℕ → ℕ
+index_after true n = 0
+index_after false n = suc n
+
+unfoldable pub index_of : ℕ → Text → ℕ
+index_of b [] = 0
+index_of b (x ∷ xs) = index_after (eqb x b) (index_of b xs)
+
 -- the bytes that pass
 abbrev pub only : (ℕ → Bool) → Text → Text
 only p [] = []

@@ -5,7 +5,7 @@ ghost use Rattle.registers.specs.Answer.{decimal, tenths, signed_text, Laid};
 ghost use Rattle.registers.specs.AnswerParts.{farthest, LaidAt, SignLaid};
 
 // Where a number's sign ends, and the number without it.
-#[derive(Drop)]
+#[derive(Clone, Copy)]
 struct Sign {
     end: usize,
     size: u32,

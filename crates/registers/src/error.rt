@@ -9,7 +9,7 @@ use crate::answer;
 
 // An error by the text that SCPI-99 gives it. -350 is not among them: it is put into a full queue
 // and never raised.
-#[derive(Drop)]
+#[derive(Clone, Copy)]
 pub enum Error {
     InvalidCharacter,
     Syntax,

@@ -3,7 +3,7 @@ ghost use Rattle.std.specs.Prelude.{◌≡◌, map};
 ghost use Rattle.registers.specs.Text.{every};
 ghost use Rattle.registers.specs.Group.{meet, condition_is, event_read, possible_group, group_at_start};
 
-#[derive(Drop)]
+#[derive(Clone, Copy)]
 pub struct Group {
     pub condition: u16,
     pub event: u16,

@@ -10,7 +10,7 @@ pub const TEXT: usize = 32;
 
 // A string: whether its quotes are closed and nothing follows them, whether its bytes are accepted, how many they are, and they
 // themselves, as the record holds them.
-#[derive(Drop)]
+#[derive(Clone, Copy)]
 pub struct Label {
     pub closed: bool,
     pub allowed: bool,

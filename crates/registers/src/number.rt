@@ -8,7 +8,7 @@ use crate::suffix::{Power, Quantity, Scale};
 use crate::{suffix, text};
 
 // A number's exact value: its digits, times 10 to the power up, over 10 to the power down.
-#[derive(Drop)]
+#[derive(Clone, Copy)]
 pub struct Decimal {
     pub minus: bool,
     pub digits: u64,
@@ -17,14 +17,14 @@ pub struct Decimal {
 }
 
 // What check 6 says of a parameter.
-#[derive(Drop)]
+#[derive(Clone, Copy)]
 pub enum ReadNumber {
     Refused(Error),
     Number(Decimal),
 }
 
 // Digits as a number, held, and where they end.
-#[derive(Drop)]
+#[derive(Clone, Copy)]
 struct Digits {
     value: u64,
     end: usize,
@@ -32,7 +32,7 @@ struct Digits {
 
 // The digits before and after the point as one number, how many they are, how many of them stand after the point,
 // and where they end.
-#[derive(Drop)]
+#[derive(Clone, Copy)]
 struct Mantissa {
     value: u64,
     count: usize,
@@ -41,7 +41,7 @@ struct Mantissa {
 }
 
 // Whether the exponent's sign is a minus, its size, held, and where it ends.
-#[derive(Drop)]
+#[derive(Clone, Copy)]
 struct Exponent {
     lowers: bool,
     size: u64,

@@ -7,14 +7,14 @@ ghost use Rattle.registers.specs.RoundingParts.{beyond, sized_over, held_over, h
 use crate::number::Decimal;
 
 // A value in steps, or none.
-#[derive(Drop)]
+#[derive(Clone, Copy)]
 pub enum Fit {
     Within(i32),
     Outside,
 }
 
 // How the exact value stands to the one that it was rounded to: the same, below it or above it.
-#[derive(Drop)]
+#[derive(Clone, Copy)]
 pub enum Side {
     On,
     Below,
@@ -22,21 +22,21 @@ pub enum Side {
 }
 
 // What check 7 says of a value, and what was rounded off. The side is that of the rounded value, within the limits or not.
-#[derive(Drop)]
+#[derive(Clone, Copy)]
 pub struct Rounded {
     pub fit: Fit,
     pub side: Side,
 }
 
 // A size in steps, and how the exact size stands to it.
-#[derive(Drop)]
+#[derive(Clone, Copy)]
 struct Sized {
     size: u64,
     side: Side,
 }
 
 // A value in steps, and how the exact value stands to it.
-#[derive(Drop)]
+#[derive(Clone, Copy)]
 struct Stepped {
     value: i64,
     side: Side,

@@ -31,14 +31,14 @@ use crate::suffix::Quantity;
 const SLOTS: usize = 30;
 
 // The display's text (02, #109) ends before its first zero.
-#[derive(Drop)]
+#[derive(Clone, Copy)]
 pub struct Settings {
     pub values: [i32; SLOTS],
     pub text: [u8; TEXT],
 }
 
 // What a setting's values are: on or off, words, numbers of step 0.1, numbers of step 1.
-#[derive(Drop)]
+#[derive(Clone, Copy)]
 pub enum Values {
     Bool,
     Word,

@@ -21,7 +21,7 @@ const MARKED: usize = 2;
 const TEXT_AT: usize = 62;
 
 // What a block says: whether *RCL takes it, and its settings.
-#[derive(Drop)]
+#[derive(Clone, Copy)]
 pub struct Recalled {
     pub good: bool,
     pub settings: Settings,

@@ -10,7 +10,7 @@ use crate::error::Error;
 use crate::group::Group;
 use crate::{error, group, queue};
 
-#[derive(Drop)]
+#[derive(Clone, Copy)]
 pub struct Status {
     pub events: u16,
     pub ese: u16,
@@ -21,7 +21,7 @@ pub struct Status {
 }
 
 // The register sets STATus:OPERation, STATus:LOCK and STATus:WARNing.
-#[derive(Drop)]
+#[derive(Clone, Copy)]
 pub enum RegisterSet {
     Operation,
     Lock,
@@ -29,7 +29,7 @@ pub enum RegisterSet {
 }
 
 // The registers that a command sets and a query asks.
-#[derive(Drop)]
+#[derive(Clone, Copy)]
 pub enum Register {
     Ese,
     Sre,

@@ -8,7 +8,7 @@ use crate::error::Error;
 use crate::text;
 
 // What a row's numbers measure, which says what suffixes they take.
-#[derive(Drop)]
+#[derive(Clone, Copy)]
 pub enum Quantity {
     Nothing,
     Volt,
@@ -18,21 +18,21 @@ pub enum Quantity {
 }
 
 // What a suffix multiplies by: 10 to the power up, over 10 to the power down.
-#[derive(Drop)]
+#[derive(Clone, Copy)]
 pub struct Power {
     pub up: u8,
     pub down: u8,
 }
 
 // What comes of a suffix: a refusal, or what it multiplies by.
-#[derive(Drop)]
+#[derive(Clone, Copy)]
 pub(crate) enum Scale {
     Refused(Error),
     By(Power),
 }
 
 // How many bytes are left, and the first three of them in capitals; 0 for each that is missing.
-#[derive(Drop)]
+#[derive(Clone, Copy)]
 struct Letters {
     count: usize,
     first: u8,

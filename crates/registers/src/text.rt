@@ -1,6 +1,6 @@
 // Kinds of bytes, and where white space ends.
 ghost use Rattle.std.specs.Prelude.{◌≡◌, ◌+◌, length, drop};
-ghost use Rattle.registers.specs.Text.{white, start, digit, letter, capital, first};
+ghost use Rattle.registers.specs.Text.{white, start, digit, letter, capital, first, index_of};
 
 pub fn is_white(b: u8) -> bool
     ensures { result ≡ white b }
@@ -44,6 +44,20 @@ pub fn white_end(text: &[u8], at: usize) -> usize
     let mut i = at;
     while i < text.len() {
         if !is_white(text[i]) {
+            return i;
+        }
+        i += 1;
+    }
+    i
+}
+
+// Finds where a byte stands first from a place on; the text's end where it doesn't stand again.
+pub fn find(text: &[u8], at: usize, b: u8) -> usize
+    ensures { result ≡ at + index_of b (drop at text.now) }
+{
+    let mut i = at;
+    while i < text.len() {
+        if text[i] == b {
             return i;
         }
         i += 1;

@@ -12,7 +12,7 @@ use registers::settings::{Settings, Values};
 use registers::{answer, label};
 
 // Why nothing was written, by 02's number, or that it was.
-#[derive(Drop)]
+#[derive(Clone, Copy)]
 pub enum Outcome {
     Done,
     NotWritable,
@@ -20,7 +20,7 @@ pub enum Outcome {
 }
 
 // The length of the lines, or the length that the buffer needs.
-#[derive(Drop)]
+#[derive(Clone, Copy)]
 pub struct Written {
     pub outcome: Outcome,
     pub length: usize,

@@ -6,7 +6,7 @@
 //     marker = session::feed(marker, &mut store, &mut room, piece);    // for each piece; the store starts as zeros
 //     let report = session::finish(marker, &mut store, &mut room);
 ghost use Rattle.std.specs.Prelude.{◌≡◌, true, ◌+◌, ◌≤◌, ◌<◌, ltb, length, drop};
-ghost use Rattle.bytes.specs.Bytes.{index_of};
+ghost use Rattle.registers.specs.Text.{index_of};
 ghost use Rattle.interpreter.specs.Box.{store_size, most_answer, Box};
 ghost use Rattle.interpreter.specs.FlowParts.{first_line};
 ghost use Rattle.writer.specs.Marking.{line_begun, place_sent, place_found, possible_marker, Begun, Fed, Finished, plainly, differs_at, report_at};
@@ -14,9 +14,10 @@ ghost use Rattle.writer.specs.MarkingParts.{AnswerRead, Fits, FedAll};
 
 use interpreter::server;
 use interpreter::state::{ANSWER, STORE, State};
+use registers::text;
 
 // What is found: all lines agree, one differs, or one is broken; or the marker is none that `begin` and `feed` left.
-#[derive(Drop)]
+#[derive(Clone, Copy)]
 pub enum Found {
     Agree,
     Differs,
@@ -27,7 +28,7 @@ pub enum Found {
 // What is found, and at which line, counted from 1; where all agree, how many there are. Where a line differs, it is the one that was
 // sent, and `shown` is the one at which it shows: the recorded answer, or what stands where one is missing, or one after
 // the last. The first `waiting` bytes of the room are then the box's answer with its newline; none where it has none.
-#[derive(Drop)]
+#[derive(Clone, Copy)]
 pub struct Report {
     pub found: Found,
     pub line: usize,
@@ -37,7 +38,7 @@ pub struct Report {
 
 // Where the marker stands: the stage; how many lines have begun; the last that was sent, 0 before the first; how many bytes its
 // answer has in the room until it is found recorded; and how many of them a recorded answer has so far.
-#[derive(Drop)]
+#[derive(Clone, Copy)]
 pub struct Place {
     stage: u8,
     number: usize,
@@ -47,7 +48,7 @@ pub struct Place {
 }
 
 // The box after what was sent so far, each answer taken, and the place.
-#[derive(Drop)]
+#[derive(Clone, Copy)]
 pub struct Marker {
     state: State,
     place: Place,
@@ -68,14 +69,14 @@ const BROKEN: u8 = 4;
 const MOST: usize = 9223372036854775808;
 
 // How far a recorded answer was compared.
-#[derive(Drop)]
+#[derive(Clone, Copy)]
 struct Compared {
     place: Place,
     at: usize,
 }
 
 // Where a line ends, and whether its newline has come.
-#[derive(Drop)]
+#[derive(Clone, Copy)]
 struct Ending {
     at: usize,
     ended: bool,
@@ -158,7 +159,7 @@ fn line_end(bytes: &[u8], at: usize) -> Ending
     requires { at < length bytes.now }
     ensures { (result.at ≡ at + length (first_line (drop at bytes.now))) × (result.ended ≡ ltb (index_of 10 (drop at bytes.now)) (length (drop at bytes.now))) }
 {
-    let end = bytes::scan::find(bytes, at, bytes.len(), b'\n');
+    let end = text::find(bytes, at, b'\n');
     if end < bytes.len() {
         return Ending {
             at: end + 1,

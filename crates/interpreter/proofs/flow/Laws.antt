@@ -11,7 +11,7 @@ use lib.Dec.{eqb, ltb, leb-suc-suc}
 use lib.ListN.{length, take, drop, get_or, length-take, length-drop, length-append}
 use lib.Seq.{take_all, take-add, take-suc, take-nil, take-length, length-take-le, paste, take-paste}
 use borrow.Author.Tests.{lt-ltb, le-ltb, eqb-true, ltb-true, ltb-false}
-use Rattle.bytes.specs.Bytes.{index_of, index_after, slice}
+use Rattle.registers.specs.Text.{index_of, index_after}
 use Rattle.registers.specs.Text.{Text, if◌then◌else◌}
 use Rattle.interpreter.specs.Box.{Memory, memory, store_size, Core, Box, box, with_line, most_line}
 use Rattle.interpreter.specs.Line.{held, byte, piece, newlines}

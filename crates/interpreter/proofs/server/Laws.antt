@@ -10,7 +10,7 @@ use lib.Dec.{eqb, ltb, leb}
 use lib.ListN.{length, take, drop, length-take, length-drop, drop_of_length-le}
 use lib.Seq.{drop-drop, take_at, drop_at, paste, length-paste, take-paste, drop-paste}
 use borrow.Author.Tests.{eqb-true, le-leb, lt-leb, leb-true, ltb-true, ltb-false, leb-false}
-use Rattle.bytes.specs.Bytes.{index_of, index_after}
+use Rattle.registers.specs.Text.{index_of, index_after}
 use Rattle.registers.specs.Text.{Text, if◌then◌else◌, empty}
 use Rattle.interpreter.specs.Box.{Memory, memory, store_size, most_answer}
 use Rattle.interpreter.specs.Events.{happens, taken}

@@ -11,7 +11,7 @@ use lib.ListN.{length, take, drop, get_or, length-take, length-drop}
 use lib.Seq.{drop-cons, take-length}
 use borrow.Author.Tests.{eq-eqb, ne_eqb, lt-ltb, le-ltb}
 use Rattle.registers.proofs.Tests.{and-true}
-use Rattle.bytes.specs.Bytes.{index_of, index_after, slice}
+use Rattle.registers.specs.Text.{index_of, index_after}
 use Rattle.registers.specs.Text.{Text, if◌then◌else◌}
 use Rattle.interpreter.specs.Box.{Core, Box, answer_is, most_line}
 use Rattle.interpreter.specs.Line.{held, byte, piece}

@@ -9,7 +9,7 @@ use lib.Dec.{eqb, ltb, leb}
 use lib.ListN.{length, take, drop, get_or, length-drop, drop_of_length-le, take-append-drop}
 use lib.Seq.{drop-drop}
 use borrow.Author.Tests.{leb-true, le-leb, eqb-true, eqb-false, eq-eqb, lt-ltb, ltb-true}
-use Rattle.bytes.specs.Bytes.{index_of}
+use Rattle.registers.specs.Text.{index_of}
 use Rattle.registers.specs.Text.{Text, if◌then◌else◌, empty}
 use Rattle.registers.proofs.Tests.{and_both, and-true, front-empty}
 use Rattle.interpreter.specs.Box.{Box, memory, blank, right_size, power_up, store_size, most_answer}

@@ -1,0 +1,11 @@
+use borrow.Author.Rules.{rules}
+use Rattle.registers.specs.Text.{if◌then◌else◌}
+use Rattle.registers.proofs.status.bit_if.Goals as goal
+
+pub returns-then-on : goal.returns-then-on
+unfolding if◌then◌else◌
+returns-then-on c = (rw c.if-on.true, search rules)
+
+pub returns-else-on : goal.returns-else-on
+unfolding if◌then◌else◌
+returns-else-on c = (rw c.if-on.false, search rules)

@@ -1,0 +1,7 @@
+use mathlib.Core.Path.{refl}
+use Rattle.registers.specs.Text.{letter, small}
+use Rattle.registers.proofs.text.is_letter.Goals as goal
+
+pub returns : goal.returns
+unfolding letter small
+returns c = refl
