@@ -18,9 +18,9 @@
 // and that the line tells what was found, is to be read below: no contract can say what is read or written. A line is composed
 // first and written at once, so that several markers can write into one file or pipe. What was sent and recorded is looked up by
 // its line's number once it is needed, in the buffer; of a session of more than 1,048,575 bytes the numbers and the box's answer are told.
-ghost use Rattle.std.specs.Prelude.{◌≤◌, length};
-
 #![tactic(auto)]
+
+ghost use Rattle.std.specs.Prelude.{◌≤◌, length};
 
 use interpreter::state::{ANSWER, STORE};
 use writer::session;

@@ -8,10 +8,10 @@
 // whatever they are, the first 4,097 are recorded: it is refused again. What was read is served and written at once. The contracts say
 // that nothing goes wrong and that every run ends; that each line and its answer are written is to be read below, and tests/marking
 // holds the marker to it.
+#![tactic(auto)]
+
 use interpreter::server;
 use interpreter::state::{ANSWER, STORE, State};
-
-#![tactic(auto)]
 
 // The room for a line that is a byte too long, and its newline.
 const HELD: usize = 4098;
