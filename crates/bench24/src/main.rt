@@ -38,13 +38,7 @@ struct Bench {
 
 // Writes answers. It asks its caller to show that these bytes are the answers to the first part of what
 // was read and nothing else; what they are answers to is handed over for that alone.
-fn write_answers(
-    rt: &impl Print,
-    start: State,
-    input: &[u8],
-    read: usize,
-    answers: &[u8],
-) -> bool
+fn write_answers(rt: &impl Print, start: State, input: &[u8], read: usize, answers: &[u8]) -> bool
     requires { Answers start input.now read answers.now }
 {
     rt.write_all(answers).is_ok()
@@ -131,12 +125,7 @@ fn serve_read(
 
 // Serves from power-up until the bench is closed. A proved loop has to end, so it counts its turns down,
 // from a number that no run uses up.
-fn run(
-    rt: &(impl Input + Print),
-    store: &mut [u8],
-    input: &mut [u8],
-    output: &mut [u8],
-) -> State
+fn run(rt: &(impl Input + Print), store: &mut [u8], input: &mut [u8], output: &mut [u8]) -> State
     requires { (length store.old ≡ store_size) × (most_answer ≤ length output.old) }
     ensures { HeardSince (memory store.old) result (memory store.new) }
 {

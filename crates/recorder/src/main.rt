@@ -263,15 +263,19 @@ fn open_record<R: Files>(rt: &R, name: &[u8]) -> io::Result<R::File> {
     }
 }
 
-// Tells which file can't be written, and why, in the system's words: the error's number, which std writes behind them, is left out.
+// The system's words for an error, without the error's number, which std writes behind them.
+fn words_of(text: &str) -> &str {
+    match text.split_once(" (os error ") {
+        Some((words, _)) => words,
+        None => text,
+    }
+}
+
+// Tells on standard error which file can't be written, and why.
 fn fail(errors: &impl Print, alloc: Global, name: &[u8], error: io::Error) -> io::Result<()> {
     let text = format!(in alloc; "{error}")?;
-    let words = match text.split_once(" (os error ") {
-        Some((words, _)) => words,
-        None => text.as_str(),
-    };
     errors.write_all(name)?;
-    println!(errors; ": {words}")
+    println!(errors; ": {}", words_of(text.as_str()))
 }
 
 fn main(rt: HostRuntime) -> io::Result<()> {
