@@ -5,19 +5,19 @@ use Rattle.interpreter.proofs.deed.of_set.Goals as goal
 
 pub returns-in-0 : goal.returns-in-0
 unfolding if◌then◌else◌
-returns-in-0 c = rw c.in-0.in-own.keys1
+returns-in-0 c = rw c.in-0.is
 
 pub returns-in-1 : goal.returns-in-1
 unfolding if◌then◌else◌
-returns-in-1 c = rw c.in-1.in-own.keys2
+returns-in-1 c = rw c.in-1.is
 
 pub returns-in-2 : goal.returns-in-2
 unfolding if◌then◌else◌
-returns-in-2 c = rw c.in-2.in-own.keys3
+returns-in-2 c = rw c.in-2.is
 
 pub returns-in-3 : goal.returns-in-3
 unfolding if◌then◌else◌
-returns-in-3 c = rw c.in-3.in-own.keys4
+returns-in-3 c = rw c.in-3.is
 
 pub returns-in_default : goal.returns-in_default
 unfolding if◌then◌else◌

@@ -24,6 +24,63 @@ returns-then-other-ge-COMMON_ROWS c =
     let whole : count + common_rows + (row - count - common_rows) ≡ row = omega arith in
     rw (c.of_set.ensures, c.set_at.ensures) (rw whole at (role-of-sets (row - count - common_rows) (omega (arith, c.requires))))
 
+-- a row after the settings and before the sets, by its place
+pub returns-in-0 : goal.returns-in-0
+unfolding role_at setting_rows other_rows slots table
+returns-in-0 c = rw (numbered c.if-place-lt-COUNT.false c.in-0.is)
+
+pub returns-in-1 : goal.returns-in-1
+unfolding role_at setting_rows other_rows slots table
+returns-in-1 c = rw (numbered c.if-place-lt-COUNT.false c.in-1.is)
+
+pub returns-in-2 : goal.returns-in-2
+unfolding role_at setting_rows other_rows slots table
+returns-in-2 c = rw (numbered c.if-place-lt-COUNT.false c.in-2.is)
+
+pub returns-in-3 : goal.returns-in-3
+unfolding role_at setting_rows other_rows slots table
+returns-in-3 c = rw (numbered c.if-place-lt-COUNT.false c.in-3.is)
+
+pub returns-in-4 : goal.returns-in-4
+unfolding role_at setting_rows other_rows slots table
+returns-in-4 c = rw (numbered c.if-place-lt-COUNT.false c.in-4.is)
+
+pub returns-in-5 : goal.returns-in-5
+unfolding role_at setting_rows other_rows slots table
+returns-in-5 c = rw (numbered c.if-place-lt-COUNT.false c.in-5.is)
+
+pub returns-in-6 : goal.returns-in-6
+unfolding role_at setting_rows other_rows slots table
+returns-in-6 c = rw (numbered c.if-place-lt-COUNT.false c.in-6.is)
+
+pub returns-in-7 : goal.returns-in-7
+unfolding role_at setting_rows other_rows slots table
+returns-in-7 c = rw (numbered c.if-place-lt-COUNT.false c.in-7.is)
+
+pub returns-in-8 : goal.returns-in-8
+unfolding role_at setting_rows other_rows slots table
+returns-in-8 c = rw (numbered c.if-place-lt-COUNT.false c.in-8.is)
+
+pub returns-in-9 : goal.returns-in-9
+unfolding role_at setting_rows other_rows slots table
+returns-in-9 c = rw (numbered c.if-place-lt-COUNT.false c.in-9.is)
+
+pub returns-in-10 : goal.returns-in-10
+unfolding role_at setting_rows other_rows slots table
+returns-in-10 c = rw (numbered c.if-place-lt-COUNT.false c.in-10.is)
+
+pub returns-in-11 : goal.returns-in-11
+unfolding role_at setting_rows other_rows slots table
+returns-in-11 c = rw (numbered c.if-place-lt-COUNT.false c.in-11.is)
+
+pub returns-in-12 : goal.returns-in-12
+unfolding role_at setting_rows other_rows slots table
+returns-in-12 c = rw (numbered c.if-place-lt-COUNT.false c.in-12.is)
+
+pub returns-in-13 : goal.returns-in-13
+unfolding role_at setting_rows other_rows slots table
+returns-in-13 c = rw (numbered c.if-place-lt-COUNT.false c.in-13.is)
+
 -- the last arm is for the one place that is left
 pub returns-in_default : goal.returns-in_default
 unfolding role_at setting_rows other_rows slots table

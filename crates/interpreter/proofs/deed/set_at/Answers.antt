@@ -5,11 +5,11 @@ use Rattle.interpreter.proofs.deed.set_at.Goals as goal
 
 pub returns-in-0 : goal.returns-in-0
 unfolding if◌then◌else◌
-returns-in-0 c = rw c.in-0.in-own.keys1
+returns-in-0 c = rw c.in-0.is
 
 pub returns-in-1 : goal.returns-in-1
 unfolding if◌then◌else◌
-returns-in-1 c = rw c.in-1.in-own.keys2
+returns-in-1 c = rw c.in-1.is
 
 pub returns-in_default : goal.returns-in_default
 unfolding if◌then◌else◌

@@ -25,8 +25,7 @@ loop-flow-preserved c =
 pub shape_of-store : goal.shape_of-store
 shape_of-store c =
     let sized = c.loop-flow.invariant.sized in
-    let was = c.requires.2 in
-    omega arith
+    let was = c.requires.2 in omega arith
 
 pub returns : goal.returns
 returns c = feed-end _ _ _ _ _ _ _ _ _ c.loop-flow.invariant c.loop-flow-test.false

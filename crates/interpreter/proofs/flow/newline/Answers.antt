@@ -16,7 +16,7 @@ pub slice_bounds-run_line-count : goal.slice_bounds-run_line-count
 slice_bounds-run_line-count c = zero-le
 
 pub run_line-next-requires : goal.run_line-next-requires
-run_line-next-requires c = let g = c.run_line-arg-2-1.given in record { table_value = (c.requires.0, c.discard-present.ensures.gone); out_len = (search rules, c.discard-present.ensures.queued c.requires.1.queued, c.requires.3) }
+run_line-next-requires c = record { table_value = (c.requires.0, c.discard-present.ensures.gone); out_len = (search rules, c.discard-present.ensures.queued c.requires.1.queued, c.requires.3) }
 
 pub shape_of-store : goal.shape_of-store
 shape_of-store c = c.run_line-next.auto.store
@@ -26,7 +26,7 @@ unfolding piece byte newlines if◌then◌else◌
 returns c =
     let a = c.args in
     let f = a.flow in
-    let g = c.run_line-arg-2-1.given in let outs : length a.out.now ≡ most_answer = search rules in
+    let outs : length a.out.now ≡ most_answer = search rules in
     let room : 0 < length a.out.now = omega arith in
     let few = c.requires.1.few in
     let w = c.run_line-next.ensures in record {

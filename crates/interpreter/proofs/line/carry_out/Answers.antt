@@ -4,6 +4,7 @@ use Rattle.interpreter.specs.Box.{memory}
 use Rattle.registers.specs.Label.{text_in}
 use Rattle.interpreter.proofs.reply.Values.{ordinary-other}
 use Rattle.interpreter.proofs.line.Laws.{deed-barred}
+use borrow.Enum.Refused.{opened}
 use Rattle.interpreter.proofs.line.carry_out.Goals as goal
 
 pub returns-then-not-is_permitted : goal.returns-then-not-is_permitted
@@ -14,8 +15,7 @@ returns-then-not-is_permitted c =
 
 pub set_up-requires : goal.set_up-requires
 set_up-requires c =
-    let is = c.in-Saving.is in
-    let free = let_through _ _ c.is_permitted.result c.is_permitted.ensures c.if-not-is_permitted.false-raw in
+    let is = c.in-Saving.is in let free = let_through _ _ c.is_permitted.result c.is_permitted.ensures c.if-not-is_permitted.false-raw in
     record { status_value = (rw is at free, rw is at c.requires.allowed.0, c.requires.out_len.2); answered_lt_most_answer = (c.requires.allowed.1, c.requires.out_len.1) }
 
 pub returns-in-Saving : goal.returns-in-Saving
@@ -26,7 +26,7 @@ returns-in-Saving c =
 pub do_deed-requires : goal.do_deed-requires
 do_deed-requires c =
     let free = let_through _ _ c.is_permitted.result c.is_permitted.ensures c.if-not-is_permitted.false-raw in
-    record { status_value = (free, c.requires.allowed.0, ordinary-other c.args.deed c.in_default.in_default-own.keys2); answered_lt_most_answer = (c.requires.allowed.1, c.requires.out_len.0, c.requires.out_len.1, c.requires.allowed.2) }
+    record { status_value = (free, c.requires.allowed.0, ordinary-other c.args.deed (opened c.in_default.in_default-own.keys2)); answered_lt_most_answer = (c.requires.allowed.1, c.requires.out_len.0, c.requires.out_len.1, c.requires.allowed.2) }
 
 pub returns-in_default : goal.returns-in_default
 returns-in_default c = c.do_deed.ensures (memory c.args.store.now)

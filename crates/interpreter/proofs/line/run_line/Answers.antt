@@ -65,7 +65,7 @@ returns c =
     let visible : every white c.args.line.now ≡ false = not-blank c.args.line.now c.white_end.result c.white_end.ensures c.if-white_end-line.false in
     let a = c.args in
     let w = c.run_units-ran.ensures in let room = c.run_units-ran.ensures.room in
-    let k = c.run_units-ran.auto in let was = c.requires.1.0 in
+    let k = c.run_units-ran.auto in let was = c.requires.out_len.0 in
     record {
       queued = c.run_units-ran.ensures.queued;
       room = omega arith;

@@ -15,18 +15,18 @@ pub slice_bounds-run_unit-count : goal.slice_bounds-run_unit-count
 slice_bounds-run_unit-count c = omega (arith, c.part_end-end.ensures.0)
 
 pub run_unit-done-requires : goal.run_unit-done-requires
-run_unit-done-requires c = record { table_value = (c.requires.0.0, (c.loop-path.invariant.path, c.loop-path.invariant.holds)); answered_lt_most_answer = (c.loop-path.invariant.answers, c.loop-path.invariant.long, c.loop-path.invariant.queued, c.loop-path.invariant.sized) }
+run_unit-done-requires c = record { table_value = (c.requires.table_value.0, (c.loop-path.invariant.path, c.loop-path.invariant.holds)); answered_lt_most_answer = (c.loop-path.invariant.answers, c.loop-path.invariant.long, c.loop-path.invariant.queued, c.loop-path.invariant.sized) }
 
 pub shape_of-out-then-not-more : goal.shape_of-out-then-not-more
 shape_of-out-then-not-more c =
     let k = c.run_unit-done.auto in let long = c.loop-path.invariant.long in
-    let was = c.requires.1.0 in
+    let was = c.requires.out_len.0 in
     omega arith
 
 pub shape_of-store-then-not-more : goal.shape_of-store-then-not-more
 shape_of-store-then-not-more c =
     let k = c.run_unit-done.auto in let sized = c.loop-path.invariant.sized in
-    let was = c.requires.1.2 in
+    let was = c.requires.out_len.2 in
     omega arith
 
 pub returns-then-not-more : goal.returns-then-not-more
@@ -39,9 +39,7 @@ returns-then-not-more c =
     }
 
 pub overflow_add-at : goal.overflow_add-at
-overflow_add-at c =
-    let ends = c.part_end-end.ensures.1 in
-    omega (arith, c.well_formed)
+overflow_add-at c = omega (arith, c.well_formed)
 
 pub loop-path-smaller : goal.loop-path-smaller
 loop-path-smaller c = let g = c.loop-path.invariant in going_less _ _ _ _ _ _ _ g c.part_end-end.result c.part_end-end.ensures.0 c.part_end-end.ensures.1 c.run_unit-done.result _ _ _ (c.run_unit-done.ensures c.loop-path.invariant.path c.loop-path.invariant.holds) c.if-not-more.false

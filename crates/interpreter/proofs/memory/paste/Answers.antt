@@ -2,7 +2,7 @@
 use Rattle.interpreter.proofs.memory.Laws.{pasted}
 use Rattle.interpreter.proofs.memory.paste.Goals as goal
 
-pub returns : goal.returns
-returns c =
+pub returns-clause-into_after : goal.returns-clause-into_after
+returns-clause-into_after c =
     let a = c.args in
-    pasted a.into.now a.at a.text.now a.n c.requires.0 c.requires.1 c.copy.result _ c.copy.ensures.0 c.copy.ensures.1
+    pasted a.into.now a.at a.text.now a.n c.requires.0 _ c.copy_from_slice.ensures.after

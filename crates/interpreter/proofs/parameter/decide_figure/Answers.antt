@@ -16,12 +16,12 @@ pub overflow_cast-result : goal.overflow_cast-result
 overflow_cast-result c =
     let rounded-is : RoundedIn 1 (pos 0) (pos (widest c.args.register)) c.args.d c.round_in-rounded.result = rw (c.widest.ensures, widest-back c.args.register) at c.round_in-rounded.ensures in
     let a = c.args in
-    rw (back c.in-Within.value c.known_told-1.given.0.1)
+    rw (back c.in-Within.value c.in-Within.known_told-1-own.given.0.1)
     (store-natural a.register a.d rounded-is.fit c.in-Within.value c.in-Within.is)
 
 pub returns-in-Within : goal.returns-in-Within
 returns-in-Within c =
     let rounded-is : RoundedIn 1 (pos 0) (pos (widest c.args.register)) c.args.d c.round_in-rounded.result = rw (c.widest.ensures, widest-back c.args.register) at c.round_in-rounded.ensures in
     let a = c.args in
-    rw (back c.in-Within.value c.known_told-1.given.0.1, side-is rounded-is)
+    rw (back c.in-Within.value c.in-Within.known_told-1-own.given.0.1, side-is rounded-is)
     (store-within a.register a.d rounded-is.fit c.in-Within.value c.in-Within.is (side_in 1 a.d))

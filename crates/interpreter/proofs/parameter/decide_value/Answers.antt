@@ -13,7 +13,7 @@ returns-in-Outside c = rw c.in-Outside.is
 pub returns-then-heading : goal.returns-then-heading
 unfolding put_fit
 returns-then-heading c =
-    let b = back c.in-Within.value c.known_told-1.given.0.1 in
+    let b = back c.in-Within.value c.in-Within.known_told-1-own.given.0.1 in
     rw (c.in-Within.is, c.if-heading.true, c.obey_query.ensures, b)
 
 pub returns-then-not-accepts : goal.returns-then-not-accepts
@@ -23,6 +23,6 @@ returns-then-not-accepts c = rw (c.in-Within.is, c.if-heading.false, sym c.accep
 pub returns-in-Within : goal.returns-in-Within
 unfolding put_fit check ◌>>◌
 returns-in-Within c =
-    let b = back c.in-Within.value c.known_told-1.given.0.1 in
+    let b = back c.in-Within.value c.in-Within.known_told-1-own.given.0.1 in
     let accepted = sym c.accepts.ensures ∙ c.if-not-accepts.false in
     rw (c.in-Within.is, c.if-heading.false, accepted, b)

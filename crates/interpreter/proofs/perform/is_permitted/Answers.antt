@@ -4,14 +4,14 @@ use mir.Facts.{to_z-of_z}
 use mir.Val.{SFits}
 use mir.Syntax.{w32}
 use Rattle.interpreter.proofs.perform.Permitted.{put-permitted, reset-permitted, saving-permitted, label-permitted, free-change, free_other}
+use borrow.Enum.Refused.{opened}
 use Rattle.interpreter.proofs.perform.is_permitted.Goals as goal
 
 pub returns-in-Put : goal.returns-in-Put
 returns-in-Put c =
-    let v = c.change-1.given.0 in
-    let h : SFits w32 v.1.0 = record { sfits = c.known_told-in-Change-1.given.1.0.1 } in
+    let h : SFits w32 c.in-Put.value = record { sfits = c.in-Put.known_told-in-Change-1-own.given.1.0.1 } in
     rw (c.in-Change.is, c.in-Put.is, c.is_locked.ensures, c.conflicts.ensures, to_z-of_z {w = w32} h)
-    (put-permitted v.0 v.1.0 _ _)
+    (put-permitted c.in-Put.row c.in-Put.value _ _)
 
 pub returns-in-Reset : goal.returns-in-Reset
 returns-in-Reset c = rw (c.in-Change.is, c.in-Reset.is, c.is_locked-in-Reset.ensures) (reset-permitted _)
@@ -26,4 +26,4 @@ pub returns-in-Saving : goal.returns-in-Saving
 returns-in-Saving c = rw (c.in-Saving.is, c.is_locked-in-Saving.ensures) (saving-permitted _ _ _)
 
 pub returns-in_default : goal.returns-in_default
-returns-in_default c = free_other c.args.deed c.in_default.in_default-own.keys3 _
+returns-in_default c = free_other c.args.deed (opened c.in_default.in_default-own.keys3) _

@@ -7,14 +7,14 @@ use mir.Val.{SFits}
 use mir.Syntax.{w32}
 use Rattle.registers.proofs.settings.Laws.{stored-yes}
 use Rattle.interpreter.proofs.perform.Laws.{same-settings, no-change, label-stored}
+use borrow.Enum.Refused.{opened}
 use Rattle.interpreter.proofs.perform.settings_after.Goals as goal
 
 pub returns-in-Put : goal.returns-in-Put
 returns-in-Put c =
-    let v = c.change-1.given.0 in
-    let h : SFits w32 v.1.0 = record { sfits = c.known_told-in-Change-1.given.1.0.1 } in
+    let h : SFits w32 c.in-Put.value = record { sfits = c.in-Put.known_told-in-Change-1-own.given.1.0.1 } in
     let p = rw (c.in-Change.is, c.in-Put.is) at c.requires in
-    rw (c.in-Change.is, c.in-Put.is, c.store.ensures, to_z-of_z {w = w32} h) (stored-yes v.0 v.1.0 c.args.settings p.0.1 p.1)
+    rw (c.in-Change.is, c.in-Put.is, c.store.ensures, to_z-of_z {w = w32} h) (stored-yes c.in-Put.row c.in-Put.value c.args.settings p.0.1 p.1)
 
 pub returns-in-Reset : goal.returns-in-Reset
 returns-in-Reset c = rw (c.in-Change.is, c.in-Reset.is) c.reset.ensures
@@ -29,4 +29,4 @@ pub returns-in_default-change : goal.returns-in_default-change
 returns-in_default-change c = rw c.in-Change.is (same-settings c.in-Change.change c.in_default-change.in_default-change-own.keys4 _ c.args.settings)
 
 pub returns-in_default : goal.returns-in_default
-returns-in_default c = no-change c.args.deed c.in_default.in_default-own.keys2 _ c.args.settings
+returns-in_default c = no-change c.args.deed (opened c.in_default.in_default-own.keys2) _ c.args.settings

@@ -8,15 +8,14 @@ use Rattle.registers.proofs.status.Meaning.{oldest-trouble, oldest-registers, ol
 use Rattle.registers.specs.Queue.{most}
 use Rattle.interpreter.proofs.perform.Laws.{same-status, only-asked, stored-left}
 use borrow.Author.Rules.{rules}
+use borrow.Enum.Refused.{opened}
 use Rattle.interpreter.proofs.perform.status_after.Goals as goal
 
 pub returns-in-Store : goal.returns-in-Store
-returns-in-Store c =
-    let v = c.change-1.given.0 in
-    rw (c.in-Change.is, c.in-Store.is, c.store.ensures) (stored-left v.0 v.1.0 v.1.1.0 c.args.status c.requires)
+returns-in-Store c = rw (c.in-Change.is, c.in-Store.is, c.store.ensures) (stored-left c.in-Store.register c.in-Store.value c.in-Store.side c.args.status c.requires)
 
 pub returns-in_default : goal.returns-in_default
-returns-in_default c = rw c.in-Change.is (same-status c.args.status c.requires _ c.in_default.in_default-own.keys2)
+returns-in_default c = rw c.in-Change.is (same-status c.args.status c.requires _ (opened c.in_default.in_default-own.keys2))
 
 pub returns-in-Complete : goal.returns-in-Complete
 unfolding completed events_in
@@ -34,7 +33,7 @@ pub returns-in-SetEvents : goal.returns-in-SetEvents
 returns-in-SetEvents c = rw (c.in-Query.is, c.in-SetEvents.is, c.read_event.ensures) (record { registers = λ _ _. refl; trouble = refl; queued = c.requires })
 
 pub returns-in_default-query : goal.returns-in_default-query
-returns-in_default-query c = rw c.in-Query.is (only-asked c.args.status c.requires _ c.in_default-query.in_default-query-own.keys2)
+returns-in_default-query c = rw c.in-Query.is (only-asked c.args.status c.requires _ (opened c.in_default-query.in_default-query-own.keys2))
 
 pub returns-in-StandardEvents : goal.returns-in-StandardEvents
 unfolding events_in events_read

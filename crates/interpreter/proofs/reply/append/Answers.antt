@@ -6,6 +6,7 @@ use Prim.Native.Char.{code}
 use native.Mathlib.Omega.{arith}
 use lib.ListN.{length, set, length-set}
 use Rattle.interpreter.proofs.reply.Answers.{start, start-room, says, given-none, given-whole, given-over, end-room}
+use borrow.Enum.Refused.{opened}
 use Rattle.interpreter.proofs.reply.append.Goals as goal
 
 pub returns-in-Nothing : goal.returns-in-Nothing
@@ -30,14 +31,14 @@ shape_of-out-then-out-start c = c.out-1.given.1 ∙ length-set c.args.out.now c.
 pub returns-then-out-start : goal.returns-then-out-start
 returns-then-out-start c =
     let a = c.args in
-    given-over _ a.out.now c.requires.0 c.requires.1 a.reply (says a.reply c.in_default.in_default-own.keys2) c.write-n.ensures
+    given-over _ a.out.now c.requires.0 c.requires.1 a.reply (says a.reply (opened c.in_default.in_default-own.keys2)) c.write-n.ensures
     c.out-1.given.1 c.if-out-start.true
 
 pub overflow_add-result : goal.overflow_add-result
 overflow_add-result c =
     let a = c.args in
     let h =
-    end-room _ a.out.now c.requires.0 c.requires.1 a.reply (says a.reply c.in_default.in_default-own.keys2) c.write-n.ensures
+    end-room _ a.out.now c.requires.0 c.requires.1 a.reply (says a.reply (opened c.in_default.in_default-own.keys2)) c.write-n.ensures
     c.out-1.given.1 c.if-out-start.false in
     omega arith
 
@@ -47,5 +48,5 @@ shape_of-out c = c.out-1.given.1 ∙ length-set c.args.out.now c.args.answered (
 pub returns : goal.returns
 returns c =
     let a = c.args in
-    given-whole _ a.out.now c.requires.0 c.requires.1 a.reply (says a.reply c.in_default.in_default-own.keys2) c.write-n.ensures
+    given-whole _ a.out.now c.requires.0 c.requires.1 a.reply (says a.reply (opened c.in_default.in_default-own.keys2)) c.write-n.ensures
     c.out-1.given.1 c.if-out-start.false

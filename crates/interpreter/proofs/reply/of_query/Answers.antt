@@ -24,7 +24,7 @@ returns-in-Completed c = rw c.in-Completed.is (record { is = refl; some = refl }
 pub returns-in-Limit : goal.returns-in-Limit
 unfolding reply_to
 returns-in-Limit c =
-    let h : SFits w32 c.in-Limit.value = record { sfits = c.known_told-1.given.1.0.1 } in
+    let h : SFits w32 c.in-Limit.value = record { sfits = c.in-Limit.known_told-1-own.given.1.0.1 } in
     rw c.in-Limit.is (value-back _ h c.of_value.ensures _)
 
 pub returns-in-Value : goal.returns-in-Value

@@ -22,13 +22,13 @@ returns-in-Word c = rw c.in-Word.is c.write_short.ensures
 pub returns-in-Tenths : goal.returns-in-Tenths
 unfolding text_of
 returns-in-Tenths c =
-    let h : SFits w32 c.in-Tenths.value = record { sfits = c.known_told-in-Tenths-1.given.0.1 } in
+    let h : SFits w32 c.in-Tenths.value = record { sfits = c.in-Tenths.known_told-in-Tenths-1-own.given.0.1 } in
     rw c.in-Tenths.is (rw (to_z-of_z {w = w32} h) at c.write_tenths.ensures)
 
 pub returns-in-Whole : goal.returns-in-Whole
 unfolding text_of
 returns-in-Whole c =
-    let h : SFits w32 c.in-Whole.value = record { sfits = c.known_told-in-Whole-1.given.0.1 } in
+    let h : SFits w32 c.in-Whole.value = record { sfits = c.in-Whole.known_told-in-Whole-1-own.given.0.1 } in
     rw c.in-Whole.is (rw (to_z-of_z {w = w32} h) at c.write_whole.ensures)
 
 pub returns-in-Number : goal.returns-in-Number

@@ -40,8 +40,7 @@ loop-flow-preserved c =
 pub shape_of-store : goal.shape_of-store
 shape_of-store c =
     let sized = c.loop-flow.invariant.sized in
-    let was = c.requires.2 in
-    omega arith
+    let was = c.requires.2 in omega arith
 
 pub shape_of-output : goal.shape_of-output
 shape_of-output c = let now = c.loop-flow.invariant.outputs in omega arith

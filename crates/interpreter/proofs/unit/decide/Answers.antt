@@ -74,7 +74,7 @@ decide_setting-requires c =
     parts_are a.text.now c.requires.2 c.count-counted.result c.count-counted.ensures (omega (arith, greatest-one c.role_of-role.result a.heading.asked)) in
     let many : parts-of ≡ length (parts_of c.args.text.now) = c.count-counted.ensures.parts ∙ sym (ap length given) in
     let setting-told : let row = c.args.heading.place in (c.role_of-role.result ≡ Setting row) × (row < count) = let a = c.args in
-    let role = c.enum_told-1.given in let known = setting-known a.heading.place _ (omega arith) (sym c.role_of-role.ensures ∙ c.in-Setting.is) in
+    let known = setting-known a.heading.place _ (omega arith) (sym c.role_of-role.ensures ∙ c.in-Setting.is) in
     (c.in-Setting.is ∙ ap Setting known.0, known.1) in
     let a = c.args in
     let told = setting-told in
@@ -101,7 +101,7 @@ returns-in-Setting c =
     let said = subst (λ (r : Role). meant_deed d ≡ deed_of a.settings r a.heading.asked (parts_of a.text.now)) (sym q) is in
     (rw given at said) ∙ sym (says ∙ rw (le-leb parts-of most-of m, le-leb fewest-of parts-of least-let)) in
     let setting-told : let row = c.args.heading.place in (c.role_of-role.result ≡ Setting row) × (row < count) = let a = c.args in
-    let role = c.enum_told-1.given in let known = setting-known a.heading.place _ (omega arith) (sym c.role_of-role.ensures ∙ c.in-Setting.is) in
+    let known = setting-known a.heading.place _ (omega arith) (sym c.role_of-role.ensures ∙ c.in-Setting.is) in
     (c.in-Setting.is ∙ ap Setting known.0, known.1) in
     passes _ setting-told.0 c.decide_setting.result c.decide_setting.ensures
 

@@ -2,7 +2,7 @@
 use Prim.Native.Nat.{◌*◌}
 use native.Mathlib.Omega.{arith}
 use Rattle.interpreter.specs.WordsParts.{short_size}
-use Rattle.interpreter.proofs.words.Shorts.{row_within, short-read}
+use Rattle.interpreter.proofs.words.Shorts.{row_within, end-within, short-read}
 use Rattle.interpreter.proofs.words.write_from.Goals as goal
 
 pub bounds-forms-row : goal.bounds-forms-row
@@ -19,3 +19,6 @@ shape_of-tail c = c.write_text.auto.tail
 
 pub returns : goal.returns
 returns c = rw (short-read c.args.word c.requires.1 c.args.forms.now c.requires.0) at c.write_text.ensures
+
+pub slice_bounds-write_text-end : goal.slice_bounds-write_text-end
+slice_bounds-write_text-end c = end-within c.args.word c.requires.1 c.args.forms.now c.requires.0
