@@ -82,9 +82,9 @@ returns c =
     let kept = n.auto.path ∙ c.requires.2 in
     let b = c.byte_at-star in
     let part = part-is keys c.or_zero-first.result n.result.count
-        ∙ ap (λ (i : ℕ). drop i (take n.result.count keys)) (first-is t a.path.now keys a.used b.result n.result b.ensures _ c.or_zero-first.ensures) in
+    ∙ ap (λ (i : ℕ). drop i (take n.result.count keys)) (first-is t a.path.now keys a.used b.result n.result b.ensures _ c.or_zero-first.ensures) in
     let rest = drop (or_zero (starred t) a.used) (take n.result.count keys) in
     let found = c.place_of.ensures
-        ∙ ap (λ (l : List ℕ). place_of (row_of_keys (eqb b.result (code "*")) l n.result.asked) (class_in l)) part
-        ∙ ap (λ (s : Bool). place_of (row_of_keys s rest n.result.asked) (class_in rest)) (star-is t a.path.now keys a.used b.result n.result b.ensures) in
+    ∙ ap (λ (l : List ℕ). place_of (row_of_keys (eqb b.result (code "*")) l n.result.asked) (class_in l)) part
+    ∙ ap (λ (s : Bool). place_of (row_of_keys s rest n.result.asked) (class_in rest)) (star-is t a.path.now keys a.used b.result n.result b.ensures) in
     λ names h. look-found t names a.path.now a.used h c.requires.2 keys kept n.result c.place_of.result n.ensures (not-false _ c.if-not-names.false) found

@@ -62,10 +62,10 @@ loop-i-preserved c =
     let passes : digit byte ≡ true = sym c.is_digit.ensures ∙ c.if-not-is_digit.false in
     let at = c.loop-i in
     let next : c.if-next-lt-HELD.value ≡ min held (c.loop-i.value * 10 + (byte - code "0")) =
-        elim c.if-next-lt-HELD.branch [
-          then-next-lt-HELD w ↦ next-below w.if-next-lt-HELD.true w.value-is
-        | else-next-lt-HELD w ↦ next-held w.if-next-lt-HELD.false w.value-is
-        ] in
+    elim c.if-next-lt-HELD.branch [
+      | then-next-lt-HELD w ↦ next-below w.if-next-lt-HELD.true w.value-is
+      | else-next-lt-HELD w ↦ next-held w.if-next-lt-HELD.false w.value-is
+    ] in
     left-more at.invariant c.loop-i-test.true passes c.if-next-lt-HELD.value next
 
 pub returns : goal.returns

@@ -25,26 +25,26 @@ pub put_lines-n-requires : goal.put_lines-n-requires
 put_lines-n-requires c =
     let a = c.args in
     let passed = tested a.present a.wanted a.channel (as-said c.value-here.type_inv c.value-here.ensures)
-        (as-said c.value-there.type_inv c.value-there.ensures) c.possible.ensures c.possible-2.ensures c.if-channel-good.false in
+    (as-said c.value-there.type_inv c.value-there.ensures) c.possible.ensures c.possible-2.ensures c.if-channel-good.false in
     (may-possible a.present a.wanted a.channel a.buffer.now passed, omega arith)
 
 pub returns-then-buffer-n : goal.returns-then-buffer-n
 returns-then-buffer-n c =
     let a = c.args in
     let passed = tested a.present a.wanted a.channel (as-said c.value-here.type_inv c.value-here.ensures)
-        (as-said c.value-there.type_inv c.value-there.ensures) c.possible.ensures c.possible-2.ensures c.if-channel-good.false in
+    (as-said c.value-there.type_inv c.value-there.ensures) c.possible.ensures c.possible-2.ensures c.if-channel-good.false in
     is-short a.present a.wanted a.channel a.buffer.now passed c.put_lines-n.ensures c.if-buffer-n.true
 
 pub slice_bounds-write_text-end : goal.slice_bounds-write_text-end
 slice_bounds-write_text-end c =
     let a = c.args in
     let passed = tested a.present a.wanted a.channel (as-said c.value-here.type_inv c.value-here.ensures)
-        (as-said c.value-there.type_inv c.value-there.ensures) c.possible.ensures c.possible-2.ensures c.if-channel-good.false in
+    (as-said c.value-there.type_inv c.value-there.ensures) c.possible.ensures c.possible-2.ensures c.if-channel-good.false in
     is_within a.present a.wanted a.channel a.buffer.now passed c.put_lines-n.ensures
 
 pub returns : goal.returns
 returns c =
     let a = c.args in
     let passed = tested a.present a.wanted a.channel (as-said c.value-here.type_inv c.value-here.ensures)
-        (as-said c.value-there.type_inv c.value-there.ensures) c.possible.ensures c.possible-2.ensures c.if-channel-good.false in
+    (as-said c.value-there.type_inv c.value-there.ensures) c.possible.ensures c.possible-2.ensures c.if-channel-good.false in
     is_whole a.present a.wanted a.channel a.buffer.now passed c.put_lines-n.ensures c.if-buffer-n.false c.write_text.ensures
