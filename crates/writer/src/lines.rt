@@ -4,7 +4,7 @@ ghost use Rattle.std.specs.Prelude.{◌≡◌, true, ◌+◌, ◌≤◌, ◌<◌
 ghost use Rattle.registers.specs.Text.{same};
 ghost use Rattle.registers.specs.Label.{most_text, held_in, quoted_text};
 ghost use Rattle.registers.specs.Settings.{count, table_count, kind_of, possible_settings, answer_of};
-ghost use Rattle.interpreter.specs.Events.{result};
+ghost use Rattle.interpreter.specs.Events.{result_of};
 ghost use Rattle.writer.specs.Lines.{number_of, line_for, line_at, row_at, slot_of, lines_to, label_for, lines_for, written};
 ghost use Rattle.writer.specs.LinesParts.{Put, Value, text_count, text_table, text_at, word_place, most_value, most_one_line, most_lines};
 
@@ -29,7 +29,7 @@ pub struct Written {
 impl Outcome {
     // Gives the refusal's number in 02, 0 where there is none.
     pub fn number(self) -> u8
-        ensures* { λ r. ⌜ r ≡ number_of self ⌝ }
+        ensures { result ≡ number_of self }
     {
         match self {
             Outcome::Done => 0,
@@ -61,7 +61,7 @@ const ROOM: usize = 1024;
 // Writes a text of the table at a place, and gives where it ends.
 fn put_from(table: &[u8], text: usize, out: &mut [u8], at: usize) -> usize
     requires { (table.now ≡ text_table) × (text < text_count) × (at + most_value ≤ length out.old) }
-    ensures* { λ r. ⌜ Put out.old at (text_at text) r out.new ⌝ }
+    ensures { Put out.old at (text_at text) result out.new }
 {
     let row = text * TEXT_SIZE;
     let start = row + 1;
@@ -72,7 +72,7 @@ fn put_from(table: &[u8], text: usize, out: &mut [u8], at: usize) -> usize
 // Writes a header with the blank after it, or a word: how many bytes it has, its bytes, and zeros.
 fn put_text(text: usize, out: &mut [u8], at: usize) -> usize
     requires { (text < text_count) × (at + most_value ≤ length out.old) }
-    ensures* { λ r. ⌜ Put out.old at (text_at text) r out.new ⌝ }
+    ensures { Put out.old at (text_at text) result out.new }
 {
     let table = b"\
         \x05OUTP \0\0\0\0\0\0\0\0\0\0\0\0\0\0\0\
@@ -118,7 +118,7 @@ fn put_text(text: usize, out: &mut [u8], at: usize) -> usize
 
 // Gives the place of a setting's word in the table of texts; of a setting that has no words it says nothing.
 fn word_of(row: usize, value: i32) -> usize
-    ensures* { λ r. ⌜ r ≡ word_place row value ⌝ }
+    ensures { result ≡ word_place row value }
 {
     if row == MONITOR {
         if value < 1 {
@@ -144,7 +144,7 @@ fn word_of(row: usize, value: i32) -> usize
 // Writes a setting's value as its query answers it.
 fn put_value(row: usize, value: i32, out: &mut [u8], at: usize) -> usize
     requires { Value row value × (at + most_value ≤ length out.old) }
-    ensures* { λ r. ⌜ Put out.old at (answer_of (kind_of row) value) r out.new ⌝ }
+    ensures { Put out.old at (answer_of (kind_of row) value) result out.new }
 {
     let values = Settings::values_of(row);
     match values {
@@ -157,7 +157,7 @@ fn put_value(row: usize, value: i32, out: &mut [u8], at: usize) -> usize
 // Writes a setting's line.
 fn put_line(row: usize, value: i32, out: &mut [u8], at: usize) -> usize
     requires { Value row value × (at + most_one_line ≤ length out.old) }
-    ensures* { λ r. ⌜ Put out.old at (line_for row value) r out.new ⌝ }
+    ensures { Put out.old at (line_for row value) result out.new }
 {
     let header = put_text(row, out, at);
     let end = put_value(row, value, out, header);
@@ -167,7 +167,7 @@ fn put_line(row: usize, value: i32, out: &mut [u8], at: usize) -> usize
 
 // Gives the row that comes at a place: to range R24V the range comes before the voltage.
 fn row_at(wide: bool, place: usize) -> usize
-    ensures* { λ r. ⌜ r ≡ row_at wide place ⌝ }
+    ensures { result ≡ row_at wide place }
 {
     if wide & (place == Settings::VOLTAGE) {
         return Settings::RANGE;
@@ -180,7 +180,7 @@ fn row_at(wide: bool, place: usize) -> usize
 
 // Gives a row's slot on a channel; a single setting has the same on both.
 fn slot_of(channel: u8, row: usize) -> usize
-    ensures* { λ r. ⌜ r ≡ slot_of channel row ⌝ }
+    ensures { result ≡ slot_of channel row }
 {
     if channel != SECOND {
         return row;
@@ -197,7 +197,7 @@ fn slot_of(channel: u8, row: usize) -> usize
 // Writes the line of a slot, if it differs.
 fn put_row(present: Settings, wanted: Settings, row: usize, out: &mut [u8], at: usize) -> usize
     requires { (row < count) × (possible_settings wanted ≡ true) × (at + most_one_line ≤ length out.old) }
-    ensures* { λ r. ⌜ Put out.old at (line_at present wanted row) r out.new ⌝ }
+    ensures { Put out.old at (line_at present wanted row) result out.new }
 {
     let here = present.value(row);
     let there = wanted.value(row);
@@ -210,7 +210,7 @@ fn put_row(present: Settings, wanted: Settings, row: usize, out: &mut [u8], at: 
 // Writes the lines of all of a channel's rows that differ.
 fn put_rows(present: Settings, wanted: Settings, channel: u8, out: &mut [u8]) -> usize
     requires { (possible_settings wanted ≡ true) × (most_lines ≤ length out.old) }
-    ensures* { λ r. ⌜ Put out.old 0 (lines_to present wanted channel table_count) r out.new ⌝ }
+    ensures { Put out.old 0 (lines_to present wanted channel table_count) result out.new }
 {
     let wide = 1 <= wanted.value(slot_of(channel, Settings::RANGE));
     let mut at: usize = 0;
@@ -230,7 +230,7 @@ fn put_rows(present: Settings, wanted: Settings, channel: u8, out: &mut [u8]) ->
 
 // Tells whether two texts are the same.
 fn is_same(one: &[u8], other: &[u8]) -> bool
-    ensures* { λ r. ⌜ r ≡ same one.now other.now ⌝ }
+    ensures { result ≡ same one.now other.now }
 {
     if one.len() != other.len() {
         return false;
@@ -248,7 +248,7 @@ fn is_same(one: &[u8], other: &[u8]) -> bool
 // Writes a text in its quotes.
 fn put_quoted(text: &[u8], out: &mut [u8], at: usize) -> usize
     requires { (length text.now ≡ most_text) × (at + 34 ≤ length out.old) }
-    ensures* { λ r. ⌜ Put out.old at (quoted_text (held_in text.now)) r out.new ⌝ }
+    ensures { Put out.old at (quoted_text (held_in text.now)) result out.new }
 {
     at + label::write_label(text, &mut out[at..])
 }
@@ -256,7 +256,7 @@ fn put_quoted(text: &[u8], out: &mut [u8], at: usize) -> usize
 // Writes the line of the display's text.
 fn put_label(text: &[u8], out: &mut [u8], at: usize) -> usize
     requires { (length text.now ≡ most_text) × (at + most_one_line ≤ length out.old) }
-    ensures* { λ r. ⌜ Put out.old at (label_for (held_in text.now)) r out.new ⌝ }
+    ensures { Put out.old at (label_for (held_in text.now)) result out.new }
 {
     let header = put_text(LABEL, out, at);
     let end = put_quoted(text, out, header);
@@ -267,7 +267,7 @@ fn put_label(text: &[u8], out: &mut [u8], at: usize) -> usize
 // Writes the lines of all settings of a channel that differ.
 fn put_lines(present: Settings, wanted: Settings, channel: u8, out: &mut [u8]) -> usize
     requires { (possible_settings wanted ≡ true) × (most_lines ≤ length out.old) }
-    ensures* { λ r. ⌜ Put out.old 0 (lines_for present wanted channel) r out.new ⌝ }
+    ensures { Put out.old 0 (lines_for present wanted channel) result out.new }
 {
     let at = put_rows(present, wanted, channel, out);
     let here = present.text;
@@ -281,7 +281,7 @@ fn put_lines(present: Settings, wanted: Settings, channel: u8, out: &mut [u8]) -
 // Writes the lines into the buffer, if it has room for all of them; a refusal leaves it as it was. Number 6 tests both whole records, the
 // settings of the other channel too, though they get no line: a record that breaks a limit anywhere is no box's.
 pub fn write(present: Settings, wanted: Settings, channel: u8, buffer: &mut [u8]) -> Written
-    ensures* { λ r. ⌜ result (number_of r.outcome) r.length buffer.new ≡ written present wanted channel buffer.old ⌝ }
+    ensures { result_of (number_of result.outcome) result.length buffer.new ≡ written present wanted channel buffer.old }
 {
     let here = present.value(Settings::EXAM);
     let there = wanted.value(Settings::EXAM);

@@ -141,13 +141,9 @@ fed-sent (x ∷ xs) p h s quiet = go (eqb x 10) refl xs refl (λ q k t n. fed-se
         rw (first_more x xs e, ends_more x xs e) (ap (λ (k : Progress). fed k (first_line xs)) here ∙ on ∙ part-more p x (first_line xs) (ends xs))
 
 -- where it ends, as the search for its newline tells
-module _ (bytes : Text) (at end : ℕ) (is : end ≡ at + index_of 10 (slice at (length bytes) bytes)) (within : end ≤ length bytes) where
+module _ (bytes : Text) (at end : ℕ) (is : end ≡ at + index_of 10 (drop at bytes)) (within : end ≤ length bytes) where
   abbrev l : Text
   l = drop at bytes
-
-  here : end ≡ at + index_of 10 l
-  unfolding slice
-  here = rw (take-length bytes) at is
 
   long : length (first_line l) ≡ min (index_of 10 l + 1) (length bytes - at)
   unfolding first_line
@@ -155,14 +151,12 @@ module _ (bytes : Text) (at end : ℕ) (is : end ≡ at + index_of 10 (slice at 
 
   pub end-there : end < length bytes → (end + 1 ≡ at + length (first_line l)) × (true ≡ ends l)
   end-there h =
-      let e = here in
       let n = long in
       let d = length-drop at bytes in
       (omega arith, sym (lt-ltb (index_of 10 l) (length l) (omega arith)))
 
   pub end-open : at < length bytes → length bytes ≤ end → (end ≡ at + length (first_line l)) × (false ≡ ends l)
   end-open h k =
-      let e = here in
       let n = long in
       let d = length-drop at bytes in
       (omega arith, sym (le-ltb (index_of 10 l) (length l) (omega arith)))
