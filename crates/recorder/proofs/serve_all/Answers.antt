@@ -1,4 +1,4 @@
-use Rattle.std.proofs.Common.{arith, length, drop}
+use Rattle.std.proofs.Common.{arith, drop}
 use lib.ListN.{length-drop}
 use Rattle.registers.proofs.text.Laws.{other, start-short, index-start}
 use Rattle.recorder.proofs.serve_all.Goals as goal
