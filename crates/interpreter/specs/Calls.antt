@@ -3,7 +3,7 @@ use Rattle.std.specs.Prelude.{◌≡◌, Bool, true, false, List, [], ◌∷◌,
 use Rattle.std.proofs.Math.ListN as L
 use Rattle.registers.specs.Text.{Text, every}
 use Rattle.interpreter.specs.Box.{Memory, right_size, altered_in, Box, most_answer}
-use Rattle.interpreter.specs.Events.{Event, started, received, take, condition, look, altered, mislent, Result, result, lent, after, results}
+use Rattle.interpreter.specs.Events.{Event, started, received, take, condition, look, altered, mislent, Result, result_of, lent, after, results}
 use Rattle.interpreter.specs.State.{box_of, possible_state, rightly, Happens}
 use Rattle.interpreter.specs.Histories.{answers, sent, copied}
 use Rattle.interpreter.specs.Server.{lines_of, events_of, begun, Serves}
@@ -21,7 +21,7 @@ pub data Call (s : State) (m : Memory) (t : State) (n : Memory) : List Event →
   no_chunk : {w w' : Memory} {input output left : Text} {number read written : ℕ} → right_size w ≡ false
       → Serves s w input output number read written t w' left → n ≡ m → Call s m t n [] []
   -- no call: the caller alters the store
-  alters : {i x : ℕ} → t ≡ s → n ≡ altered_in i x m → Call s m t n (altered i x ∷ []) (result 0 0 [] ∷ [])
+  alters : {i x : ℕ} → t ≡ s → n ≡ altered_in i x m → Call s m t n (altered i x ∷ []) (result_of 0 0 [] ∷ [])
 
 -- each call is given the state that the one before handed back, and finds the memory as it was left
 pub data Calls (t : State) (n : Memory) : State → Memory → List Event → List Result → Type 0 where

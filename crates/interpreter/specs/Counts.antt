@@ -5,7 +5,7 @@ use Rattle.std.proofs.Math.ListN as L
 use Rattle.registers.specs.Text.{Text}
 use Rattle.interpreter.specs.Box.{Memory, Box}
 use Rattle.interpreter.specs.Line.{newlines}
-use Rattle.interpreter.specs.Events.{Event, started, received, take, condition, look, altered, mislent, Result, result}
+use Rattle.interpreter.specs.Events.{Event, started, received, take, condition, look, altered, mislent, Result, result_of}
 use Rattle.interpreter.specs.Histories.{is_piece, how_many, results_of, chosen}
 use Rattle.interpreter.specs.OfCalls.{Ran}
 use Rattle.interpreter.specs.declared.state.State.{State}
@@ -23,7 +23,7 @@ pieces_of (mislent buffer ∷ es) = pieces_of es
 
 -- what a piece tells, on whatever box
 abbrev pub own_count : Text → Result
-own_count xs = result 0 (newlines xs) []
+own_count xs = result_of 0 (newlines xs) []
 
 -- the results of the pieces alone
 abbrev pub CountsAre : Type 0

@@ -8,7 +8,7 @@ use Rattle.interpreter.specs.Cuts.{cut_open}
 use Rattle.interpreter.specs.Box.{Memory, Box, box, raise, answer_is}
 use Rattle.interpreter.specs.Unit.{raisable}
 use Rattle.interpreter.specs.Line.{at_newline, attempt, refuse, run_units, finished}
-use Rattle.interpreter.specs.Events.{Event, started, received, take, condition, look, altered, mislent, Result, result, Happened, happened, happens, lent}
+use Rattle.interpreter.specs.Events.{Event, started, received, take, condition, look, altered, mislent, Result, result_of, Happened, happened, happens, lent}
 use Rattle.interpreter.specs.Histories.{newline}
 use Rattle.interpreter.specs.State.{box_of, admitted, rightly, Happens}
 use Rattle.interpreter.specs.Demand3.{obeyed, refusal}
@@ -33,7 +33,7 @@ refusal_of s m e = if rightly m e then (if admitted s e then number_for (box_of 
 -- unchanged and the count, length or status byte is 0. The lent buffer is never touched
 
 abbrev pub leaves : Box → Event → ℕ → Happened
-leaves b e n = happened (result n (if eqb n 1 then length b.core.answer else 0) (lent e)) (if eqb n 2 then raise 420 b else b)
+leaves b e n = happened (result_of n (if eqb n 1 then length b.core.answer else 0) (lent e)) (if eqb n 2 then raise 420 b else b)
 
 -- a call, known by its promise alone, left the result r, the state t and the lent memory n
 pub record Refuses (s : State) (m : Memory) (e : Event) (r : Result) (t : State) (n : Memory) : Type 0 where

@@ -10,7 +10,7 @@ use Rattle.interpreter.specs.Box as lent
 use Rattle.interpreter.specs.Box.{Box, box, raise, answer_is, power_up, blank}
 use Rattle.interpreter.specs.Reply.{joined}
 use Rattle.interpreter.specs.Line.{attempt, next, finished, units_of, at_newline, held, byte, newlines}
-use Rattle.interpreter.specs.Events.{Event, started, received, take, condition, look, altered, mislent, Result, result, happens, results}
+use Rattle.interpreter.specs.Events.{Event, started, received, take, condition, look, altered, mislent, Result, result_of, happens, results}
 use Rattle.interpreter.specs.Histories.{is_piece, no_piece}
 use Rattle.interpreter.specs.State.{Happens, Started}
 use Rattle.interpreter.specs.Calls.{Calls}
@@ -244,7 +244,7 @@ Invents p = (es : List Event) × (xs : Text) × Typed es (received xs) × ((tell
 -- it is the box, but that every piece has the same count
 abbrev pub invented : ℕ → Box → Event → Result
 invented k b started = (happens b started).result
-invented k b (received xs) = result 0 k []
+invented k b (received xs) = result_of 0 k []
 invented k b (take buffer) = (happens b (take buffer)).result
 invented k b (condition x n) = (happens b (condition x n)).result
 invented k b look = (happens b look).result

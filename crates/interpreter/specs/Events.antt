@@ -26,8 +26,8 @@ pub record Result : Type 0 where
   pub value : ℕ
   pub buffer : Text
 
-abbrev pub result : ℕ → ℕ → Text → Result
-result n v t = record { number = n; value = v; buffer = t }
+abbrev pub result_of : ℕ → ℕ → Text → Result
+result_of n v t = record { number = n; value = v; buffer = t }
 
 pub record Happened : Type 0 where
   pub result : Result
@@ -40,18 +40,18 @@ happened r b = record { result = r; box = b }
 unfoldable pub taken : Text → Box → Happened
 taken buffer b =
     let a = b.core.answer in
-    if empty a then happened (result 2 0 buffer) (raise 420 b)
+    if empty a then happened (result_of 2 0 buffer) (raise 420 b)
     else (if leb (length a) (length buffer)
-    then happened (result 0 (length a) (a ++ drop (length a) buffer)) (answer_is [] b)
-    else happened (result 1 (length a) buffer) b)
+    then happened (result_of 0 (length a) (a ++ drop (length a) buffer)) (answer_is [] b)
+    else happened (result_of 1 (length a) buffer) b)
 
 -- "the box reports the 16-bit operation condition register"; by 02 (#104) LOCK and WARNing have each "its own condition event"; number 3
 unfoldable pub reported : RegisterSet → ℕ → Box → Happened
 reported x n b =
     if leb n widest_group
-    then happened (result 0 0 [])
+    then happened (result_of 0 0 [])
     (box (with_registers (set_reported x n b.core.registers) b.core) b.trouble)
-    else happened (result 3 0 []) b
+    else happened (result_of 3 0 []) b
 
 -- look: "the status byte, with bit 6 as below. It changes nothing"
 abbrev pub seen : Box → ℕ
@@ -60,13 +60,13 @@ seen b = status_byte b.core.registers b.trouble (not (empty b.core.answer))
 -- an event on a state that could be the box's: number 4, which is tested before numbers 1 to 3, is in State.Happens. "A store of the wrong
 -- length makes every event but power-up refuse with a new number 5, as number 4"
 unfoldable pub happens : Box → Event → Happened
-happens b started = happened (result 0 0 []) (power_up b.core.memory)
-happens b (received xs) = happened (result 0 (newlines xs) []) (piece b xs)
+happens b started = happened (result_of 0 0 []) (power_up b.core.memory)
+happens b (received xs) = happened (result_of 0 (newlines xs) []) (piece b xs)
 happens b (take buffer) = taken buffer b
 happens b (condition x n) = reported x n b
-happens b look = happened (result 0 (seen b) []) b
-happens b (altered i x) = happened (result 0 0 []) (box (with_memory (altered_in i x b.core.memory) b.core) b.trouble)
-happens b (mislent buffer) = happened (result 5 0 buffer) b
+happens b look = happened (result_of 0 (seen b) []) b
+happens b (altered i x) = happened (result_of 0 0 []) (box (with_memory (altered_in i x b.core.memory) b.core) b.trouble)
+happens b (mislent buffer) = happened (result_of 5 0 buffer) b
 
 -- the buffer that an event lends; no event but take has one
 abbrev pub lent : Event → Text

@@ -5,7 +5,7 @@ use Rattle.registers.specs.Status.{registers_of, trouble_of, possible_status}
 use Rattle.registers.specs.declared.settings.Settings.{Settings}
 use Rattle.registers.specs.declared.status.Status.{Status}
 use Rattle.interpreter.specs.Box.{Memory, right_size, Box, box, power_up, most_line, most_answer}
-use Rattle.interpreter.specs.Events.{Event, started, received, take as takes, condition, look, altered, mislent, Result, result, happened, happens, lent}
+use Rattle.interpreter.specs.Events.{Event, started, received, take as takes, condition, look, altered, mislent, Result, result_of, happened, happens, lent}
 use Rattle.interpreter.specs.declared.state.State.{State}
 use Rattle.interpreter.specs.declared.state.Outcome.{Outcome}
 use Rattle.interpreter.specs.declared.state.Outcome.TheVariants.{Done, BufferTooShort, NoAnswer, ConditionTooWide, ImpossibleState, WrongStore}
@@ -66,8 +66,8 @@ rightly m (mislent buffer) = false
 pub record Happens (s : State) (m : Memory) (e : Event) (r : Result) (t : State) (m' : Memory) : Type 0 where
   pub possible : rightly m e ≡ true → admitted s e ≡ true
       → (possible_state t ≡ true) × (happened r (box_of t m') ≡ happens (box_of s m) e) × (right_size m' ≡ right_size m)
-  pub impossible : rightly m e ≡ true → admitted s e ≡ false → (t ≡ s) × (r ≡ result 4 0 (lent e)) × (m' ≡ m)
-  pub wrong : rightly m e ≡ false → (t ≡ s) × (r ≡ result 5 0 (lent e)) × (m' ≡ m)
+  pub impossible : rightly m e ≡ true → admitted s e ≡ false → (t ≡ s) × (r ≡ result_of 4 0 (lent e)) × (m' ≡ m)
+  pub wrong : rightly m e ≡ false → (t ≡ s) × (r ≡ result_of 5 0 (lent e)) × (m' ≡ m)
 
 -- "Power-up: the first state", which no state comes before; it is lent nothing, and whatever memory there is stays
 pub record Started (t : State) : Type 0 where

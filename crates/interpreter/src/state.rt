@@ -1,7 +1,7 @@
 // The box's state, and the five events that can happen to it.
 ghost use Rattle.std.specs.Prelude.{◌≡◌, []};
 ghost use Rattle.interpreter.specs.Box.{memory};
-ghost use Rattle.interpreter.specs.Events.{received, take, condition, look, result};
+ghost use Rattle.interpreter.specs.Events.{received, take, condition, look, result_of};
 ghost use Rattle.interpreter.specs.State.{number_of, Happens, Started};
 ghost use Rattle.interpreter.specs.StateParts.{Tested, flow_of, state_of};
 
@@ -77,7 +77,7 @@ pub struct Seen {
 impl Outcome {
     // Gives the refusal's number in 01's table, 0 where there is none.
     pub fn number(self) -> u8
-        ensures* { λ r. ⌜ r ≡ number_of self ⌝ }
+        ensures { result ≡ number_of self }
     {
         match self {
             Outcome::Done => 0,
@@ -92,7 +92,7 @@ impl Outcome {
 
 // Takes a state apart: its small part, with no byte taken in yet.
 pub(crate) fn flow_of(state: State) -> Flow
-    ensures* { λ r. ⌜ r ≡ flow_of state ⌝ }
+    ensures { result ≡ flow_of state }
 {
     let settings = state.settings;
     let status = state.status;
@@ -111,7 +111,7 @@ pub(crate) fn flow_of(state: State) -> Flow
 
 // Puts a state together again from its small part and its arrays.
 pub(crate) fn state_of(flow: Flow, line: [u8; LINE], answer: [u8; ANSWER]) -> State
-    ensures* { λ r. ⌜ r ≡ state_of flow line answer ⌝ }
+    ensures { result ≡ state_of flow line answer }
 {
     let settings = flow.present.settings;
     let status = flow.present.status;
@@ -129,7 +129,7 @@ pub(crate) fn state_of(flow: Flow, line: [u8; LINE], answer: [u8; ANSWER]) -> St
 impl State {
     // Tests for refusal 4, on the record's own numbers.
     pub(crate) fn possible(self) -> bool
-        ensures* { λ r. ⌜ Tested self r ⌝ }
+        ensures { Tested self result }
     {
         let good = self.settings.possible() & self.status.possible();
         good & (self.filled <= LINE) & (self.waiting <= ANSWER)
@@ -137,7 +137,7 @@ impl State {
 
     // Makes the first state.
     pub fn power_up() -> State
-        ensures* { λ r. ⌜ Started r ⌝ }
+        ensures { Started result }
     {
         State {
             settings: Settings::reset(),
@@ -152,7 +152,7 @@ impl State {
 
     // Takes in bytes of any number, also none; the count is that of their newlines.
     pub fn piece(self, store: &mut [u8], bytes: &[u8]) -> Fed
-        ensures* { λ r. ⌜ Happens self (memory store.old) (received bytes.now) (result (number_of r.outcome) r.count []) r.state (memory store.new) ⌝ }
+        ensures { Happens self (memory store.old) (received bytes.now) (result_of (number_of result.outcome) result.count []) result.state (memory store.new) }
     {
         if store.len() != STORE {
             return Fed {
@@ -180,7 +180,7 @@ impl State {
 
     // Copies the waiting answer to the start of the buffer; it is then gone.
     pub fn take(mut self, store: &[u8], buffer: &mut [u8]) -> Taken
-        ensures* { λ r. ⌜ Happens self (memory store.now) (take buffer.old) (result (number_of r.outcome) r.length buffer.new) r.state (memory store.now) ⌝ }
+        ensures { Happens self (memory store.now) (take buffer.old) (result_of (number_of result.outcome) result.length buffer.new) result.state (memory store.now) }
     {
         if store.len() != STORE {
             return Taken {
@@ -224,7 +224,7 @@ impl State {
 
     // Takes in the condition that the box reports for a register set.
     pub fn condition(mut self, store: &[u8], set: RegisterSet, value: u16) -> Reported
-        ensures* { λ r. ⌜ Happens self (memory store.now) (condition set value) (result (number_of r.outcome) 0 []) r.state (memory store.now) ⌝ }
+        ensures { Happens self (memory store.now) (condition set value) (result_of (number_of result.outcome) 0 []) result.state (memory store.now) }
     {
         if store.len() != STORE {
             return Reported {
@@ -253,7 +253,7 @@ impl State {
 
     // Gives the status byte. It changes nothing, so the state is not handed back.
     pub fn look(self, store: &[u8]) -> Seen
-        ensures* { λ r. ⌜ Happens self (memory store.now) look (result (number_of r.outcome) r.byte []) self (memory store.now) ⌝ }
+        ensures { Happens self (memory store.now) look (result_of (number_of result.outcome) result.byte []) self (memory store.now) }
     {
         if store.len() != STORE {
             return Seen {

@@ -1,5 +1,5 @@
 // Kinds of bytes, and where white space ends.
-ghost use Rattle.std.specs.Prelude.{◌≡◌, ◌+◌, length, drop};
+ghost use Rattle.std.specs.Prelude.{◌≡◌, ◌+◌, ◌≤◌, length, drop};
 ghost use Rattle.registers.specs.Text.{white, start, digit, letter, capital, first, index_of};
 
 pub fn is_white(b: u8) -> bool
@@ -53,7 +53,8 @@ pub fn white_end(text: &[u8], at: usize) -> usize
 
 // Finds where a byte stands first from a place on; the text's end where it doesn't stand again.
 pub fn find(text: &[u8], at: usize, b: u8) -> usize
-    ensures { result ≡ at + index_of b (drop at text.now) }
+    ensures place { result ≡ at + index_of b (drop at text.now) }
+    ensures within { at ≤ length text.now → result ≤ length text.now }
 {
     let mut i = at;
     while i < text.len() {

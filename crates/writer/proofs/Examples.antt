@@ -13,7 +13,7 @@ use Rattle.registers.specs.Label.{may_stand, padded, possible_text}
 use Rattle.registers.specs.declared.settings.Settings.{Settings}
 use Rattle.interpreter.specs.Header.{numbered}
 use Rattle.interpreter.specs.Rows.{second_of}
-use Rattle.interpreter.specs.Events.{result}
+use Rattle.interpreter.specs.Events.{result_of}
 use Rattle.writer.specs.Lines.{short_names, joined_names, header_for, line_for, label_for, slot_of, row_at, lines_to, lines_for, writable, written, aimed_to, aimed}
 
 -- 20.0 V in range R24V, the output on, a peak limit of -0.5 A, the monitor at CURRent
@@ -39,8 +39,8 @@ downward2 = bytes "VOLT2 0.0\nVOLT2:RANG R12V\nCURR2:LIM:PEAK:LOW -4.0\nDISP:BRI
 pub record MetLines : Type 0 where
   pub up : lines_for at_reset high 1 ≡ upward
   pub down : lines_for high at_reset 1 ≡ downward
-  pub same : written high high 1 [] ≡ result 0 0 []
-  pub short : written at_reset (with_value output (pos 1) at_reset) 1 (0 ∷ 0 ∷ []) ≡ result 7 7 (0 ∷ 0 ∷ [])
+  pub same : written high high 1 [] ≡ result_of 0 0 []
+  pub short : written at_reset (with_value output (pos 1) at_reset) 1 (0 ∷ 0 ∷ []) ≡ result_of 7 7 (0 ∷ 0 ∷ [])
   -- channel 2: its own settings and the single ones, but not channel 1's
   pub up2 : lines_for at_reset high2 2 ≡ upward2
   pub down2 : lines_for high2 at_reset 2 ≡ downward2
@@ -48,10 +48,10 @@ pub record MetLines : Type 0 where
   -- the display's text, on either channel, and one that breaks its limits
   pub label : lines_for (with_text (bytes "x") at_reset) (with_text (bytes "a;b") at_reset) 2 ≡ bytes "DISP:TEXT \"a;b\"\n"
   pub no_label : lines_for (with_text (bytes "x") at_reset) at_reset 1 ≡ bytes "DISP:TEXT \"\"\n"
-  pub bad_label : written at_reset (with_text (bytes "a*") at_reset) 1 [] ≡ result 6 0 []
-  pub channel : written at_reset at_reset 3 (0 ∷ []) ≡ result 6 0 (0 ∷ [])
-  pub exam_modes : written at_reset (with_value exam (pos 1) at_reset) 1 [] ≡ result 6 0 []
-  pub above_range : written at_reset (with_value voltage (pos 200) at_reset) 1 [] ≡ result 6 0 []
+  pub bad_label : written at_reset (with_text (bytes "a*") at_reset) 1 [] ≡ result_of 6 0 []
+  pub channel : written at_reset at_reset 3 (0 ∷ []) ≡ result_of 6 0 (0 ∷ [])
+  pub exam_modes : written at_reset (with_value exam (pos 1) at_reset) 1 [] ≡ result_of 6 0 []
+  pub above_range : written at_reset (with_value voltage (pos 200) at_reset) 1 [] ≡ result_of 6 0 []
 
 pub met-lines : MetLines
 unfolding if◌then◌else◌ bytes same small short_form in_places decimal tenths table slots setting_at at_reset wide_range narrow lowest highest within possible_values possible_settings padded possible_text answer_of

@@ -23,7 +23,7 @@ use Rattle.registers.proofs.label.Record.{HeldRight, held-right}
 use Rattle.interpreter.proofs.Lists.{same-eq}
 use Rattle.interpreter.specs.Box.{Core, Box, box, with_settings, with_line, with_answer}
 use Rattle.interpreter.specs.Line.{interrupted, piece}
-use Rattle.interpreter.specs.Events.{Event, received, Result, result, happens, after}
+use Rattle.interpreter.specs.Events.{Event, received, Result, result_of, happens, after}
 use Rattle.interpreter.specs.State.{box_of}
 use Rattle.interpreter.proofs.Choices.{if₂}
 use Rattle.interpreter.proofs.demands.Demand2.{demand2}
@@ -435,12 +435,12 @@ leads p w channel lp lw ok b ready =
 -- ---- of calls
 
 -- what was written, where nothing was refused
-lines-written : (p w : Settings) (channel : ℕ) (buffer left : Text) (n : ℕ) → result 0 n left ≡ written p w channel buffer
+lines-written : (p w : Settings) (channel : ℕ) (buffer left : Text) (n : ℕ) → result_of 0 n left ≡ written p w channel buffer
     → (writable p w channel ≡ true) × (take n left ≡ lines_for p w channel)
 unfolding written if◌then◌else◌
 lines-written p w channel buffer left n e = go (writable p w channel) refl (leb (length (lines_for p w channel)) (length buffer)) refl
   where
-    never : (k : ℕ) (v : ℕ) (x : Text) → (k ≡ 0 → ⊥) → result 0 n left ≡ result k v x → ⊥
+    never : (k : ℕ) (v : ℕ) (x : Text) → (k ≡ 0 → ⊥) → result_of 0 n left ≡ result_of k v x → ⊥
     never k v x apart f = apart (sym (ap (λ (r : Result). r.number) f))
 
     go : (s : Bool) → writable p w channel ≡ s → (t : Bool) → leb (length (lines_for p w channel)) (length buffer) ≡ t
@@ -448,7 +448,7 @@ lines-written p w channel buffer left n e = go (writable p w channel) refl (leb 
     go false q t r = absurd (never 6 0 buffer (λ z. omega (arith, z)) (rw q at e))
     go true q false r = absurd (never 7 (length (lines_for p w channel)) buffer (λ z. omega (arith, z)) (rw (q, r) at e))
     go true q true r =
-        let f : result 0 n left ≡ result 0 (length (lines_for p w channel)) (lines_for p w channel ++ drop (length (lines_for p w channel)) buffer) = rw (q, r) at e in
+        let f : result_of 0 n left ≡ result_of 0 (length (lines_for p w channel)) (lines_for p w channel ++ drop (length (lines_for p w channel)) buffer) = rw (q, r) at e in
         (q, ap₂ take (ap (λ (x : Result). x.value) f) (ap (λ (x : Result). x.buffer) f) ∙ take-append_seam (lines_for p w channel) (drop (length (lines_for p w channel)) buffer))
 
 leads-of-calls : LeadsOfCalls

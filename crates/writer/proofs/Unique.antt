@@ -4,7 +4,7 @@ use Prim.Native.Nat.{ℕ}
 use native.Mathlib.Omega.{arith}
 use Rattle.registers.specs.Text.{Text}
 use Rattle.registers.specs.declared.settings.Settings.{Settings}
-use Rattle.interpreter.specs.Events.{Result, result}
+use Rattle.interpreter.specs.Events.{Result, result_of}
 use Rattle.writer.specs.Lines.{number_of, written}
 use Rattle.writer.specs.declared.lines.Outcome.{Outcome}
 use Rattle.writer.specs.declared.lines.Outcome.TheVariants.{Done, NotWritable, BufferTooShort}
@@ -21,7 +21,7 @@ outcome-unique BufferTooShort NotWritable e = absurd (omega arith)
 outcome-unique BufferTooShort BufferTooShort e = refl
 
 pub written-unique : (p w : Settings) (channel : ℕ) (buffer left left' : Text) (o o' : Outcome) (n n' : ℕ)
-    → result (number_of o) n left ≡ written p w channel buffer → result (number_of o') n' left' ≡ written p w channel buffer
+    → result_of (number_of o) n left ≡ written p w channel buffer → result_of (number_of o') n' left' ≡ written p w channel buffer
     → (o ≡ o') × (n ≡ n') × (left ≡ left')
 written-unique p w channel buffer left left' o o' n n' v v' =
     let is = v ∙ sym v' in

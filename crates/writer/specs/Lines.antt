@@ -14,7 +14,7 @@ use Rattle.interpreter.specs.Header.{numbered}
 use Rattle.interpreter.specs.Rows.{second_of}
 use Rattle.interpreter.specs.Box.{Memory, Box, box, with_settings}
 use Rattle.interpreter.specs.Line.{interrupted, piece}
-use Rattle.interpreter.specs.Events.{Event, received, Result, result}
+use Rattle.interpreter.specs.Events.{Event, received, Result, result_of}
 use Rattle.interpreter.specs.Histories.{Recut}
 use Rattle.interpreter.specs.State.{box_of, possible_state}
 use Rattle.interpreter.specs.Calls.{Calls}
@@ -105,8 +105,8 @@ unfoldable pub written : Settings → Settings → ℕ → Text → Result
 written p w channel buffer =
     let t = lines_for p w channel in
     if writable p w channel
-    then (if leb (length t) (length buffer) then result 0 (length t) (t ++ drop (length t) buffer) else result 7 (length t) buffer)
-    else result 6 0 buffer
+    then (if leb (length t) (length buffer) then result_of 0 (length t) (t ++ drop (length t) buffer) else result_of 7 (length t) buffer)
+    else result_of 6 0 buffer
 
 -- ---- what its lines do
 
@@ -144,7 +144,7 @@ Leads = (p w : Settings) (channel : ℕ) → Whole p → Whole w → writable p 
 
 -- the same of calls, known by their promises alone: what `write` left in its buffer is handed to the box, in any pieces
 abbrev pub LeadsOfCalls : Type 0
-LeadsOfCalls = (p w : Settings) (channel : ℕ) (buffer left : Text) (n : ℕ) → Whole p → Whole w → result 0 n left ≡ written p w channel buffer
+LeadsOfCalls = (p w : Settings) (channel : ℕ) (buffer left : Text) (n : ℕ) → Whole p → Whole w → result_of 0 n left ≡ written p w channel buffer
     → (s t : State) (m k : Memory) (es : List Event) (rs : List Result) → possible_state s ≡ true → Ready p (box_of s m)
     → Calls t k s m es rs → Recut es (received (take n left) ∷ [])
     → box_of t k ≡ led_to (aimed p w channel) (take n left) (box_of s m)

@@ -4,7 +4,7 @@ ghost use Rattle.std.specs.Prelude.{◌≡◌, true, ◌+◌, ◌≤◌, ◌<◌
 ghost use Rattle.registers.specs.Text.{same};
 ghost use Rattle.registers.specs.Label.{most_text, held_in, quoted_text};
 ghost use Rattle.registers.specs.Settings.{count, table_count, kind_of, possible_settings, answer_of};
-ghost use Rattle.interpreter.specs.Events.{result};
+ghost use Rattle.interpreter.specs.Events.{result_of};
 ghost use Rattle.writer.specs.Lines.{number_of, line_for, line_at, row_at, slot_of, lines_to, label_for, lines_for, written};
 ghost use Rattle.writer.specs.LinesParts.{Put, Value, text_count, text_table, text_at, word_place, most_value, most_one_line, most_lines};
 
@@ -281,7 +281,7 @@ fn put_lines(present: Settings, wanted: Settings, channel: u8, out: &mut [u8]) -
 // Writes the lines into the buffer, if it has room for all of them; a refusal leaves it as it was. Number 6 tests both whole records, the
 // settings of the other channel too, though they get no line: a record that breaks a limit anywhere is no box's.
 pub fn write(present: Settings, wanted: Settings, channel: u8, buffer: &mut [u8]) -> Written
-    ensures* { λ r. ⌜ result (number_of r.outcome) r.length buffer.new ≡ written present wanted channel buffer.old ⌝ }
+    ensures* { λ r. ⌜ result_of (number_of r.outcome) r.length buffer.new ≡ written present wanted channel buffer.old ⌝ }
 {
     let here = present.value(Settings::EXAM);
     let there = wanted.value(Settings::EXAM);

@@ -224,11 +224,11 @@ module _ (s : Settings) where
   call-held a t m n _ _ (no_chunk l w same) k h = same-held a t m n (w.wrong l).0 h
   call-held a t m n _ _ (alters e same) k h = same-held a t m n e h
 
-  calls-held : (a t : State) (m n : Memory) (es : List Event) (rs : List Result) → Calls t n a m es rs → every leaves_key es ≡ true
-      → HeldBox (box_of a m) → HeldBox (box_of t n)
-  calls-held a t m n _ _ done k h = h
-  calls-held a t m n _ _ (call {u = u} {k = l} {es = es} {fs = fs} {rs = rs} {qs = qs} p more) k h =
-      let q = every-parts es fs k in calls-held u t l n fs qs more q.1 (call-held a u m l es rs p q.0 h)
+  calls-held : (t : State) (n : Memory) (a : State) (m : Memory) (es : List Event) (rs : List Result) → Calls t n a m es rs
+      → every leaves_key es ≡ true → HeldBox (box_of a m) → HeldBox (box_of t n)
+  calls-held t n a m _ _ done k h = h
+  calls-held t n a m _ _ (call {u = u} {k = l} {es = es} {fs = fs} {rs = rs} {qs = qs} p more) k h =
+      let q = every-parts es fs k in calls-held t n u l fs qs more q.1 (call-held a u m l es rs p q.0 h)
 
 -- ---- the law
 
@@ -239,5 +239,5 @@ pub lock-holds : LockHolds
 lock-holds =
     record {
       histories = λ b es l k. history-held b.core.settings b es k (start b.core.settings b.core.registers l);
-      calls = λ s t m n es rs c l k. calls-held s.settings s t m n es rs c k (start s.settings _ l);
+      calls = λ s t m n es rs c l k. calls-held s.settings t n s m es rs c k (start s.settings _ l);
     }

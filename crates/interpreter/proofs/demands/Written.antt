@@ -66,10 +66,11 @@ answers-on (x ∷ xs) ys b e = go (eqb x 10) refl (λ c k. answers-on xs ys c k)
 
 -- ---- chunks
 
-pub any-chunks : AnyChunks
+chunks-heard : (t : State) (n : Memory) (s : State) (m : Memory) (text said : Text) → Ready s m → Written t n s m text said
+    → (box_of t n ≡ heard (box_of s m) (lines_of text)) × (said ≡ answers_to (box_of s m) (lines_of text))
 unfolding lines_of heard answers_to
-any-chunks s t m n _ _ r done = (refl, refl)
-any-chunks s t m n _ _ r (chunk {u = u} {k = k} {input = input} {output = output} {left = left} {text = text} {said = said} {number = number} {read = read} {written = written} w more) =
+chunks-heard t n s m _ _ r done = (refl, refl)
+chunks-heard t n s m _ _ r (chunk {u = u} {k = k} {input = input} {output = output} {left = left} {text = text} {said = said} {number = number} {read = read} {written = written} w more) =
     let b = box_of s m in
     let p = w.possible r.sized r.could in
     let box-is = (part-heard s u m k input output left number read written w r.sized r.could r.values).1 in
@@ -81,10 +82,13 @@ any-chunks s t m n _ _ r (chunk {u = u} {k = k} {input = input} {output = output
       sized = p.4;
       quiet = ap (λ (c : Box). c.core.answer) box-is ∙ heard-quiet b (lines_of (take read input)) r.quiet;
     } in
-    let on = any-chunks u t k n text said there more in (
+    let on = chunks-heard t n u k text said there more in (
       on.0 ∙ ap (λ (c : Box). heard c (lines_of text)) box-is ∙ sym (heard-on (take read input) text b r.quiet),
       ap₂ ◌++◌ told (on.1 ∙ ap (λ (c : Box). answers_to c (lines_of text)) box-is) ∙ sym (answers-on (take read input) text b r.quiet),
     )
+
+pub any-chunks : AnyChunks
+any-chunks s t m n text said r written = chunks-heard t n s m text said r written
 
 started-quiet : (m : Memory) → (power_up m).core.answer ≡ []
 unfolding power_up

@@ -21,11 +21,6 @@ use Rattle.interpreter.proofs.line.Pieces.{piece-append, newlines-append}
 
 -- ---- the first newline
 
--- where a byte stands in the rest of a text
-place : (x : ℕ) (l : Text) (at end : ℕ) → end ≡ at + index_of x (slice at (length l) l) → end - at ≡ index_of x (drop at l)
-unfolding slice
-place x l at end is = let e : end ≡ at + index_of x (drop at l) = rw (take-length l) at is in omega arith
-
 none_before : (l : Text) → newlines (take (index_of 10 l) l) ≡ 0
 unfolding newlines index_of index_after if◌then◌else◌
 none_before [] = refl
@@ -64,9 +59,9 @@ module _ (l : Text) where
   first-within = rw length-take (omega arith)
 
 -- the line that starts at a place, up to its newline
-module _ (bytes : Text) (at end : ℕ) (is : end ≡ at + index_of 10 (slice at (length bytes) bytes)) (within : end ≤ length bytes) where
+module _ (bytes : Text) (at end : ℕ) (is : end ≡ at + index_of 10 (drop at bytes)) (within : end ≤ length bytes) where
   here : end - at ≡ index_of 10 (drop at bytes)
-  here = place 10 bytes at end is
+  here = omega arith
 
   pub part-plain : newlines (take (end - at) (drop at bytes)) ≡ 0
   part-plain = rw here (none_before (drop at bytes))

@@ -45,7 +45,7 @@ use Rattle.interpreter.proofs.parameter.Words.{asked-word}
 
 -- a signed number of 32 bits comes back from its bits
 pub back : (z : ℤ) → mag z < 2147483648 → to_z w32 (of_z w32 z) ≡ z
-back z h = to_z-of_z (record { sfits = h })
+back z h = to_z-of_z {w = w32} (record { sfits = h })
 
 -- on and off as a number
 pub switched-byte : (b : Bool) → to_z w32 (bool_byte b) ≡ (if b then pos 1 else pos 0)

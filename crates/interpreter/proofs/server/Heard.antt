@@ -17,7 +17,7 @@ use Rattle.registers.proofs.Tests.{and-true}
 use Rattle.interpreter.specs.Cuts.{join_first}
 use Rattle.interpreter.specs.Box.{Memory, right_size, Core, Box, answer_is, most_line, most_answer}
 use Rattle.interpreter.specs.Line.{held, byte, piece}
-use Rattle.interpreter.specs.Events.{Event, received, take as takes, result, Happened, happened, happens, taken, after, results}
+use Rattle.interpreter.specs.Events.{Event, received, take as takes, result_of, Happened, happened, happens, taken, after, results}
 use Rattle.interpreter.specs.State.{box_of, possible_state}
 use Rattle.interpreter.specs.Histories.{results_of, answers, sent, copied}
 use Rattle.interpreter.specs.Server.{lines_of, Service, service, took_after, served_line, serves, heard_line, heard, answers_to, WholeLines, taking_first, events_of, hearing, begun, Serves}
@@ -40,7 +40,7 @@ Follows v es said = v.answers ++ copied (answers v.box es) ≡ said
 
 -- a take that has room for the answer
 taken-whole : (b : Box) (room : Text) → empty b.core.answer ≡ false → length b.core.answer ≤ length room
-    → happens b (takes room) ≡ happened (result 0 (length b.core.answer) (b.core.answer ++ drop (length b.core.answer) room)) (answer_is [] b)
+    → happens b (takes room) ≡ happened (result_of 0 (length b.core.answer) (b.core.answer ++ drop (length b.core.answer) room)) (answer_is [] b)
 unfolding happens taken if◌then◌else◌
 taken-whole b room e h = rw (e, le-leb (length b.core.answer) (length room) h)
 
@@ -54,7 +54,7 @@ module _ (b : Box) (l room : Text) (f : Fit most_answer b) (long : most_answer �
 
   whole : empty come.core.answer ≡ false
       → happens come (takes room)
-      ≡ happened (result 0 (length come.core.answer) (come.core.answer ++ drop (length come.core.answer) room)) (heard_line b l)
+      ≡ happened (result_of 0 (length come.core.answer) (come.core.answer ++ drop (length come.core.answer) room)) (heard_line b l)
   whole e = let few = (event-fit b (received l) f).core.answer in taken-whole come room e (omega arith)
 
   line-brings : (text : Text) (c : Box) (es : List Event) → Brings text (heard_line b l) c es → Brings (l ++ text) b c (received l ∷ taking_first come room es)

@@ -19,7 +19,7 @@ use Rattle.registers.proofs.status.Meaning.{raised-trouble, raised-registers}
 use Rattle.registers.specs.declared.status.RegisterSet.{RegisterSet}
 use Rattle.interpreter.specs.Box.{Memory, memory, store_size, right_size, box}
 use Rattle.interpreter.specs.Line.{newlines}
-use Rattle.interpreter.specs.Events.{Event, received, take as takes, condition, look, Result, result, happened, happens, taken, reported, lent}
+use Rattle.interpreter.specs.Events.{Event, received, take as takes, condition, look, Result, result_of, happened, happens, taken, reported, lent}
 use Rattle.interpreter.specs.State.{box_of, possible_parts, possible_state, admitted, rightly, Happens}
 use Rattle.interpreter.specs.StateParts.{Tested, flow_of, state_of}
 use Rattle.interpreter.specs.FlowParts.{FlowFed}
@@ -42,7 +42,7 @@ module _ (store : Text) where
 -- an event that is no power-up
 module _ (s : State) (store : Text) (e : Event) (lends : rightly (memory store) e ≡ right_size (memory store)) where
   -- a store of the wrong length
-  pub refused-5 : (length store ≡ store_size → ⊥) → Happens s (memory store) e (result 5 0 (lent e)) s (memory store)
+  pub refused-5 : (length store ≡ store_size → ⊥) → Happens s (memory store) e (result_of 5 0 (lent e)) s (memory store)
   refused-5 h =
       let no = lends ∙ size-wrong store h in
       record {
@@ -56,7 +56,7 @@ module _ (s : State) (store : Text) (e : Event) (lends : rightly (memory store) 
     sized = lends ∙ size-right store long
 
     -- a state that couldn't be the box's is handed back
-    pub refused-4 : not t ≡ true → Happens s (memory store) e (result 4 0 (lent e)) s (memory store)
+    pub refused-4 : not t ≡ true → Happens s (memory store) e (result_of 4 0 (lent e)) s (memory store)
     refused-4 h =
         record {
           possible = λ _ p. absurd (false≢true (sym (call ∙ could-not s t w h) ∙ p));
@@ -92,20 +92,20 @@ module _ (s : State) (m : Memory) (room : 0 < length s.answer) where
   -- ---- take
 
   pub take_none : (buffer : Text) (t : Status) → length s.status.errors ≡ most → t ≡ raised_in 420 s.status → s.waiting ≡ 0
-      → happened (result 2 0 buffer) (box_of (with_status t s) m) ≡ happens (box_of s m) (takes buffer)
+      → happened (result_of 2 0 buffer) (box_of (with_status t s) m) ≡ happens (box_of s m) (takes buffer)
   unfolding happens taken if◌then◌else◌
   take_none buffer t long is e =
       rw (front-empty s.answer s.waiting room, e, is, raised-trouble 420 s.status long, raised-registers 420 s.status long)
 
   pub take_short : (buffer : Text) → (s.waiting ≡ 0 → ⊥) → s.waiting ≤ length s.answer → length buffer < s.waiting
-      → happened (result 1 s.waiting buffer) (box_of s m) ≡ happens (box_of s m) (takes buffer)
+      → happened (result_of 1 s.waiting buffer) (box_of s m) ≡ happens (box_of s m) (takes buffer)
   unfolding happens taken if◌then◌else◌
   take_short buffer ne w h =
       let n : length (take s.waiting s.answer) ≡ s.waiting = rw length-take (omega arith) in
       rw (front-empty s.answer s.waiting room, ne_eqb s.waiting 0 ne, n, lt-leb s.waiting (length buffer) h)
 
   pub take_all : (buffer : Text) → (s.waiting ≡ 0 → ⊥) → s.waiting ≤ length s.answer → s.waiting ≤ length buffer
-      → happened (result 0 s.waiting (take s.waiting s.answer ++ drop s.waiting buffer)) (box_of (without_answer s) m) ≡ happens (box_of s m) (takes buffer)
+      → happened (result_of 0 s.waiting (take s.waiting s.answer ++ drop s.waiting buffer)) (box_of (without_answer s) m) ≡ happens (box_of s m) (takes buffer)
   unfolding happens taken if◌then◌else◌
   take_all buffer ne w h =
       let n : length (take s.waiting s.answer) ≡ s.waiting = rw length-take (omega arith) in
@@ -114,19 +114,19 @@ module _ (s : State) (m : Memory) (room : 0 < length s.answer) where
   -- ---- look
 
   pub look-byte : (n : ℕ) → n ≡ status_byte (registers_of s.status) (trouble_of s.status) (not (eqb s.waiting 0))
-      → happened (result 0 n []) (box_of s m) ≡ happens (box_of s m) look
+      → happened (result_of 0 n []) (box_of s m) ≡ happens (box_of s m) look
   unfolding happens
   look-byte n is = rw (is, front-empty s.answer s.waiting room)
 
 -- ---- condition
 
 module _ (s : State) (m : Memory) (x : RegisterSet) (v : ℕ) where
-  pub condition-wide : widest_group < v → happened (result 3 0 []) (box_of s m) ≡ happens (box_of s m) (condition x v)
+  pub condition-wide : widest_group < v → happened (result_of 3 0 []) (box_of s m) ≡ happens (box_of s m) (condition x v)
   unfolding happens reported if◌then◌else◌
   condition-wide h = rw (lt-leb v widest_group h)
 
   pub condition-on : (t : Status) → t ≡ reported_in x v s.status → v ≤ widest_group
-      → happened (result 0 0 []) (box_of (with_status t s) m) ≡ happens (box_of s m) (condition x v)
+      → happened (result_of 0 0 []) (box_of (with_status t s) m) ≡ happens (box_of s m) (condition x v)
   unfolding happens reported if◌then◌else◌
   condition-on t is h = rw (le-leb v widest_group h, is, reported-yes s.status v x h)
 
@@ -143,6 +143,6 @@ start-possible = rw reset-possible
 
 pub piece-on : (s : State) (m : Memory) (bytes : Text) (r : Flow) (lines left : Text) (n : Memory)
     → FlowFed (flow_of s) s.line s.answer m bytes r lines left n
-    → happened (result 0 r.count []) (box_of (state_of r lines left) n) ≡ happens (box_of s m) (received bytes)
+    → happened (result_of 0 r.count []) (box_of (state_of r lines left) n) ≡ happens (box_of s m) (received bytes)
 unfolding happens
 piece-on s m bytes r lines left k w = let n : r.count ≡ newlines bytes = let c = w.count in omega arith in rw (n, w.box)

@@ -51,14 +51,14 @@ quote-means : (q b : ℕ) (pending : Bool) (bs : Text) → (not pending && eqb b
     → (undoubled q pending (b ∷ bs) ≡ undoubled q true bs) × (closes q pending (b ∷ bs) ≡ closes q true bs)
 unfolding undoubled closes if◌then◌else◌
 quote-means q b true bs e = absurd (false≢true e)
-quote-means q b false bs e = (rw e, rw e)
+quote-means q b false bs e = (rw e, rw (e, closes))
 
 byte-means : (q b : ℕ) (pending good : Bool) (bs : Text) → (not pending && eqb b q) ≡ false
     → (undoubled q pending (b ∷ bs) ≡ b ∷ undoubled q false bs)
     × (((good && (not pending || eqb b q)) && closes q false bs) ≡ (good && closes q pending (b ∷ bs)))
 unfolding undoubled closes if◌then◌else◌
 byte-means q b true good bs e = (refl, and_assoc good (eqb b q) (closes q false bs))
-byte-means q b false true bs e = (rw e, rw e)
+byte-means q b false true bs e = (rw e, rw (e, closes))
 byte-means q b false false bs e = (rw e, refl)
 
 module _ {t : Text} {q : ℕ} {bytes : Text} {count : ℕ} {allowed pending good : Bool} {i : ℕ} (w : Reading t q bytes count allowed pending good i)

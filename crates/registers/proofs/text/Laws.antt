@@ -1,18 +1,18 @@
 -- Laws of a text read from a place, over any test of a byte: its first byte, the longest start that passes, and what stands after
 -- it. `OnWay` is the invariant of every scan: from its place a scan finds the end that the start of the text has.
 use mathlib.Core.Path.{◌≡◌, refl, ap, sym, ◌∙◌}
-use mathlib.Core.Bool.{Bool, true, false, false≢true}
+use mathlib.Core.Bool.{Bool, true, false, false≢true, not}
 use mathlib.Core.List.{[], ◌∷◌}
 use Prim.Native.Nat.{ℕ, zero, suc, ◌+◌, ◌≤◌, ◌<◌}
 use Prim.Native.Char.{code}
 use native.Mathlib.Numerals.{add-one}
 use native.Mathlib.Omega.{arith}
-use lib.Dec.{T, leb, ltb, leb→le, leb-zero, leb-suc-zero, leb-suc-suc}
+use lib.Dec.{T, eqb, leb, ltb, leb→le, leb-zero, leb-suc-zero, leb-suc-suc}
 use lib.ListN.{length, get_or, take, drop, length-drop, drop_of_length-le, get_or-eq_default}
 use lib.Seq.{drop-cons, drop-drop}
 use mir.Facts.{and_yes}
 use borrow.Author.Tests.{ltb-true, ltb-false}
-use Rattle.registers.specs.Text.{Text, if◌then◌else◌, digit, every, empty, first, rest, start, after}
+use Rattle.registers.specs.Text.{Text, if◌then◌else◌, digit, every, empty, first, rest, start, after, index_of, index_after}
 
 -- ---- at a place
 
@@ -123,6 +123,21 @@ module _ (p : ℕ → Bool) (l : Text) (at i : ℕ) (w : OnWay p l at i) where
 
   pub way_end : length l ≤ i → i ≡ at + length (start p (drop at l))
   way_end h = let k : i + 0 ≡ at + length (start p (drop at l)) = rw (start-end p l i h) at w in omega arith
+
+-- ---- the first byte of a kind: the bytes before it are the longest start of others
+
+abbrev pub other : ℕ → ℕ → Bool
+other b x = not (eqb x b)
+
+pub index-start : (b : ℕ) (t : Text) → length (start (other b) t) ≡ index_of b t
+unfolding index_of index_after if◌then◌else◌
+index-start b [] = refl
+index-start b (x ∷ xs) = go (eqb x b) (index-start b xs)
+  where
+    go : (e : Bool) → length (start (other b) xs) ≡ index_of b xs
+        → length (if not e then x ∷ start (other b) xs else []) ≡ index_after e (index_of b xs)
+    go true ih = refl
+    go false ih = ap suc ih
 
 -- ---- digits
 

@@ -15,7 +15,7 @@ use Rattle.registers.specs.Settings.{exam, value_at, possible_settings}
 use Rattle.registers.specs.declared.settings.Settings.{Settings}
 use Rattle.registers.proofs.Tests.{and_both}
 use Rattle.registers.proofs.answer.Laws.{over-fits}
-use Rattle.interpreter.specs.Events.{Result, result}
+use Rattle.interpreter.specs.Events.{Result, result_of}
 use Rattle.writer.specs.Lines.{lines_for, writable, written}
 use Rattle.writer.specs.LinesParts.{Put}
 
@@ -47,7 +47,7 @@ module _ (p w : Settings) (channel : ℕ) (buffer : Text) where
   unfolding writable
   refusing-is = opposite (eqb channel 1) (eqb channel 2) (possible_settings p) (possible_settings w) (lt_z (value_at p exam) (value_at w exam)) (lt_z (value_at w exam) (value_at p exam))
 
-  pub is-refused : refusing p w channel ≡ true → result 6 0 buffer ≡ written p w channel buffer
+  pub is-refused : refusing p w channel ≡ true → result_of 6 0 buffer ≡ written p w channel buffer
   unfolding written if◌then◌else◌
   is-refused e = rw (not-true (writable p w channel) (sym refusing-is ∙ e))
 
@@ -69,7 +69,7 @@ module _ (p w : Settings) (channel : ℕ) (buffer : Text) where
       pub is_within : n ≤ length out'
       is_within = let l = long in let e = ap length put.stands in let k = length-take n out' in omega arith
 
-      pub is-short : length buffer < n → result 7 n buffer ≡ written p w channel buffer
+      pub is-short : length buffer < n → result_of 7 n buffer ≡ written p w channel buffer
       unfolding written if◌then◌else◌
       is-short h =
           let l = long in
@@ -78,7 +78,7 @@ module _ (p w : Settings) (channel : ℕ) (buffer : Text) where
       lines_are : take (n - 0) (drop 0 out') ≡ lines_for p w channel
       lines_are = let k : n - 0 ≡ n = omega arith in rw k put.stands
 
-      pub is_whole : n ≤ length buffer → {r : ℕ} {buffer' : Text} → Laid (take (n - 0) (drop 0 out')) buffer r buffer' → result 0 n buffer' ≡ written p w channel buffer
+      pub is_whole : n ≤ length buffer → {r : ℕ} {buffer' : Text} → Laid (take (n - 0) (drop 0 out')) buffer r buffer' → result_of 0 n buffer' ≡ written p w channel buffer
       unfolding written if◌then◌else◌
       is_whole h laid =
           let l = long in

@@ -13,7 +13,7 @@ use Rattle.registers.specs.Text.{index_of}
 use Rattle.registers.specs.Text.{Text, if◌then◌else◌, empty}
 use Rattle.registers.proofs.Tests.{and_both, and-true, front-empty}
 use Rattle.interpreter.specs.Box.{Box, memory, blank, right_size, power_up, store_size, most_answer}
-use Rattle.interpreter.specs.Events.{look, Result, result, Happened, happens}
+use Rattle.interpreter.specs.Events.{look, Result, result_of, Happened, happens}
 use Rattle.interpreter.specs.FlowParts.{first_line}
 use Rattle.interpreter.specs.State.{box_of, possible_state, Happens, Started}
 use Rattle.interpreter.specs.Server.{Serves}
@@ -65,7 +65,7 @@ begun-marker s h =
 
 -- what the test of a marker tells: a look is refused by number 4 just where its box is impossible
 module _ (m : Marker) (store : Text) (n byte : ℕ) (sized : length store ≡ store_size) (long : 0 < length m.state.answer)
-    (seen : Happens m.state (memory store) look (result n byte []) m.state (memory store)) where
+    (seen : Happens m.state (memory store) look (result_of n byte []) m.state (memory store)) where
   abbrev tests : Bool → Bool → Bool
   tests one two = ((one && two) && leb m.place.waiting most_answer) && ltb m.place.number most_lines
 

@@ -12,7 +12,7 @@ use borrow.Author.Tests.{le-leb, leb-false, eq-eqb, eqb-true}
 use Rattle.registers.specs.Text.{Text, if◌then◌else◌, empty}
 use Rattle.interpreter.specs.Box.{store_size, memory, right_size, Box, answer_is, raise, most_answer}
 use Rattle.interpreter.specs.FlowParts.{first_line}
-use Rattle.interpreter.specs.Events.{received, take as takes, result, Happened, happened, taken, happens}
+use Rattle.interpreter.specs.Events.{received, take as takes, result_of, Happened, happened, taken, happens}
 use Rattle.interpreter.specs.State.{box_of, possible_state}
 use Rattle.interpreter.specs.Server.{lines_of, Service, service, took_after, served_line, serves, begun, Serves}
 use Rattle.interpreter.specs.declared.state.State.{State}
@@ -53,8 +53,8 @@ module _ (b : Box) (room : Text) (n : ℕ) where
   served-one = go (empty a) refl (leb (length a) (length room)) refl
     where
       go : (t : Bool) → empty a ≡ t → (u : Bool) → leb (length a) (length room) ≡ u
-          → One (if t then service b n [] room else took_after n [] (if t then happened (result 2 0 room) (raise 420 b)
-          else (if u then happened (result 0 (length a) (a ++ drop (length a) room)) (answer_is [] b) else happened (result 1 (length a) room) b)))
+          → One (if t then service b n [] room else took_after n [] (if t then happened (result_of 2 0 room) (raise 420 b)
+          else (if u then happened (result_of 0 (length a) (a ++ drop (length a) room)) (answer_is [] b) else happened (result_of 1 (length a) room) b)))
       go true q u r k = let e = is-empty a q in (ap (λ (x : Text). answer_is x b) e, sym e, rw e)
       go false q true r k = (refl, take-append_seam a (drop (length a) room), drop-append_seam a (drop (length a) room))
       go false q false r k = let h = leb-false (length a) (length room) r in absurd (omega arith)

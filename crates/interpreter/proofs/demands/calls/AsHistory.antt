@@ -8,7 +8,7 @@ use lib.Dec.{leb}
 use lib.ListN.{length}
 use Rattle.registers.specs.Text.{Text, if◌then◌else◌, empty}
 use Rattle.interpreter.specs.Box.{Memory, right_size, altered_in, Box, most_answer}
-use Rattle.interpreter.specs.Events.{Event, started, received, take as takes, condition, look, altered, mislent, Result, result, lent, Happened, happened, happens, after, results}
+use Rattle.interpreter.specs.Events.{Event, started, received, take as takes, condition, look, altered, mislent, Result, result_of, lent, Happened, happened, happens, after, results}
 use Rattle.interpreter.specs.State.{box_of, possible_state, admitted, rightly, Happens, Started}
 use Rattle.interpreter.specs.Server.{lines_of, Service, service, took_after, served_line, serves, taking_first, events_of, begun, Serves}
 use Rattle.interpreter.specs.Calls.{Call, event, instead, chunk, no_chunk, alters, Calls, done, call, History}
@@ -40,11 +40,11 @@ happens-there s t m n (mislent buffer) r h p q =
     let o = h.wrong refl in (ap possible_state o.0 ∙ p, rw (o.0, o.1, o.2), ap right_size o.2 ∙ q)
 
 -- the promise of a power-up, as that of an event on any state; whatever memory there is stays
-pub power-up-happens : (s t : State) (m : Memory) → Started t → Happens s m started (result 0 0 []) t m
+pub power-up-happens : (s t : State) (m : Memory) → Started t → Happens s m started (result_of 0 0 []) t m
 unfolding happens
 power-up-happens s t m h =
     record {
-      possible = λ _ _. (h.possible, ap (λ (b : Box). record { result = result 0 0 []; box = b }) (h.first m), refl);
+      possible = λ _ _. (h.possible, ap (λ (b : Box). record { result = result_of 0 0 []; box = b }) (h.first m), refl);
       impossible = λ _ n. absurd (true≢false n);
       wrong = λ n. absurd (true≢false n);
     }
@@ -100,14 +100,14 @@ event-history s t m n e r l p h =
     }
 
 -- an event that was lent another memory changes nothing
-mislent-history : (s t : State) (m n : Memory) (buffer : Text) (r : Result) → possible_state s ≡ true → t ≡ s → r ≡ result 5 0 buffer → n ≡ m
+mislent-history : (s t : State) (m n : Memory) (buffer : Text) (r : Result) → possible_state s ≡ true → t ≡ s → r ≡ result_of 5 0 buffer → n ≡ m
     → History s m t n (mislent buffer ∷ []) (r ∷ [])
 unfolding after results happens
 mislent-history s t m n buffer r p e is same =
     record { possible = ap possible_state e ∙ p; box = ap₂ box_of e same; results = ap (λ (x : Result). x ∷ []) is }
 
 altered-history : (s t : State) (m n : Memory) (i x : ℕ) → possible_state s ≡ true → t ≡ s → n ≡ altered_in i x m
-    → History s m t n (altered i x ∷ []) (result 0 0 [] ∷ [])
+    → History s m t n (altered i x ∷ []) (result_of 0 0 [] ∷ [])
 unfolding after results happens
 altered-history s t m n i x p e is = record { possible = ap possible_state e ∙ p; box = ap₂ box_of e is; results = refl }
 
@@ -134,10 +134,16 @@ then-history s u t m k n es fs rs qs p q =
       results = ap₂ ◌++◌ p.results (q.results ∙ ap (λ (b : Box). results b fs) p.box) ∙ sym (results-append (box_of s m) es fs);
     }
 
+-- call by call, to where they end
+module _ (t : State) (n : Memory) where
+  to-the-end : (s : State) (m : Memory) (es : List Event) (rs : List Result) → possible_state s ≡ true → Calls t n s m es rs
+      → History s m t n es rs
+  unfolding after results
+  to-the-end s m _ _ p done = record { possible = p; box = refl; results = refl }
+  to-the-end s m _ _ p (call {u = u} {k = k} {es = es} {fs = fs} {rs = rs} {qs = qs} h more) =
+      let one = call-history s u m k es rs p h in
+      then-history s u t m k n es fs rs qs one (to-the-end u k fs qs one.possible more)
+
 pub calls-are-a-history : (s t : State) (m n : Memory) (es : List Event) (rs : List Result) → possible_state s ≡ true → Calls t n s m es rs
     → History s m t n es rs
-unfolding after results
-calls-are-a-history s t m n _ _ p done = record { possible = p; box = refl; results = refl }
-calls-are-a-history s t m n _ _ p (call {u = u} {k = k} {es = es} {fs = fs} {rs = rs} {qs = qs} h more) =
-    let one = call-history s u m k es rs p h in
-    then-history s u t m k n es fs rs qs one (calls-are-a-history u t k n fs qs one.possible more)
+calls-are-a-history s t m n es rs p calls = to-the-end t n s m es rs p calls

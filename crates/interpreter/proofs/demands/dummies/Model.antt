@@ -22,7 +22,7 @@ use Rattle.interpreter.specs.Reply.{reply}
 use Rattle.interpreter.specs.Perform.{changed, after_query, set_up, perform}
 use Rattle.interpreter.specs.UnitParts.{Allowed}
 use Rattle.interpreter.specs.Line.{interrupted, held, end_line, byte, piece}
-use Rattle.interpreter.specs.Events.{possible, Event, started, received, take, condition, look, altered, mislent, result, Happened, happened, happens, taken, reported, lent as buffer-of}
+use Rattle.interpreter.specs.Events.{possible, Event, started, received, take, condition, look, altered, mislent, result_of, Happened, happened, happens, taken, reported, lent as buffer-of}
 use Rattle.interpreter.specs.State.{box_of, possible_state, rightly, Happens, Started}
 use Rattle.interpreter.specs.Dummies.{Does, Promised}
 use Rattle.interpreter.specs.declared.state.State.{State}
@@ -152,7 +152,7 @@ record Kept (s : State) (m : lent.Memory) : Type 0 where
 
 does_by : Bool → Does
 does_by true s m e = let h = happens (box_of s m) e in (h.result, state_from h.box, h.box.core.memory)
-does_by false s m e = (result 5 0 (buffer-of e), s, m)
+does_by false s m e = (result_of 5 0 (buffer-of e), s, m)
 
 module _ (s : State) (m : lent.Memory) (e : Event) (k : Kept s m) where
   abbrev now : Box

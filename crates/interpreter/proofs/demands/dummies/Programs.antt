@@ -196,10 +196,10 @@ module _ (a : Text) where
 unheard-so : (b : Box) (es : List Event) → reached ignorer b es ≡ reached ignorer b (unheard es)
 unfolding reached unheard if◌then◌else◌
 unheard-so b [] = refl
-unheard-so b (started ∷ es) = unheard-so _ es
+unheard-so b (started ∷ es) = unheard-so (ignorer.keeps b started) es
 unheard-so b (received xs ∷ es) = unheard-so b es
-unheard-so b (take buffer ∷ es) = unheard-so _ es
-unheard-so b (condition x n ∷ es) = unheard-so _ es
+unheard-so b (take buffer ∷ es) = unheard-so (ignorer.keeps b (take buffer)) es
+unheard-so b (condition x n ∷ es) = unheard-so (ignorer.keeps b (condition x n)) es
 unheard-so b (look ∷ es) = unheard-so b es
 unheard-so b (altered i x ∷ es) = unheard-so _ es
 unheard-so b (mislent buffer ∷ es) = unheard-so b es
@@ -230,8 +230,8 @@ unfolding reached unheard if◌then◌else◌
 dropped-so b [] t = refl
 dropped-so b (started ∷ es) t = absurd (false≢true t)
 dropped-so b (received xs ∷ es) t = ap (λ (m : Box × Bool). reached first_liner m es) (dropped b xs) ∙ dropped-so b es t
-dropped-so b (take buffer ∷ es) t = dropped-so _ es t
-dropped-so b (condition x n ∷ es) t = dropped-so _ es t
+dropped-so b (take buffer ∷ es) t = dropped-so (happens b (take buffer)).box es t
+dropped-so b (condition x n ∷ es) t = dropped-so (happens b (condition x n)).box es t
 dropped-so b (look ∷ es) t = dropped-so b es t
 dropped-so b (altered i x ∷ es) t = dropped-so _ es t
 dropped-so b (mislent buffer ∷ es) t = dropped-so b es t

@@ -2,7 +2,7 @@
 -- quoted message of that row (`text-part`), and that row's message is the number's (`found-text`).
 use Prim.Native.Nat.{◌+◌, ◌*◌}
 use Rattle.registers.specs.ErrorParts.{message_size}
-use Rattle.registers.proofs.error.Texts.{found-row, found-fits, text-fits, cell-fits, cell-within, end_fits, found-text, text-long, text-part}
+use Rattle.registers.proofs.error.Texts.{found-row, found-fits, text-fits, cell-fits, cell-within, end_fits, found-text, text-long, text-part, length-cell, text-room}
 use Rattle.registers.proofs.error.quoted_at.Goals as goal
 
 pub row_of-row-requires : goal.row_of-row-requires
@@ -32,3 +32,9 @@ returns c =
     let h = found-row _ c.row_of-row.ensures in
     let e = c.requires.0 in
     rw (e, text-long row h, text-part row h, found-text _ c.row_of-row.ensures) at c.text_at.ensures
+
+pub slice_bounds-text_at-end : goal.slice_bounds-text_at-end
+slice_bounds-text_at-end c =
+    let row = c.row_of-row.result in
+    let h = found-row _ c.row_of-row.ensures in
+    rw (c.requires.0, length-cell row h) (text-room row h)

@@ -15,3 +15,6 @@ overflow_add-result c =
 
 pub returns : goal.returns
 returns c = quoted-laid _ _ c.text_end-n.ensures c.put.ensures c.text_at-end.ensures c.put-2.ensures
+
+pub slice_bounds-text_at-end : goal.slice_bounds-text_at-end
+slice_bounds-text_at-end c = let n = c.text_end-n.ensures in omega (arith, start-short of_text c.args.text.now)

@@ -1,7 +1,6 @@
 use mathlib.Core.Path.{◌≡◌, refl, sym, ◌∙◌}
 use mathlib.Core.Bool.{true}
-use mathlib.Core.Logic.{⊎_elim}
-use Prim.Native.Nat.{ℕ, ◌-◌, ◌≤◌}
+use Prim.Native.Nat.{ℕ, ◌+◌, ◌-◌, ◌*◌, ◌≤◌, min}
 use Prim.Native.Char.{code}
 use native.Mathlib.Omega.{arith}
 use lib.ListN.{get_or}
@@ -10,10 +9,10 @@ use Rattle.registers.specs.NumberParts.{held}
 use Rattle.registers.proofs.number.Numerals.{next-below, next-held, tens-fit, digit-fits, next_fits, left-more, left_end}
 use Rattle.registers.proofs.text.Laws.{start-stop, start-end, digit-bounds}
 use Rattle.registers.proofs.number.read_digits.Goals as goal
+use Rattle.registers.proofs.number.read_digits.Goals.{then-next-lt-HELD, else-next-lt-HELD}
 
 pub loop-i-init : goal.loop-i-init
 loop-i-init c =
-    let low : c.loop-i.value ≤ held = c.loop-i.invariant.low in
     record { within = omega arith; low = omega arith; number = refl; end = refl }
 
 pub bounds-text-i : goal.bounds-text-i
@@ -62,7 +61,11 @@ loop-i-preserved c =
     let byte : ℕ = get_or c.args.text.now c.loop-i.i 0 in
     let passes : digit byte ≡ true = sym c.is_digit.ensures ∙ c.if-not-is_digit.false in
     let at = c.loop-i in
-    let next = ⊎_elim (λ w. next-below w.0.taken w.1) (λ w. next-held w.0.left w.1) c.if-next-lt-HELD.branch in
+    let next : c.if-next-lt-HELD.value ≡ min held (c.loop-i.value * 10 + (byte - code "0")) =
+        elim c.if-next-lt-HELD.branch [
+          then-next-lt-HELD w ↦ next-below w.if-next-lt-HELD.true w.value-is
+        | else-next-lt-HELD w ↦ next-held w.if-next-lt-HELD.false w.value-is
+        ] in
     left-more at.invariant c.loop-i-test.true passes c.if-next-lt-HELD.value next
 
 pub returns : goal.returns

@@ -1,7 +1,9 @@
 use Prim.Native.Nat.{◌-◌}
 use mir.Syntax.{w32}
 use mir.Facts.{to_z-of_z}
-use borrow.Author.Rules.{length_unmapped}
+use borrow.Author.Rules.{rules}
+use lib.ListN.{length}
+use mathlib.Core.Path.{◌≡◌}
 use Rattle.registers.specs.Label.{most_text}
 use Rattle.registers.proofs.setup.Blocks.{fill-begun, fill_on, text-filled, block_made}
 use Rattle.registers.proofs.setup.block_of.Goals as goal
@@ -18,8 +20,8 @@ loop-row-preserved c =
 pub returns : goal.returns
 returns c =
     let a = c.args in
-    let long = length_unmapped _ a.settings.text most_text c.well_formed.0.1.1.1.0.1.0.1 in
+    let long : length a.settings.text ≡ most_text = search rules in
     let l = c.loop-row in
     let t = c.text_at in
-    let laid = text-filled a.settings l.block t.new.1.0 l.row t.result l.invariant c.loop-row-test.false long t.ensures in
-    block_made a.settings t.new.1.0 c.weigh-sum.result laid c.weigh-sum.ensures.value
+    let laid = text-filled a.settings l.block t.new.tail l.row t.result l.invariant c.loop-row-test.false long t.ensures in
+    block_made a.settings t.new.tail c.weigh-sum.result laid c.weigh-sum.ensures.value

@@ -19,8 +19,8 @@ pub loop-row-preserved : goal.loop-row-preserved
 loop-row-preserved c =
     let w = c.value_in.ensures in
     let l = c.loop-row in
-    rw (to_z-of_z {w = w32} {z = c.value_in.result} (rw w.1.2 (unshift-fits w.1.0 w.1.1)))
-    (read-on _ _ l.settings.values _ l.row c.value_in.result l.invariant c.requires.0 c.loop-row-test.true w.0 refl (length-set l.settings.values l.row c.value_in.result ∙ l.invariant.long))
+    rw (to_z-of_z {w = w32} {z = c.value_in.result} (rw w.by_index.2 (unshift-fits w.by_index.0 w.by_index.1)))
+    (read-on _ _ l.settings.values _ l.row c.value_in.result l.invariant c.requires.0 c.loop-row-test.true w.value refl (length-set l.settings.values l.row c.value_in.result ∙ l.invariant.long))
 
 pub text_in-settings-requires : goal.text_in-settings-requires
 text_in-settings-requires c = let p = c.requires in (omega arith, omega arith)

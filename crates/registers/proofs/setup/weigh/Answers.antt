@@ -37,4 +37,4 @@ returns c =
     let w = c.loop-i.invariant.0 in
     let small = w.small in
     let within = w.within in
-    (weigh-end _ c.loop-i.sum c.loop-i.i 0 w (omega arith), omega arith)
+    record { value = weigh-end _ c.loop-i.sum c.loop-i.i 0 w (omega arith); upper_bound = omega arith }

@@ -4,8 +4,8 @@ use Rattle.registers.proofs.status.bit_if.Goals as goal
 
 pub returns-then-on : goal.returns-then-on
 unfolding if◌then◌else◌
-returns-then-on c = (rw c.if-on.true, search rules)
+returns-then-on c = record { value = rw c.if-on.true; upper_bound = search rules }
 
 pub returns-else-on : goal.returns-else-on
 unfolding if◌then◌else◌
-returns-else-on c = (rw c.if-on.false, search rules)
+returns-else-on c = record { value = rw c.if-on.false; upper_bound = search rules }

@@ -28,5 +28,5 @@ returns-in-3 c = rw c.in-3.is at (quantity-at c.args.slot)
 pub returns-in_default : goal.returns-in_default
 unfolding slots table quantity_from if◌then◌else◌
 returns-in_default c =
-    let r = c.in_default.rest in
+    let r = c.in_default.in_default-own.rest in
     rw (ne_eqb _ 0 r.0.0.0.1, ne_eqb _ 1 r.0.0.1, ne_eqb _ 2 r.0.1, ne_eqb _ 3 r.1) at (quantity-at c.args.slot)

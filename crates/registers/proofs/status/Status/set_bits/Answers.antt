@@ -5,8 +5,9 @@ use Rattle.registers.proofs.status.Status.set_bits.Goals as goal
 
 pub returns : goal.returns
 returns c =
-    (
-      rw (
+    record {
+      value =
+          rw (
         c.bit_if-3.ensures.value,
         c.has_enabled_event-3.ensures,
         c.group-3.ensures,
@@ -17,6 +18,6 @@ returns c =
         c.has_enabled_event.ensures,
         c.group.ensures,
       )
-          (bits_are (registers_of c.args.self)),
-      omega arith,
-    )
+          (bits_are (registers_of c.args.self));
+      upper_bound = omega arith;
+    }

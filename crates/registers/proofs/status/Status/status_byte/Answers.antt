@@ -1,7 +1,9 @@
 -- Every bit is a call of `bit_if`, bounded by its weight, so each sum fits in a byte; and the sum of what they promise is the
 -- definition's summary (`summary-is`), over which bit 6 is decided (`byte-is`).
 use Prim.Native.Nat.{ℕ}
-use borrow.Author.Rules.{length_unmapped}
+use borrow.Author.Rules.{rules}
+use lib.ListN.{length}
+use mathlib.Core.Path.{◌≡◌}
 use Rattle.registers.specs.Queue.{most}
 use Rattle.registers.proofs.status.Laws.{summary-is, byte-is}
 use Rattle.registers.proofs.status.Status.status_byte.Goals as goal
@@ -9,6 +11,6 @@ use Rattle.registers.proofs.status.Status.status_byte.Goals as goal
 pub returns : goal.returns
 returns c =
     let s = c.args.self in
-    let long = length_unmapped ℕ s.errors most c.well_formed.0.1.1.1.1.1.1.1.0.1.0.1 in
+    let long : length s.errors ≡ most = search rules in
     let n = rw (← c.set_bits-sets.ensures.value, ← c.bit_if-standard.ensures.value, ← c.bit_if-answer.ensures.value, ← c.bit_if-queue.ensures.value) at (summary-is s c.args.answers long) in
     rw c.bit_if.ensures.value (byte-is s c.args.answers long _ n)

@@ -1,0 +1,16 @@
+use Prim.Native.Nat.{◌-◌}
+use native.Mathlib.Omega.{arith}
+use Rattle.interpreter.proofs.cuts.Search.{way_on, way-stop, way_end}
+use Rattle.interpreter.proofs.cuts.part_end.Goals as goal
+
+pub loop-i-init : goal.loop-i-init
+loop-i-init c = c.plain_end-i.ensures
+
+pub returns-then-mark-b : goal.returns-then-mark-b
+returns-then-mark-b c = way-stop _ _ _ _ _ c.loop-i.invariant (omega arith) c.if-mark-b.true
+
+pub loop-i-preserved : goal.loop-i-preserved
+loop-i-preserved c = rw c.quote_next-mark.ensures (way_on _ _ _ _ _ c.loop-i.invariant (omega arith) c.if-mark-b.false)
+
+pub returns : goal.returns
+returns c = way_end _ _ _ _ _ c.loop-i.invariant (omega arith)

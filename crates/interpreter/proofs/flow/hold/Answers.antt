@@ -1,0 +1,13 @@
+-- As many bytes are laid after the held ones as there is room for, and the rest is dropped: `held-fed` (flow/Laws).
+use mathlib.Core.Path.{◌≡◌}
+use lib.ListN.{length}
+use Rattle.interpreter.specs.Box.{most_line}
+use Rattle.interpreter.proofs.flow.Laws.{held-fed}
+use borrow.Author.Rules.{rules}
+use Rattle.interpreter.proofs.flow.hold.Goals as goal
+
+pub returns : goal.returns
+returns c =
+    let a = c.args in
+    let long : length a.line.now ≡ most_line = search rules in
+    held-fed a.flow a.line.now a.part.now c.requires.0 long c.requires.2 c.smaller-n.result c.paste.result _ c.smaller-n.ensures c.paste.ensures.value c.paste.ensures.into_after
