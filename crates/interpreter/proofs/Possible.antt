@@ -18,7 +18,7 @@ use Rattle.registers.proofs.settings.Possible as limits
 use Rattle.registers.proofs.settings.Possible.{reset-possible}
 use Rattle.registers.proofs.status.Possible as status
 use Rattle.registers.proofs.status.Possible.{condition-fit}
-use Rattle.interpreter.specs.Box.{Memory, Core, Box, box, power_up, most_line, most_answer}
+use Rattle.interpreter.specs.Box.{Memory, Core, Box, power_up, most_line, most_answer}
 use Rattle.interpreter.specs.Line.{units_of, interrupted, finished, run_line, end_line, held, byte, piece}
 use Rattle.interpreter.specs.Events.{Event, started, received, take, condition, look, altered, mislent, Happened, taken, reported, happens, possible_core, possible, Own, after}
 use Rattle.interpreter.proofs.Lists.{is-empty}

@@ -1,5 +1,5 @@
 -- 02, #108: the laws of saved setups, by those of a block in the lower crate (registers/proofs/setup/Laws).
-use mathlib.Core.Path.{◌≡◌, refl, sym, ◌∙◌, ap}
+use mathlib.Core.Path.{◌≡◌, sym, ◌∙◌, ap}
 use mathlib.Core.Bool.{true}
 use Prim.Native.Nat.{ℕ, ◌+◌, ◌*◌, ◌≤◌, ◌<◌}
 use native.Mathlib.Omega.{arith}
@@ -8,7 +8,7 @@ use lib.Seq.{drop-set-add, take-set-lt}
 use borrow.Author.Tests.{eqb-true, eq-eqb}
 use Rattle.registers.specs.Text.{Text}
 use Rattle.registers.specs.Check.{Checked, refused, passed, check, ◌>>◌}
-use Rattle.registers.specs.Setup.{block_size, places, block_of, settings_in, recallable, block_at, saved_at}
+use Rattle.registers.specs.Setup.{block_size, places, block_of, recallable, block_at, saved_at}
 use Rattle.registers.proofs.setup.Laws.{saved-back, block-marked, older-unmarked, older-means, older-empty, not-recalled, saved-long, saved-here, saved-before, saved_after, zeros-not-recalled}
 use Rattle.interpreter.specs.Box.{Memory, store_size, right_size, with_store, Core, with_memory}
 use Rattle.interpreter.specs.Perform.{set_up}

@@ -5,7 +5,7 @@ use Rattle.registers.specs.Text.{Text, if◌then◌else◌, every, white, empty}
 use Rattle.registers.specs.Check.{refused}
 use Rattle.registers.specs.Group.{widest_group}
 use Rattle.interpreter.specs.Cuts.{cut_open}
-use Rattle.interpreter.specs.Box.{Memory, Box, box, raise, answer_is}
+use Rattle.interpreter.specs.Box.{Memory, Box, raise, answer_is}
 use Rattle.interpreter.specs.Unit.{raisable}
 use Rattle.interpreter.specs.Line.{at_newline, attempt, refuse, run_units, finished}
 use Rattle.interpreter.specs.Events.{Event, started, received, take, condition, look, altered, mislent, Result, result_of, Happened, happened, happens, lent}

@@ -1,5 +1,5 @@
 -- Demands 2 and 3 of calls of the public functions, which are known by their promises alone.
-use Rattle.std.specs.Prelude.{◌≡◌, true, false, List, [], ◌∷◌, ◌++◌, ℕ, ◌≤◌, ◌<◌, length, drop}
+use Rattle.std.specs.Prelude.{◌≡◌, true, List, [], ◌∷◌, ◌++◌, ℕ, ◌≤◌, ◌<◌, length, drop}
 use Rattle.registers.specs.Text.{Text, every}
 use Rattle.registers.specs.Settings.{count, value_at, displayed, AsLong, within}
 use Rattle.registers.specs.Label.{most_text, may_stand}

@@ -4,7 +4,7 @@ use Prim.Native.String.{String}
 use Rattle.registers.specs.Text.{Text, if◌then◌else◌, empty}
 use Rattle.registers.specs.Check.{Checked, refused, passed, ◌>>◌, check}
 use Rattle.registers.specs.Error.{number_of}
-use Rattle.registers.specs.Settings.{words, within, accepted}
+use Rattle.registers.specs.Settings.{within, accepted}
 use Rattle.registers.specs.declared.rounding.Fit.{Fit}
 use Rattle.registers.specs.declared.rounding.Fit.TheVariants.{Within, Outside}
 use Rattle.registers.specs.declared.rounding.Rounded.{Rounded}

@@ -4,6 +4,8 @@
 // A caller needs `state`: State::power_up, piece, take, condition and look; and to name a register set for condition,
 // registers::status::RegisterSet. A program that reads whole chunks calls `server::serve` instead. None of them has a
 // `requires`; each says of any record and any bytes what it answers.
+#![tactic(auto)]
+
 mod cuts;
 mod deed;
 mod flow;

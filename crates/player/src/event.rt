@@ -8,7 +8,7 @@ use registers::status::{RegisterSet, Status};
 
 // What a line leaves: the state, the length of the store that the next event is lent, and the
 // report's length, 0 where the line can't be read.
-#[derive(Drop)]
+#[derive(Clone, Copy)]
 pub(crate) struct Played {
     pub(crate) state: State,
     pub(crate) lent: usize,

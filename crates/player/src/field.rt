@@ -12,7 +12,7 @@ use registers::settings::Settings;
 use registers::status::{RegisterSet, Status};
 
 // The numbers of the record that a script can name, and the text.
-#[derive(Drop)]
+#[derive(Clone, Copy)]
 pub(crate) enum Field {
     Setting(usize),
     Text,
@@ -32,7 +32,7 @@ pub(crate) enum Field {
 }
 
 // The record with the field overwritten, or as it was where the value can't be read.
-#[derive(Drop)]
+#[derive(Clone, Copy)]
 pub(crate) struct Overwritten {
     pub(crate) state: State,
     pub(crate) readable: bool,
@@ -62,7 +62,7 @@ fn prefix_end(name: &[u8], prefix: &[u8]) -> usize
 {
     let n = prefix.len();
     if n <= name.len() {
-        if check::same(&name[0..n], prefix) {
+        if &name[0..n] == prefix {
             return n;
         }
     }
@@ -82,22 +82,14 @@ fn place_in(name: &[u8], array: &[u8]) -> usize
 
 // Finds a register of a set by its name; gives Unknown for any other name.
 fn of_set(set: RegisterSet, name: &[u8]) -> Field {
-    if check::same(name, b"condition") {
-        return Field::Condition(set);
+    match name {
+        b"condition" => Field::Condition(set),
+        b"event" => Field::Event(set),
+        b"enable" => Field::Enable(set),
+        b"ptr" => Field::Ptr(set),
+        b"ntr" => Field::Ntr(set),
+        _ => Field::Unknown,
     }
-    if check::same(name, b"event") {
-        return Field::Event(set);
-    }
-    if check::same(name, b"enable") {
-        return Field::Enable(set);
-    }
-    if check::same(name, b"ptr") {
-        return Field::Ptr(set);
-    }
-    if check::same(name, b"ntr") {
-        return Field::Ntr(set);
-    }
-    Field::Unknown
 }
 
 // Finds a register by its name, which begins with its set's; those of OPERation have no prefix.
@@ -115,28 +107,16 @@ fn register(name: &[u8]) -> Field {
 
 // Finds a field that is one number, not a place of an array, or the text.
 fn single(name: &[u8]) -> Field {
-    if check::same(name, b"text") {
-        return Field::Text;
+    match name {
+        b"text" => Field::Text,
+        b"esr" => Field::Events,
+        b"ese" => Field::Ese,
+        b"sre" => Field::Sre,
+        b"queued" => Field::Queued,
+        b"line" => Field::Line,
+        b"answer" => Field::Answer,
+        _ => register(name),
     }
-    if check::same(name, b"esr") {
-        return Field::Events;
-    }
-    if check::same(name, b"ese") {
-        return Field::Ese;
-    }
-    if check::same(name, b"sre") {
-        return Field::Sre;
-    }
-    if check::same(name, b"queued") {
-        return Field::Queued;
-    }
-    if check::same(name, b"line") {
-        return Field::Line;
-    }
-    if check::same(name, b"answer") {
-        return Field::Answer;
-    }
-    register(name)
 }
 
 // Finds the field that a name spells.
@@ -253,7 +233,7 @@ fn with_text(mut state: State, bytes: [u8; TEXT]) -> Overwritten {
 // dash stands for no byte; more than the record holds can't be read.
 fn text(state: State, value: &[u8]) -> Overwritten {
     let mut bytes = [0u8; TEXT];
-    if check::same(value, b"-") {
+    if let b"-" = value {
         return with_text(state, bytes);
     }
     let n = script::unhex(value, &mut bytes);

@@ -47,6 +47,8 @@
 //
 // The contracts here say little: that nothing goes wrong and every run ends. What the reports say is
 // held to the twin's, on the stored script (tests/make-player-script) and on random ones.
+#![tactic(auto)]
+
 mod event;
 mod field;
 mod play;
@@ -54,16 +56,18 @@ mod report;
 mod script;
 mod store;
 
-#![tactic(auto)]
-
 use interpreter::state::{STORE, State};
+use std::io::Read;
 
 // The room for a script line, and for a report. The longest reports are that of a state whose line
 // and answer are full and that of take's longest buffer, each of 16,384 hex digits and some more.
 const ROOM: usize = 131072;
 
+// The most bytes of the script that are read at once.
+const CHUNK: usize = 65536;
+
 // The box, the length of the store that the next event is lent, and how far the script was read.
-#[derive(Drop)]
+#[derive(Clone, Copy)]
 struct Player {
     state: State,
     lent: usize,
@@ -80,9 +84,9 @@ fn next(lines: u64) -> u64 {
 }
 
 // Writes the first bytes of out, and says whether that could be done.
-fn write_front(out: &[u8], length: usize) -> bool {
+fn write_front(rt: &impl Print, out: &[u8], length: usize) -> bool {
     if length <= out.len() {
-        return io::write_all(libc::STDOUT_FILENO, &out[0..length]);
+        return rt.write_all(&out[0..length]).is_ok();
     }
     false
 }
@@ -106,11 +110,17 @@ fn play_line(
 }
 
 // Plays and answers the line that has ended, and makes room for the next.
-fn end_line(player: Player, store: &mut [u8; STORE], line: &[u8], out: &mut [u8]) -> Player {
+fn end_line(
+    rt: &impl Print,
+    player: Player,
+    store: &mut [u8; STORE],
+    line: &[u8],
+    out: &mut [u8],
+) -> Player {
     let lines = next(player.lines);
     let played = play_line(player, store, line, out);
     let length = report::ended(out, played.length, lines);
-    let written = write_front(out, length);
+    let written = write_front(rt, out, length);
     let after = played.state;
     Player {
         state: after,
@@ -124,6 +134,7 @@ fn end_line(player: Player, store: &mut [u8; STORE], line: &[u8], out: &mut [u8]
 
 // Takes in bytes of the script: a newline ends a line, and bytes past a line's room are dropped.
 fn play_bytes(
+    rt: &impl Print,
     start: Player,
     store: &mut [u8; STORE],
     line: &mut [u8],
@@ -131,21 +142,16 @@ fn play_bytes(
     bytes: &[u8],
 ) -> Player {
     let mut player = start;
-    let mut i: usize = 0;
-    while i < bytes.len() {
-        let b = bytes[i];
-        i += 1;
-        if b == b'\n' {
-            player = end_line(player, store, line, out);
-            continue;
-        }
+    for b in bytes {
         let at = player.filled;
-        if at < line.len() {
-            line[at] = b;
+        if *b == b'\n' {
+            player = end_line(rt, player, store, line, out);
+        } else if at < line.len() {
+            line[at] = *b;
             player.filled = at + 1;
-            continue;
+        } else {
+            player.overlong = true;
         }
-        player.overlong = true;
     }
     player
 }
@@ -153,24 +159,27 @@ fn play_bytes(
 // Reads once and plays what was read. At the script's end, or where it can't be read, the player is
 // closed.
 fn play_some(
+    rt: &impl Print,
+    input: &mut impl Read,
     mut player: Player,
     store: &mut [u8; STORE],
     chunk: &mut [u8],
     line: &mut [u8],
     out: &mut [u8],
 ) -> Player {
-    let got = libc::read(libc::STDIN_FILENO, chunk);
-    let n = io::count(got, chunk);
+    let n = input.read(chunk).unwrap_or(0);
     if n == 0 {
         player.open = false;
         return player;
     }
-    play_bytes(player, store, line, out, &chunk[0..n])
+    play_bytes(rt, player, store, line, out, &chunk[0..n])
 }
 
-// Plays until the player is closed. A proved loop has to end, so it counts its turns down, from a
-// number that no run uses up.
+// Plays until the player is closed. A proved loop has to end, so it counts its turns, up to a number
+// that no run reaches.
 fn play_all(
+    rt: &impl Print,
+    input: &mut impl Read,
     start: Player,
     store: &mut [u8; STORE],
     chunk: &mut [u8],
@@ -178,22 +187,19 @@ fn play_all(
     out: &mut [u8],
 ) -> Player {
     let mut player = start;
-    let mut turns = u64::MAX;
-    while turns > 0 {
-        turns -= 1;
-        player = play_some(player, store, chunk, line, out);
-        let open = player.open;
-        if !open {
-            return player;
+    for _ in 0..u64::MAX {
+        player = play_some(rt, input, player, store, chunk, line, out);
+        if !player.open {
+            break;
         }
     }
     player
 }
 
-fn main() {
+fn main(rt: HostRuntime) {
     // the saved setups: they outlive a power-up
     let mut store = [0u8; STORE];
-    let mut chunk = io::large_buffer();
+    let mut chunk = [0u8; CHUNK];
     let mut line = [0u8; ROOM];
     let mut out = [0u8; ROOM];
     let state = State::power_up();
@@ -205,9 +211,12 @@ fn main() {
         lines: 0,
         open: true,
     };
-    let last = play_all(start, &mut store, &mut chunk, &mut line, &mut out);
+    let mut input = rt.stdin();
+    let last = play_all(
+        &rt, &mut input, start, &mut store, &mut chunk, &mut line, &mut out,
+    );
     // the last line lacks its newline
     if last.filled != 0 {
-        end_line(last, &mut store, &line, &mut out);
+        end_line(&rt, last, &mut store, &line, &mut out);
     }
 }

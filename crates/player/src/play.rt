@@ -2,8 +2,8 @@
 // the box and the store by hand.
 use crate::event::Played;
 use crate::{event, field, report, script, store};
-use bytes::scan;
 use interpreter::state::{STORE, State};
+use registers::text;
 
 // The longest store that an event is lent.
 const LONGEST: usize = 8192;
@@ -32,7 +32,7 @@ fn mark(state: State, lent: usize, text: &[u8], out: &mut [u8]) -> Played {
 
 // Plays an overwriting: a blank parts the field's name from its value.
 fn overwrite(state: State, lent: usize, text: &[u8], out: &mut [u8]) -> Played {
-    let end = scan::find(text, 0, text.len(), b' ');
+    let end = text::find(text, 0, b' ');
     if end == text.len() {
         return event::unreadable(state, lent);
     }
@@ -70,7 +70,8 @@ fn lend(
         return event::unreadable(state, lent);
     }
     let mut longer = [0u8; LONGEST];
-    bytes::copy(store, &mut longer);
+    let held = store.len();
+    longer[0..held].copy_from_slice(store);
     event::happen(state, &mut longer[0..lent], letter, text, out)
 }
 

@@ -3,12 +3,11 @@
 ghost use Rattle.std.specs.Prelude.{◌<◌};
 ghost use Rattle.player.specs.ReportParts.{HexDigitOf};
 
-use bytes::scan;
 use interpreter::state::Outcome;
-use registers::answer;
+use registers::{answer, text};
 
-// Twenty bytes hold every number of 64 bits, and every signed one of 32.
-const DIGITS: usize = 20;
+// Eleven bytes hold every signed number of 32 bits, with its minus.
+const DIGITS: usize = 11;
 
 // Writes one byte, if there is room for it.
 pub(crate) fn put(out: &mut [u8], at: usize, b: u8) -> usize {
@@ -22,19 +21,19 @@ pub(crate) fn put(out: &mut [u8], at: usize, b: u8) -> usize {
 // Writes a text, as much of it as there is room for.
 fn put_text(out: &mut [u8], from: usize, text: &[u8]) -> usize {
     let mut at = from;
-    let mut i: usize = 0;
-    while i < text.len() {
-        at = put(out, at, text[i]);
-        i += 1;
+    for b in text {
+        at = put(out, at, *b);
     }
     at
 }
 
-// Writes a number in decimal.
-fn put_number(out: &mut [u8], at: usize, n: u64) -> usize {
-    let mut text = [0u8; DIGITS];
-    let count = io::decimal(n, &mut text);
-    put_text(out, at, &text[..count])
+// Writes a number in decimal: first the digits before the last, by a call with a tenth of it.
+fn put_number(out: &mut [u8], from: usize, n: u64) -> usize {
+    let mut at = from;
+    if 10 <= n {
+        at = put_number(out, from, n / 10);
+    }
+    put(out, at, b'0' + (n % 10) as u8)
 }
 
 // Writes a signed number in decimal. Its text always fits; the test only tells the prover so.
@@ -89,10 +88,8 @@ pub(crate) fn put_hex(out: &mut [u8], from: usize, bytes: &[u8]) -> usize {
         return put(out, from, b'-');
     }
     let mut at = from;
-    let mut i: usize = 0;
-    while i < bytes.len() {
-        at = put_byte(out, at, bytes[i]);
-        i += 1;
+    for b in bytes {
+        at = put_byte(out, at, *b);
     }
     at
 }
@@ -100,7 +97,7 @@ pub(crate) fn put_hex(out: &mut [u8], from: usize, bytes: &[u8]) -> usize {
 // Writes in hex the text that an array holds, which ends before the first zero. What a hand-made
 // record has after that isn't shown.
 pub(crate) fn put_held(out: &mut [u8], from: usize, array: &[u8]) -> usize {
-    let end = scan::find(array, 0, array.len(), 0);
+    let end = text::find(array, 0, 0);
     put_hex(out, from, &array[0..end])
 }
 
@@ -133,14 +130,12 @@ pub(crate) fn numbers(out: &mut [u8], from: usize, list: &[u16], count: usize) -
         return nothing(out, from);
     }
     let mut at = from;
-    let mut i: usize = 0;
-    while i < list.len() {
+    for (i, n) in list.iter().enumerate() {
         if i == count {
-            return at;
+            break;
         }
         let item = put_separator(out, at, b' ', i);
-        at = put_number(out, item, list[i] as u64);
-        i += 1;
+        at = put_number(out, item, *n as u64);
     }
     at
 }
@@ -148,11 +143,9 @@ pub(crate) fn numbers(out: &mut [u8], from: usize, list: &[u16], count: usize) -
 // Writes all the numbers of a list, which may have a minus. A list that goes on opens with a comma.
 pub(crate) fn signed_numbers(out: &mut [u8], from: usize, opening: u8, list: &[i32]) -> usize {
     let mut at = from;
-    let mut i: usize = 0;
-    while i < list.len() {
+    for (i, value) in list.iter().enumerate() {
         let item = put_separator(out, at, opening, i);
-        at = put_signed(out, item, list[i]);
-        i += 1;
+        at = put_signed(out, item, *value);
     }
     at
 }

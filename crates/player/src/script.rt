@@ -17,7 +17,7 @@ const MOST_BELOW: u64 = 2_147_483_648;
 const NO_DIGIT: u8 = 16;
 
 // What a text says of a setting's value.
-#[derive(Drop)]
+#[derive(Clone, Copy)]
 pub(crate) enum Reading {
     Value(i32),
     Unreadable,
@@ -66,14 +66,11 @@ pub(crate) fn decimal(text: &[u8]) -> u64
         return UNREADABLE;
     }
     let mut n: u64 = 0;
-    let mut i: usize = 0;
-    while i < text.len() {
-        let b = text[i];
-        if !text::is_digit(b) {
+    for b in text {
+        if !text::is_digit(*b) {
             return UNREADABLE;
         }
-        n = with_digit(n, b);
-        i += 1;
+        n = with_digit(n, *b);
     }
     n
 }

@@ -5,9 +5,8 @@ ghost use Rattle.interpreter.specs.Box.{store_size};
 ghost use Rattle.registers.specs.Setup.{places};
 
 use crate::{report, script};
-use bytes::scan;
-use registers::setup;
 use registers::setup::BLOCK;
+use registers::{setup, text};
 
 // The blocks of the store.
 const BLOCKS: usize = 10;
@@ -40,7 +39,7 @@ fn add(store: &mut [u8], place: usize, offset: u64, value: u64) -> bool
         return false;
     }
     let at = place * BLOCK + offset as usize;
-    store[at] = std::num::wrapping_add_u8(store[at], value as u8);
+    store[at] = store[at].wrapping_add(value as u8);
     true
 }
 
@@ -48,7 +47,7 @@ fn add(store: &mut [u8], place: usize, offset: u64, value: u64) -> bool
 fn add_in(store: &mut [u8], place: usize, text: &[u8]) -> bool
     requires { length store.old ≡ store_size }
 {
-    let end = scan::find(text, 0, text.len(), b' ');
+    let end = text::find(text, 0, b' ');
     if end == text.len() {
         return false;
     }
@@ -64,7 +63,7 @@ fn put(store: &mut [u8], place: usize, block: &[u8; BLOCK]) -> bool
         return false;
     }
     let at = place * BLOCK;
-    bytes::copy(block, &mut store[at..]);
+    store[at..at + BLOCK].copy_from_slice(block);
     true
 }
 
@@ -77,7 +76,7 @@ fn copy(store: &mut [u8], from: usize, to: usize) -> bool
     }
     let at = from * BLOCK;
     let mut block = [0u8; BLOCK];
-    bytes::copy(&store[at..at + BLOCK], &mut block);
+    block.copy_from_slice(&store[at..at + BLOCK]);
     put(store, to, &block)
 }
 
@@ -89,7 +88,7 @@ pub(crate) fn change(store: &mut [u8], letter: u8, text: &[u8]) -> bool
     if letter == b'z' {
         return put(store, place(text), &[0u8; BLOCK]);
     }
-    let end = scan::find(text, 0, text.len(), b' ');
+    let end = text::find(text, 0, b' ');
     if end == text.len() {
         return false;
     }
@@ -110,12 +109,10 @@ pub(crate) fn show(store: &[u8], from: usize, out: &mut [u8]) -> usize
     requires { length store.now ≡ store_size }
 {
     let mut at = report::put(out, from, b' ');
-    let mut place: usize = 0;
-    while place < BLOCKS {
+    for place in 0..BLOCKS {
         let start = place * BLOCK;
         let recalled = setup::recall(&store[start..start + BLOCK]);
         at = report::put(out, at, digit(recalled.good));
-        place += 1;
     }
     at
 }

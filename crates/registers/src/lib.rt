@@ -3,6 +3,8 @@
 //
 // No public function has a `requires`: each says, for any input and any record, what it answers.
 // The definitions that the contracts cite are in specs/, in the words of document 01.
+#![tactic(auto)]
+
 pub mod answer;
 pub mod error;
 pub mod group;

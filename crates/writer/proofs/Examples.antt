@@ -1,10 +1,7 @@
 -- Lines that the writer writes, computed from the definitions: up to range R24V, back to R12V, and refusals 6 and 7.
 use mathlib.Core.Path.{◌≡◌, refl}
-use mathlib.Core.Bool.{true, false}
 use mathlib.Core.List.{[], ◌∷◌}
-use Prim.Native.Nat.{ℕ}
-use lib.ListN.{replicate}
-use lib.IntN.{ℤ, pos, negsuc}
+use lib.IntN.{pos}
 use Rattle.registers.specs.Text.{Text, if◌then◌else◌, bytes, same, small}
 use Rattle.registers.specs.Words.{short_form}
 use Rattle.registers.specs.Answer.{in_places, decimal, tenths}

@@ -1,13 +1,13 @@
 -- 02, #114, proved: row by row the settings become those aimed at. The row put last has its wanted value, so that the voltage meets its range,
 -- and the range its voltage.
 use mathlib.Core.Path.{◌≡◌, refl, sym, ◌∙◌, ap, ap₂, subst}
-use mathlib.Core.Bool.{Bool, true, false, not, ◌&&◌, ◌||◌, false≢true}
+use mathlib.Core.Bool.{Bool, true, false, not, ◌||◌, false≢true}
 use mathlib.Core.List.{List, [], ◌∷◌, ◌++◌, append-nil}
-use Prim.Native.Nat.{ℕ, zero, suc, ◌+◌, ◌≤◌, ◌<◌}
+use Prim.Native.Nat.{ℕ, zero, suc, ◌≤◌, ◌<◌}
 use native.Mathlib.Nat.{le_refl}
 use native.Mathlib.Omega.{arith}
 use lib.Dec.{leb, ltb, eqb}
-use lib.ListN.{length, take, drop, get_or, set, length-set}
+use lib.ListN.{length, take, drop, length-set}
 use lib.Seq.{take-append_seam, get_or-set_same, get_or-set_other, set-get_or, set_comm}
 use lib.IntN.{ℤ, pos, negsuc}
 use lib.Signed.{le_z, lt_z}
@@ -23,13 +23,13 @@ use Rattle.registers.proofs.label.Record.{HeldRight, held-right}
 use Rattle.interpreter.proofs.Lists.{same-eq}
 use Rattle.interpreter.specs.Box.{Core, Box, box, with_settings, with_line, with_answer}
 use Rattle.interpreter.specs.Line.{interrupted, piece}
-use Rattle.interpreter.specs.Events.{Event, received, Result, result_of, happens, after}
+use Rattle.interpreter.specs.Events.{received, Result, result_of, happens, after}
 use Rattle.interpreter.specs.State.{box_of}
 use Rattle.interpreter.proofs.Choices.{if₂}
 use Rattle.interpreter.proofs.demands.Demand2.{demand2}
 use Rattle.interpreter.proofs.demands.calls.AsHistory.{calls-are-a-history}
 use Rattle.interpreter.proofs.demands.Limits.{narrow-voltage}
-use Rattle.writer.specs.Lines.{line_for, label_for, differs, slot_of, row_at, slot_at, line_at, lines_to, lines_for, writable, written, Ready, Whole, discarded, aimed_to, aimed, Leads, LeadsOfCalls, LinesLead}
+use Rattle.writer.specs.Lines.{line_for, label_for, differs, slot_of, row_at, slot_at, lines_to, lines_for, writable, written, Whole, discarded, aimed_to, aimed, Leads, LeadsOfCalls, LinesLead}
 use Rattle.writer.proofs.Slots.{row-row, row_below, row_first, slot-below, slot-at-below, not-voltage, not-range, own-channel, two-slots, volts-below}
 use Rattle.writer.proofs.OneLine.{discard-core, line-runs, line-some, label-runs, label-some}
 

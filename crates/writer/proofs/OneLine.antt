@@ -1,23 +1,21 @@
 -- One line of the writer's, run at the start of a line where its value is let pass: the setting has the value then, an answer that waited is
 -- discarded, and nothing else is changed.
 use mathlib.Core.Path.{◌≡◌, refl, sym, ◌∙◌, ap}
-use mathlib.Core.Bool.{Bool, true, false, not, ◌&&◌, and-false, false≢true}
+use mathlib.Core.Bool.{Bool, true, false, not, and-false, false≢true}
 use mathlib.Core.List.{List, [], ◌∷◌, ◌++◌, append_assoc, append-nil}
 use Prim.Native.Nat.{ℕ, ◌+◌, ◌≤◌, ◌<◌}
 use Prim.Native.Char.{code}
 use native.Mathlib.Omega.{arith}
-use lib.Dec.{leb, ltb, eqb}
+use lib.Dec.{leb, eqb}
 use lib.ListN.{length, length-append}
 use lib.IntN.{ℤ}
 use borrow.Author.Tests.{leb-true, lt-ltb, not-true, ne_eqb}
 use Rattle.registers.specs.Text.{Text, if◌then◌else◌, bytes, white, printable, every, empty}
 use Rattle.registers.specs.Check.{passed, check, ◌>>=◌, ◌>>◌}
-use Rattle.registers.specs.Settings.{count, kind_of, value_at, with_value, with_text, within, conflict, answer_of}
+use Rattle.registers.specs.Settings.{count, kind_of, with_value, with_text, within, conflict, answer_of}
 use Rattle.registers.specs.Status.{Trouble, locked}
 use Rattle.registers.specs.declared.rounding.Side.TheVariants.{On}
-use Rattle.registers.specs.declared.settings.Settings.{Settings}
 use Rattle.registers.proofs.Tests.{and_both, every_append}
-use Rattle.interpreter.specs.Header.{here, path_after}
 use Rattle.interpreter.specs.Box.{Core, Box, box, with_settings, with_line, with_answer, most_line}
 use Rattle.interpreter.specs.Unit.{read_unit}
 use Rattle.interpreter.specs.Demand2.{tabled, display}
@@ -34,7 +32,7 @@ use Rattle.interpreter.proofs.demands.Demand2.{demand2}
 use Rattle.interpreter.proofs.demands.trip.ReadBack.{plain_byte, plain_text, answer-sets, answer-plain}
 use Rattle.interpreter.proofs.demands.trip.SentUnit as sent
 use Rattle.writer.specs.Lines.{header_for, line_for, label_header, label_for}
-use Rattle.writer.proofs.Headers.{spelling-for, label-spelling, most_header, header-short, inside, header-inside}
+use Rattle.writer.proofs.Headers.{spelling-for, label-spelling, header-short, inside, header-inside}
 
 -- ---- the bytes of a line
 

@@ -1,10 +1,9 @@
 -- 02, #114: a session whose lines all agree is a right record; one that differs is right up to the line that is named, and wrong behind it.
 -- By induction over the lines that are left, with the answer that is still to be found.
 use mathlib.Core.Path.{◌≡◌, refl, sym, ◌∙◌, ap, ap₂, subst}
-use mathlib.Core.Bool.{Bool, true, false, not, false≢true}
+use mathlib.Core.Bool.{Bool, true, false, false≢true}
 use mathlib.Core.List.{List, [], ◌∷◌, ◌++◌, map, append_assoc, nil≢cons, head-eq_of_cons-eq, tail-eq_of_cons-eq}
-use Prim.Native.Nat.{ℕ, zero, suc, pred, ◌+◌, ◌≤◌, ◌<◌}
-use Prim.Native.Char.{code}
+use Prim.Native.Nat.{ℕ, suc, ◌+◌, ◌≤◌}
 use native.Mathlib.Omega.{arith}
 use lib.Dec.{eqb}
 use lib.ListN.{length, length-append}
@@ -13,12 +12,12 @@ use Rattle.registers.specs.Text.{Text, if◌then◌else◌, empty, first, rest, 
 use Rattle.interpreter.specs.Cuts.{front}
 use Rattle.interpreter.specs.Box.{Core, Box, box, with_line}
 use Rattle.interpreter.specs.Line.{finished, run_line, end_line, byte, piece}
-use Rattle.interpreter.specs.Events.{received, happens}
+use Rattle.interpreter.specs.Events.{happens}
 use Rattle.interpreter.specs.Server.{lines_of, heard_line}
 use Rattle.interpreter.proofs.Choices.{if-elim}
 use Rattle.interpreter.proofs.Lists.{same-eq, same_refl, is-empty}
 use Rattle.interpreter.proofs.demands.Demand2.{demand2}
-use Rattle.writer.specs.Session.{at_power_up, Marking, Verdict, agree, differs, broken, Stepped, goes, stops, line_sent, answer_read, line_read, bare, next_line, marked, verdict_on, as_recorded, answer_to, record_of, NoAnswer, RightBehind, heard_lines, Astray, AgreeingIsRight, RightIsAgreeing, DifferingIsAstray, BrokenAt, BrokenIsBroken, MarksRight}
+use Rattle.writer.specs.Session.{at_power_up, Marking, Verdict, agree, differs, broken, goes, stops, line_sent, answer_read, line_read, bare, next_line, marked, as_recorded, answer_to, record_of, NoAnswer, RightBehind, heard_lines, Astray, AgreeingIsRight, RightIsAgreeing, DifferingIsAstray, BrokenIsBroken, MarksRight}
 use Rattle.writer.proofs.OneLine.{discard-core}
 
 -- ---- texts

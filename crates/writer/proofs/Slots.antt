@@ -1,11 +1,11 @@
 -- The slots of a channel's rows: they are slots, no row but the voltage's and the range's has a slot that the limits or check 8 know, and those
 -- two are a channel's. And the order of the rows.
-use mathlib.Core.Path.{◌≡◌, refl, sym, ◌∙◌, ap}
+use mathlib.Core.Path.{◌≡◌, refl}
 use mathlib.Core.Bool.{Bool, true, false, not, ◌&&◌, ◌||◌, false≢true}
 use Prim.Native.Nat.{ℕ, ◌<◌}
 use native.Mathlib.Omega.{arith}
 use lib.Dec.{ltb, eqb}
-use borrow.Author.Tests.{ltb-true, eqb-true, eqb-false, ne_eqb}
+use borrow.Author.Tests.{ltb-true, eqb-true, ne_eqb}
 use Rattle.registers.specs.Text.{if◌then◌else◌, below}
 use Rattle.registers.specs.Settings.{count, table_count, voltage, range, voltage2, range2, wide_range}
 use Rattle.registers.specs.declared.settings.Settings.{Settings}

@@ -7,7 +7,7 @@ use Rattle.registers.specs.Text.{Text, if◌then◌else◌, bytes, same, empty}
 use Rattle.registers.specs.Label.{quoted_text}
 use Rattle.registers.specs.Check.{Checked, refused, passed}
 use Rattle.registers.specs.Words.{Node, must, may, short_form}
-use Rattle.registers.specs.Settings.{count, table_count, voltage, range, exam, second, setting_at, kind_of, value_at, with_value, displayed, AsLong, wide_range, possible_settings, answer_of}
+use Rattle.registers.specs.Settings.{table_count, voltage, range, exam, second, setting_at, kind_of, value_at, with_value, displayed, AsLong, wide_range, possible_settings, answer_of}
 use Rattle.registers.specs.Status.{locked}
 use Rattle.registers.specs.declared.settings.Settings.{Settings}
 use Rattle.interpreter.specs.Header.{numbered}

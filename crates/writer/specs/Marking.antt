@@ -4,7 +4,7 @@ use Rattle.std.specs.Prelude.{◌≡◌, Bool, true, false, ◌&&◌, ◌||◌, 
 use mathlib.Core.List.{List, [], ◌∷◌, ◌++◌, flatten}
 use Prim.Native.Char.{code}
 use Rattle.registers.specs.Text.{Text, if◌then◌else◌, empty}
-use Rattle.interpreter.specs.Box.{Box, memory, blank, answer_is, power_up, store_size, most_answer}
+use Rattle.interpreter.specs.Box.{Box, memory, blank, answer_is, store_size, most_answer}
 use Rattle.interpreter.specs.Events.{received, happens}
 use Rattle.interpreter.specs.State.{box_of, possible_state, Started}
 use Rattle.writer.specs.Session.{Verdict, agree, differs, broken, verdict_on}

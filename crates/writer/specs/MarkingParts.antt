@@ -1,8 +1,8 @@
 -- What the marker's private functions say. Nothing of 02 is defined here: see Session.antt and Marking.antt.
 use Rattle.std.specs.Prelude.{◌≡◌, true, ℕ, ◌+◌, ◌≤◌, ◌<◌, length, drop}
 use Rattle.registers.specs.Text.{Text}
-use Rattle.interpreter.specs.Box.{Box, store_size, most_answer}
-use Rattle.writer.specs.Marking.{Progress, fed, progress_of, sound_marker, most_lines, Lent}
+use Rattle.interpreter.specs.Box.{Box}
+use Rattle.writer.specs.Marking.{fed, progress_of, sound_marker, most_lines, Lent}
 use Rattle.writer.specs.declared.session.Place.{Place}
 use Rattle.writer.specs.declared.session.Marker.{Marker}
 use Rattle.writer.specs.declared.session.Compared.{Compared}

@@ -1,7 +1,7 @@
 -- 02, #114, "session marker": "reads a saved session, `>` before each sent line and `<` before each answer, and reports the first line whose
 -- recorded answer differs from the box's (from power-up; an answer on one side only differs), or says that all agree". "At an empty line or
 -- another first byte it reports a broken record with its line number and stops". Lines are counted from 1.
-use Rattle.std.specs.Prelude.{◌≡◌, Bool, true, false, not, List, [], ◌∷◌, ◌++◌, map, ℕ, suc, pred, ◌+◌, ◌≤◌, eqb, length}
+use Rattle.std.specs.Prelude.{◌≡◌, not, List, [], ◌∷◌, ◌++◌, map, ℕ, suc, pred, ◌+◌, ◌≤◌, eqb, length}
 use Prim.Native.Char.{code}
 use Rattle.registers.specs.Text.{Text, if◌then◌else◌, empty, first, rest, start, same}
 use Rattle.interpreter.specs.Cuts.{front}

@@ -1,6 +1,6 @@
 -- A text cut at its separators outside quotes: at least one part; parts joined again and cut are the same parts, if each but the last has
 -- its quotes closed (`Parted`), as the parts of any text have.
-use mathlib.Core.Path.{◌≡◌, refl, sym, subst, ◌∙◌, ap}
+use mathlib.Core.Path.{◌≡◌, refl, sym}
 use mathlib.Core.Bool.{Bool, true, false, not, ◌&&◌, false≢true}
 use mathlib.Core.List.{List, [], ◌∷◌, ◌++◌}
 use Prim.Native.Nat.{ℕ, ◌≤◌}

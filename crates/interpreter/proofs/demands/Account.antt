@@ -8,25 +8,23 @@ use native.Mathlib.Omega.{arith}
 use lib.Dec.{leb, ltb, eqb}
 use lib.ListN.{length, take, length-append, length-take}
 use borrow.Author.Tests.{eqb-true, eqb-false, ltb-true, ltb-false, lt-ltb, ne_eqb}
-use Rattle.registers.specs.Text.{Text, if◌then◌else◌, every, empty, rest, only}
-use Rattle.registers.specs.Check.{Checked, refused, passed, check, ◌>>=◌, ◌>>◌}
+use Rattle.registers.specs.Text.{Text, if◌then◌else◌, every, empty, rest}
+use Rattle.registers.specs.Check.{Checked, refused, passed, ◌>>=◌, ◌>>◌}
 use Rattle.registers.specs.Error.{overflow}
 use Rattle.registers.specs.Queue.{most, last_place, may_be_queued, queueable}
 use Rattle.registers.specs.Group.{widest_group}
 use Rattle.registers.specs.Status.{Trouble, at_start, raised, oldest_read, completed, events_read}
 use Rattle.registers.proofs.Tests.{and_both, if-same}
 use Rattle.interpreter.specs.Cuts.{last, front}
-use Rattle.interpreter.specs.Box.{Core, Memory, Box, box, raise, with_line, answer_is, power_up}
+use Rattle.interpreter.specs.Box.{Core, Box, box, raise, power_up}
 use Rattle.interpreter.specs.Unit.{Read, read_unit, raisable}
 use Rattle.interpreter.specs.Reply.{reply_to, inquiry_reply, reply}
-use Rattle.interpreter.specs.Perform.{set_up, after_query, after_inquiry, permitted, perform}
-use Rattle.interpreter.specs.Line.{Obeyed, attempt, refuse, next, run_units, units_of, interrupted, finished, run_line, end_line, at_newline, held, byte, piece}
-use Rattle.interpreter.specs.Events.{Event, started, received, take as takes, condition, look, altered, mislent, Happened, Result, taken, reported, happens, after}
-use Rattle.interpreter.specs.State.{box_of, possible_state, Started}
-use Rattle.interpreter.specs.Calls.{Calls}
+use Rattle.interpreter.specs.Perform.{set_up, after_query, permitted, perform}
+use Rattle.interpreter.specs.Line.{Obeyed, attempt, refuse, next, run_units, units_of, interrupted, finished, run_line, end_line, at_newline, byte, piece}
+use Rattle.interpreter.specs.Events.{Event, started, received, take as takes, condition, look, altered, mislent, Happened, taken, reported, happens, after}
+use Rattle.interpreter.specs.State.{box_of}
 use Rattle.interpreter.specs.Steps.{Step, discards, overruns, steps_next, unit_steps, line_steps, own_steps, end_steps, byte_steps, piece_steps, event_steps, steps}
 use Rattle.interpreter.specs.Account.{Act, raises, reads, starts, leaves, inquiry_act, deed_act, read_act, unit_act, act_of, waits, kept_by, kept, full_at_next, full_by, unlost_by, unlost, goes_on, read_by, read_in, struck, Accounted, waiting_at, queue, SincePowerUp, SinceStart, NoneUnaccounted}
-use Rattle.interpreter.specs.declared.state.State.{State}
 use Rattle.interpreter.specs.declared.deed.Deed.{Deed}
 use Rattle.interpreter.specs.declared.deed.Deed.TheVariants.{Change, Complete, Clear, Query, Inquire, Saving}
 use Rattle.interpreter.specs.declared.deed.Inquiry as inquiries

@@ -1,11 +1,11 @@
 -- Demand 2: settings never leave their limits, and the voltage never its range.
 use mathlib.Core.Path.{◌≡◌, refl, ◌∙◌, ap}
-use mathlib.Core.Bool.{Bool, true, false, not, ◌&&◌}
+use mathlib.Core.Bool.{Bool, true, false, not}
 use Prim.Native.Nat.{ℕ, ◌<◌}
 use native.Mathlib.Omega.{arith}
 use lib.Dec.{eqb}
 use lib.IntN.{ℤ, pos, negsuc}
-use lib.Signed.{le_z, lt_z}
+use lib.Signed.{le_z}
 use borrow.Author.Tests.{leb-true, lt-leb, eqb-true}
 use Rattle.registers.specs.Text.{if◌then◌else◌}
 use Rattle.registers.specs.Settings.{count, range, range2, conflict, twelve_volts, wide_range, lowest, value_at, within}

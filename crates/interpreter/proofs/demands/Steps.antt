@@ -1,9 +1,8 @@
 -- The laws of a history's steps: part by part, in other pieces, and over calls.
 use mathlib.Core.Path.{◌≡◌, refl, sym, ◌∙◌, ap, ap₂}
 use mathlib.Core.List.{List, [], ◌∷◌, ◌++◌, map, append-nil, append_assoc}
-use Prim.Native.Nat.{ℕ}
 use Rattle.registers.specs.Text.{Text, if◌then◌else◌}
-use Rattle.interpreter.specs.Box.{Memory, Box, power_up}
+use Rattle.interpreter.specs.Box.{Box, power_up}
 use Rattle.interpreter.specs.Line.{end_line, byte, piece}
 use Rattle.interpreter.specs.Events.{Event, started, received, take, condition, look, altered, mislent, happens, after}
 use Rattle.interpreter.specs.Histories.{single, newline, moments}

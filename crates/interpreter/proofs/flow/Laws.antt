@@ -9,7 +9,7 @@ use native.Mathlib.Omega.{arith}
 use native.Mathlib.Numerals.{add-one, unary_clauses}
 use lib.Dec.{eqb, ltb, leb-suc-suc}
 use lib.ListN.{length, take, drop, get_or, length-take, length-drop, length-append}
-use lib.Seq.{take_all, take-add, take-suc, take-nil, take-length, length-take-le, paste, take-paste}
+use lib.Seq.{take_all, take-add, take-suc, take-nil, length-take-le, paste, take-paste}
 use borrow.Author.Tests.{lt-ltb, le-ltb, eqb-true, ltb-true, ltb-false}
 use Rattle.registers.specs.Text.{index_of, index_after}
 use Rattle.registers.specs.Text.{Text, if◌then◌else◌}

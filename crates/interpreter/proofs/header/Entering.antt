@@ -4,7 +4,7 @@
 use mathlib.Core.Path.{◌≡◌, refl, sym, ◌∙◌, ap, subst}
 use mathlib.Core.Bool.{Bool, true, false, ◌&&◌, false≢true}
 use mathlib.Core.List.{List, [], ◌∷◌, ◌++◌, map, append_assoc}
-use Prim.Native.Nat.{ℕ, zero, suc, ◌+◌, ◌*◌, ◌%◌, ◌≤◌, ◌<◌, ◌^◌}
+use Prim.Native.Nat.{ℕ, zero, suc, ◌+◌, ◌≤◌, ◌<◌}
 use native.Mathlib.Numerals.{add-one}
 use native.Mathlib.Omega.{arith}
 use lib.ListN.{length, take, drop, set, length-append, length-take}
@@ -14,7 +14,7 @@ use Rattle.registers.specs.Text.{Text, if◌then◌else◌, visible, letter, sma
 use Rattle.registers.proofs.Tests.{is_true, and-true}
 use Rattle.registers.proofs.text.Laws.{rest_at, drop-start, start-passes}
 use Rattle.interpreter.specs.Header.{name}
-use Rattle.interpreter.specs.NameParts.{code_of, with_code, key_from, word_key, class_of, key_of, suffix_place, stem_byte, name_in, NameRead, code_count}
+use Rattle.interpreter.specs.NameParts.{with_code, word_key, class_of, key_of, name_in, NameRead}
 use Rattle.interpreter.specs.HeaderParts.{most_names, asks_in, names_in, unasked, Entered, TailRead, NamesRead}
 use Rattle.interpreter.specs.declared.name.Name.{Name}
 use Rattle.interpreter.specs.declared.header.Names.{Names}

@@ -14,7 +14,7 @@ use Rattle.registers.proofs.Tests.{and_both, and-true, every_append}
 use Rattle.interpreter.specs.Cuts.{front}
 use Rattle.interpreter.specs.Header.{name, suffix_in}
 use Rattle.interpreter.specs.NameParts.{class_of, key_of}
-use Rattle.interpreter.specs.DeedParts.{row_count, place_count, place_of}
+use Rattle.interpreter.specs.DeedParts.{row_count, place_of}
 use Rattle.interpreter.specs.RowsParts.{row_of, class_in, row_of_keys}
 use Rattle.interpreter.specs.TableParts.{or_zero}
 use Rattle.interpreter.specs.HeaderParts.{most_names, Holds}

@@ -12,7 +12,7 @@ use lib.Seq.{take-suc-set}
 use borrow.Author.Tests.{eq-eqb, ne_eqb}
 use Rattle.registers.specs.Text.{Text, if◌then◌else◌, start, white, every}
 use Rattle.registers.specs.declared.error.Error.TheVariants.{InputBufferOverrun}
-use Rattle.interpreter.specs.Box.{Memory, box, most_answer}
+use Rattle.interpreter.specs.Box.{Memory, most_answer}
 use Rattle.interpreter.specs.Line.{run_units, finished, units_of, run_line, end_line}
 use Rattle.interpreter.specs.PresentParts.{box_in, raised_with}
 use Rattle.interpreter.specs.PresentParts.{box_at, Discarded}

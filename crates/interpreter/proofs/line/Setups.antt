@@ -1,24 +1,23 @@
 -- *SAV and *RCL, once the lock let them pass: the block that the code writes or reads is the definition's.
-use mathlib.Core.Path.{◌≡◌, refl, sym, ◌∙◌, ap}
+use mathlib.Core.Path.{◌≡◌, refl, sym, ◌∙◌}
 use mathlib.Core.Bool.{Bool, true, false, not, false≢true}
-use mathlib.Core.List.{◌++◌, append_assoc}
+use mathlib.Core.List.{append_assoc}
 use Prim.Native.Nat.{ℕ, ◌+◌, ◌-◌, ◌*◌, ◌≤◌, ◌<◌}
 use native.Mathlib.Omega.{arith}
-use lib.ListN.{length, take, drop}
+use lib.ListN.{take, drop}
 use lib.Seq.{paste, take_all}
 use borrow.Author.Tests.{not-true, not-false}
 use Rattle.registers.specs.Text.{Text}
-use Rattle.registers.specs.Check.{refused, passed, check, ◌>>=◌, ◌>>◌}
+use Rattle.registers.specs.Check.{passed, check, ◌>>=◌, ◌>>◌}
 use Rattle.registers.specs.Queue.{most}
 use Rattle.registers.specs.Setup.{block_size, block_of, said_in, recallable, block_at, saved_at}
 use Rattle.registers.specs.declared.error.Error.TheVariants.{SaveRecallMemoryLost}
 use Rattle.registers.specs.declared.settings.Settings.{Settings}
 use Rattle.registers.proofs.setup.Laws.{block-long, said-recalled}
-use Rattle.interpreter.specs.Box.{Memory, memory, most_answer}
+use Rattle.interpreter.specs.Box.{memory, most_answer}
 use Rattle.interpreter.specs.Perform.{permitted, set_up, perform}
-use Rattle.interpreter.specs.Line.{refuse}
-use Rattle.interpreter.specs.PresentParts.{core_in, box_at}
-use Rattle.interpreter.specs.LineParts.{StoppedWith, carried, CarriedOut}
+use Rattle.interpreter.specs.PresentParts.{core_in}
+use Rattle.interpreter.specs.LineParts.{StoppedWith, CarriedOut}
 use Rattle.interpreter.specs.declared.deed.Deed.TheVariants.{Saving}
 use Rattle.interpreter.specs.declared.deed.Saving.TheVariants.{Save, Recall}
 use Rattle.interpreter.specs.declared.present.Present.{Present}

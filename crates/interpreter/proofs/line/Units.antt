@@ -7,7 +7,7 @@ use Prim.Native.Char.{code}
 use Prim.Native.Nat.{ℕ, suc, ◌+◌, ◌-◌, ◌≤◌, ◌<◌, zero-le}
 use native.Mathlib.Omega.{arith}
 use native.Mathlib.Numerals.{add-one}
-use lib.Dec.{ltb, eqb, leb-suc-suc}
+use lib.Dec.{ltb, leb-suc-suc}
 use lib.ListN.{length, take, drop, length-drop}
 use lib.Seq.{drop-drop}
 use borrow.Author.Tests.{ltb-true, ltb-false, lt-ltb, le-ltb}
@@ -16,7 +16,7 @@ use Rattle.registers.specs.Check.{refused, passed}
 use Rattle.registers.proofs.Tests.{and_both}
 use Rattle.interpreter.specs.Cuts.{quote_next, separates, cut_open}
 use Rattle.interpreter.specs.CutsParts.{place_open}
-use Rattle.interpreter.specs.Box.{Memory, memory, store_size, Box, box, most_answer}
+use Rattle.interpreter.specs.Box.{memory, store_size, Box, most_answer}
 use Rattle.interpreter.specs.Line.{Obeyed, attempt, refuse, run_units}
 use Rattle.interpreter.specs.HeaderParts.{Holds}
 use Rattle.interpreter.specs.PresentParts.{box_in}

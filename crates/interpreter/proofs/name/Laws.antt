@@ -2,20 +2,20 @@
 -- stem's; a code of 0 ends it. The name's first byte, a letter, is added last, as the lowest place. A name is its stem and, from the first
 -- digit on, its suffix.
 use mathlib.Core.Path.{◌≡◌, refl, sym, ◌∙◌, ap}
-use mathlib.Core.Bool.{Bool, true, false, not, ◌&&◌, ◌||◌, false≢true}
-use mathlib.Core.List.{[], ◌∷◌, ◌++◌}
-use Prim.Native.Nat.{ℕ, suc, ◌+◌, ◌*◌, ◌%◌, ◌^◌, ◌-◌, ◌≤◌, ◌<◌}
+use mathlib.Core.Bool.{Bool, true, false, not, ◌&&◌, false≢true}
+use mathlib.Core.List.{[], ◌∷◌}
+use Prim.Native.Nat.{ℕ, suc, ◌+◌, ◌*◌, ◌-◌, ◌≤◌, ◌<◌}
 use native.Mathlib.Omega.{arith}
 use lib.Dec.{eqb}
 use borrow.Author.Tests.{ne_eqb}
-use lib.ListN.{length, get_or, drop, length-append}
-use Rattle.registers.specs.Text.{Text, if◌then◌else◌, bytes, same, letter, small, digit, word_byte, every, empty, first, start, after}
+use lib.ListN.{length, get_or, drop}
+use Rattle.registers.specs.Text.{Text, if◌then◌else◌, bytes, same, letter, small, digit, word_byte, every, first, start, after}
 use Rattle.registers.proofs.text.Laws.{first-at, first-within, start-more, start-stop, start-end, end-drop, OnWay, way_on, way-stop, way_end}
-use Rattle.registers.proofs.Tests.{and_both, and_assoc}
+use Rattle.registers.proofs.Tests.{and_assoc}
 use Rattle.interpreter.specs.Header.{stem, suffix}
-use Rattle.interpreter.specs.NameParts.{code_of, with_code, key_from, word_key, class_of, class_by, key_of, suffix_place, code_count, stem_byte, name_in, RestRead, SuffixRead, NameRead}
+use Rattle.interpreter.specs.NameParts.{code_of, with_code, key_from, word_key, class_of, class_by, key_of, suffix_place, stem_byte, name_in, RestRead, SuffixRead, NameRead}
 use Rattle.interpreter.specs.declared.name.Name.{Name}
-use Rattle.interpreter.proofs.table.Codes.{letter-word, letter-stem, code-small, code-some, code-none, stem-is}
+use Rattle.interpreter.proofs.table.Codes.{letter-stem, code-small, code-some, code-none, stem-is}
 use Rattle.interpreter.proofs.table.Keys.{class-most}
 
 -- ---- a byte by its code

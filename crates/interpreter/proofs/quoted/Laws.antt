@@ -2,12 +2,11 @@
 use mathlib.Core.Path.{◌≡◌, refl, sym, ◌∙◌}
 use mathlib.Core.Bool.{Bool, true, false, not, false≢true}
 use Prim.Native.Nat.{ℕ, ◌≤◌, ◌<◌}
-use lib.Dec.{leb}
 use lib.ListN.{length}
 use borrow.Author.Tests.{not-true, not-false, le-leb, lt-leb}
-use Rattle.registers.specs.Text.{Text, if◌then◌else◌, every, first}
+use Rattle.registers.specs.Text.{Text, if◌then◌else◌, first}
 use Rattle.registers.specs.Check.{refused, passed, check, ◌>>◌}
-use Rattle.registers.specs.Label.{most_text, may_stand, text_in, LabelRead}
+use Rattle.registers.specs.Label.{most_text, text_in, LabelRead}
 use Rattle.registers.specs.declared.label.Label.{Label}
 use Rattle.interpreter.specs.Cuts.{is_quote, quote_next}
 use Rattle.interpreter.specs.Parameter.{label_deed}

@@ -1,11 +1,11 @@
 -- The suffix of a header by its names' numbers: the first of them that is one. The four nodes that take one stand first in the list of
 -- words.
-use mathlib.Core.Path.{◌≡◌, refl, sym, ◌∙◌, ap}
-use mathlib.Core.Bool.{Bool, true, false, ◌&&◌, ◌||◌}
+use mathlib.Core.Path.{◌≡◌, refl}
+use mathlib.Core.Bool.{Bool, true, false}
 use mathlib.Core.List.{List, [], ◌∷◌, map}
 use Prim.Native.Nat.{ℕ, ◌+◌, ◌/◌, ◌≤◌, ◌<◌}
 use native.Mathlib.Numerals.{add-one}
-use lib.Dec.{ltb, eqb}
+use lib.Dec.{ltb}
 use lib.ListN.{length, get_or, drop, drop_of_length-le}
 use lib.Seq.{drop-cons}
 use borrow.Author.Tests.{eq-eqb, ne_eqb}
@@ -15,7 +15,7 @@ use Rattle.interpreter.specs.Header.{name, numbered, suffix, suffix_in}
 use Rattle.interpreter.specs.NameParts.{class_of, key_of, suffix_place}
 use Rattle.interpreter.specs.TableParts.{node_count, numbered_count, node_at, node_list}
 use Rattle.interpreter.specs.RowsParts.{class_in}
-use Rattle.interpreter.proofs.Lists.{listed, agree, is-empty}
+use Rattle.interpreter.proofs.Lists.{listed, agree}
 use Rattle.interpreter.proofs.table.Keys.{key-class, class-none}
 
 pub numbered_is : (w : ℕ) → w < node_count → numbered (node_at w) ≡ ltb w numbered_count

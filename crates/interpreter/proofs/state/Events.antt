@@ -10,14 +10,14 @@ use lib.ListN.{length, take, drop, length-take}
 use borrow.Author.Tests.{le-leb, lt-leb, eq-eqb, ne_eqb}
 use Rattle.registers.specs.Text.{Text, if◌then◌else◌}
 use Rattle.registers.specs.Group.{widest_group, possible_group}
-use Rattle.registers.specs.Settings.{at_reset, count}
+use Rattle.registers.specs.Settings.{at_reset}
 use Rattle.registers.specs.Status.{registers_of, trouble_of, raised_in, reported_in, status_byte, at_start, possible_status, possible_registers, possible_trouble}
 use Rattle.registers.specs.declared.status.Status.{Status}
 use Rattle.registers.proofs.settings.Possible.{reset-possible}
 use Rattle.registers.proofs.status.Laws.{reported-yes}
 use Rattle.registers.proofs.status.Meaning.{raised-trouble, raised-registers}
 use Rattle.registers.specs.declared.status.RegisterSet.{RegisterSet}
-use Rattle.interpreter.specs.Box.{Memory, memory, store_size, right_size, box}
+use Rattle.interpreter.specs.Box.{Memory, memory, store_size, right_size}
 use Rattle.interpreter.specs.Line.{newlines}
 use Rattle.interpreter.specs.Events.{Event, received, take as takes, condition, look, Result, result_of, happened, happens, taken, reported, lent}
 use Rattle.interpreter.specs.State.{box_of, possible_parts, possible_state, admitted, rightly, Happens}

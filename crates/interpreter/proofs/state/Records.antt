@@ -3,7 +3,6 @@ use mathlib.Core.Path.{◌≡◌}
 use mathlib.Core.Bool.{Bool, true, false, not}
 use Prim.Native.Nat.{◌≤◌, zero-le}
 use lib.Dec.{leb}
-use lib.ListN.{length}
 use borrow.Author.Tests.{leb-true, le-leb, not-true, not-false}
 use Rattle.registers.specs.Text.{Text}
 use Rattle.registers.specs.Settings.{possible_settings, AsLong}

@@ -1,13 +1,12 @@
 -- The place that a search finds: its role is the one that check 3 finds, and a setting's place is one of the thirty slots.
-use mathlib.Core.Path.{◌≡◌, refl, ap, ◌∙◌}
+use mathlib.Core.Path.{◌≡◌, refl}
 use mathlib.Core.Bool.{Bool, true, false, ◌&&◌, ◌||◌}
-use mathlib.Core.List.{List, []}
+use mathlib.Core.List.{List}
 use Prim.Native.Nat.{ℕ, ◌≤◌, ◌<◌}
-use native.Mathlib.Omega.{arith}
-use lib.Dec.{leb, eqb, ltb}
+use lib.Dec.{eqb, ltb}
 use borrow.Author.Tests.{eqb-true, ltb-true, ltb-false, le-leb}
 use Rattle.registers.specs.Text.{Text, if◌then◌else◌, bytes, same, digit, every, empty}
-use Rattle.registers.specs.Check.{Checked, refused, passed, ◌>>=◌}
+use Rattle.registers.specs.Check.{refused, passed, ◌>>=◌}
 use Rattle.registers.specs.Settings.{count, table, slots}
 use Rattle.registers.proofs.Tests.{and_both, below_at}
 use Rattle.interpreter.specs.Header.{suffix_in}

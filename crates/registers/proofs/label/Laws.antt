@@ -2,16 +2,15 @@
 -- holds the taken ones.
 use mathlib.Core.Path.{◌≡◌, refl, sym, ◌∙◌, ap}
 use mathlib.Core.Bool.{Bool, true, false, not, ◌&&◌, ◌||◌, false≢true}
-use mathlib.Core.List.{List, [], ◌∷◌, ◌++◌, append_assoc, append-nil}
+use mathlib.Core.List.{[], ◌∷◌, ◌++◌, append_assoc, append-nil}
 use Prim.Native.Nat.{ℕ, zero, suc, ◌+◌, ◌≤◌, ◌<◌}
 use native.Mathlib.Omega.{arith}
 use native.Mathlib.Numerals.{add-one}
 use lib.Dec.{eqb}
 use lib.ListN.{length, get_or, set, drop, replicate, length-append, drop_of_length-le}
 use lib.Seq.{drop-cons}
-use borrow.Author.Tests.{eqb-true}
 use Rattle.registers.specs.Text.{Text, if◌then◌else◌, every, first, rest}
-use Rattle.registers.specs.Label.{most_text, may_stand, closes, undoubled, padded, possible_text, LabelRead}
+use Rattle.registers.specs.Label.{most_text, may_stand, closes, undoubled, padded, LabelRead}
 use Rattle.registers.proofs.Tests.{and_assoc}
 use Rattle.registers.proofs.text.Laws.{rest_at}
 

@@ -12,7 +12,7 @@ use lib.IntN.{ℤ, pos, negsuc, neg_ℤ, nat_abs}
 use lib.Signed.{lt_z}
 use mir.Syntax.{w32}
 use mir.Val.{SFits}
-use borrow.Author.Tests.{eqb-true, eq-eqb, ne_eqb, ltb-true, le-leb, lt-leb, not-true, not-false}
+use borrow.Author.Tests.{eqb-true, ltb-true, le-leb, lt-leb, not-true, not-false}
 use Rattle.registers.specs.Text.{Text, if◌then◌else◌}
 use Rattle.registers.specs.Answer.{over}
 use Rattle.registers.specs.AnswerParts.{over_at, LaidAt}

@@ -2,11 +2,11 @@
 use mathlib.Core.Path.{◌≡◌, refl, sym, ◌∙◌, ap, ap₂}
 use mathlib.Core.Bool.{Bool, true, false, not, ◌&&◌, false≢true}
 use mathlib.Core.List.{List, [], ◌∷◌, ◌++◌, append_assoc, append-nil}
-use Prim.Native.Nat.{ℕ, zero, suc, ◌+◌, ◌-◌, ◌*◌, ◌/◌, ◌%◌, ◌^◌, ◌≤◌, ◌<◌, zero-le}
+use Prim.Native.Nat.{ℕ, zero, suc, ◌+◌, ◌-◌, ◌*◌, ◌/◌, ◌%◌, ◌≤◌, ◌<◌, zero-le}
 use native.Mathlib.Nat.{add_right_cancel, add_left_cancel, eq_of_mul-eq-mul_left, zero-lt-suc, mul-le-mul}
 use native.Mathlib.Omega.{arith}
 use lib.Dec.{eqb, ltb, leb}
-use lib.ListN.{length, take, drop, set, get_or, replicate, length-set, length-drop, length-take, length-append, length-replicate}
+use lib.ListN.{length, take, drop, set, get_or, replicate, length-drop, length-take, length-append, length-replicate}
 use lib.Seq.{take-set-lt, take-set-le, drop-set-lt, drop-set-add, get_or-take, get_or-drop, take_at, drop_at, take_all, take-suc, length-take-le, drop-drop, get_or-append-add}
 use lib.IntN.{ℤ, pos, negsuc}
 use lib.Signed.{le_z}

@@ -1,7 +1,7 @@
 -- Laws of the loop that weighs a text, and of four bytes as a number.
-use mathlib.Core.Path.{◌≡◌, refl, sym, ◌∙◌, ap}
+use mathlib.Core.Path.{◌≡◌, ◌∙◌, ap}
 use mathlib.Core.List.{List, [], ◌∷◌}
-use Prim.Native.Nat.{ℕ, zero, suc, ◌+◌, ◌-◌, ◌*◌, ◌≤◌, ◌<◌, zero-le}
+use Prim.Native.Nat.{ℕ, suc, ◌+◌, ◌-◌, ◌*◌, ◌≤◌, ◌<◌, zero-le}
 use native.Mathlib.Omega.{arith}
 use native.Mathlib.Numerals.{add-one}
 use lib.ListN.{length, drop, get_or, drop_of_length-le}
@@ -12,7 +12,7 @@ use lib.ListN.{take}
 use lib.Seq.{take_all}
 use lib.ListN.{length-drop}
 use borrow.Author.Tests.{eq-eqb, ne_eqb}
-use Rattle.registers.specs.Setup.{block_size, checked_size, weighted, low_first, checks}
+use Rattle.registers.specs.Setup.{block_size, weighted, low_first, checks}
 use Rattle.registers.proofs.setup.Laws.{term}
 
 pub record Weighing (l : List ℕ) (sum i : ℕ) : Type 0 where

@@ -1,9 +1,8 @@
 -- One text put after another is their joined text; what a writer lays over the tail that it was lent is put there; and how long lines are.
 use mathlib.Core.Path.{◌≡◌, refl, sym, ap, ◌∙◌}
-use mathlib.Core.Bool.{Bool, true, false, not, ◌&&◌}
+use mathlib.Core.Bool.{Bool, true, not}
 use mathlib.Core.List.{[], ◌∷◌, ◌++◌, append_assoc, append-nil}
 use Prim.Native.Nat.{ℕ, zero, suc, ◌+◌, ◌-◌, ◌*◌, ◌≤◌, ◌<◌, zero-le}
-use Prim.Native.Char.{code}
 use native.Mathlib.Numerals.{add-one}
 use native.Mathlib.Omega.{arith}
 use lib.Dec.{leb}
@@ -12,16 +11,16 @@ use lib.Seq.{take-append-add, take-append-le, take-suc-set}
 use lib.IntN.{ℤ}
 use borrow.Author.Tests.{leb-true}
 use borrow.Rule.Slice.PartMut.{mid_of, put_mid}
-use Rattle.registers.specs.Text.{Text, if◌then◌else◌, every, empty}
+use Rattle.registers.specs.Text.{Text, every, empty}
 use Rattle.registers.specs.Answer.{Laid}
-use Rattle.registers.specs.Settings.{count, table_count, range, kind_of, value_at, wide_range, possible_settings, within, answer_of}
+use Rattle.registers.specs.Settings.{count, table_count, range, kind_of, value_at, wide_range, possible_settings, answer_of}
 use Rattle.registers.specs.declared.settings.Settings.{Settings}
 use Rattle.registers.proofs.Tests.{and_both}
 use Rattle.registers.proofs.answer.Laws.{over-start, over-length}
 use Rattle.registers.proofs.settings.Possible.{good-from}
 use Rattle.interpreter.proofs.Choices.{if-elim}
 use Rattle.interpreter.proofs.demands.trip.ReadBack.{plain_byte, plain_text, answer-plain}
-use Rattle.writer.specs.Lines.{header_for, line_for, differs, slot_of, row_at, slot_at, line_at, lines_to}
+use Rattle.writer.specs.Lines.{line_for, differs, slot_of, row_at, slot_at, line_at, lines_to}
 use Rattle.writer.specs.LinesParts.{Put, Value, most_value, most_one_line, most_lines}
 use Rattle.writer.proofs.Headers.{header-short}
 use Rattle.writer.proofs.Slots.{slot-at-below}

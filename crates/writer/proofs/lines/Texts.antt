@@ -1,9 +1,9 @@
 -- The table of texts: a text's row begins with its length, and the text follows. And which texts they are: the headers, each with a blank, and
 -- the settings' words.
 use mathlib.Core.Path.{◌≡◌, refl, sym, ◌∙◌, ap}
-use mathlib.Core.Bool.{Bool, true, false, not, ◌&&◌, ◌||◌, false≢true}
+use mathlib.Core.Bool.{Bool, true, false, not, ◌||◌, false≢true}
 use mathlib.Core.List.{List, [], ◌∷◌, ◌++◌, append_assoc}
-use Prim.Native.Nat.{ℕ, zero, suc, pred, ◌+◌, ◌-◌, ◌*◌, ◌≤◌, ◌<◌}
+use Prim.Native.Nat.{ℕ, suc, pred, ◌+◌, ◌-◌, ◌*◌, ◌≤◌, ◌<◌}
 use Prim.Native.Char.{code}
 use Prim.Native.String.{String}
 use native.Mathlib.Nat.{add-zero}
@@ -16,7 +16,7 @@ use lib.Signed.{le_z, lt_z}
 use borrow.Author.Tests.{leb-true, ltb-true, lt-ltb, ne_eqb}
 use Rattle.registers.specs.Text.{Text, if◌then◌else◌, bytes, small, every, below, same}
 use Rattle.registers.specs.Words.{short_form}
-use Rattle.registers.specs.Settings.{count, voltage, range, voltage2, range2, narrow, Kind, bool, words, number, table, slots, setting_at, kind_of, lowest, highest, within, answer_of, Sort, some_words, sort_of}
+use Rattle.registers.specs.Settings.{count, voltage, range, voltage2, range2, narrow, Kind, bool, words, number, table, slots, setting_at, kind_of, lowest, highest, within, answer_of, some_words, sort_of}
 use Rattle.registers.specs.declared.settings.Settings.{Settings}
 use Rattle.registers.proofs.Tests.{and_both, below_at}
 use Rattle.interpreter.proofs.Choices.{if-elim}

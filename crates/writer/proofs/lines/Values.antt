@@ -8,7 +8,7 @@ use types.Run.{OneOf, miss}
 use denote.Enum.Declared.{tag_of}
 use Rattle.registers.specs.Text.{if◌then◌else◌}
 use Rattle.registers.specs.Answer.{decimal, tenths, signed_text}
-use Rattle.registers.specs.Settings.{Kind, bool, words, number, answer_of, Sort, bools, some_words, numbers, sort_of, meant_values}
+use Rattle.registers.specs.Settings.{Kind, bool, words, number, answer_of, bools, numbers, sort_of, meant_values}
 use Rattle.registers.specs.declared.settings.Values.{Values}
 use Rattle.registers.specs.declared.settings.Values.TheVariants.{Bool as BoolValue, Word, Tenths, Whole}
 use Rattle.registers.specs.contracts.settings.Values as values

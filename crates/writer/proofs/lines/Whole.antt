@@ -1,10 +1,9 @@
 -- The whole writer: the code's test is that of number 6, and what it leaves in each of the three ways is what the definition says.
-use mathlib.Core.Path.{◌≡◌, refl, sym, ◌∙◌, ap, ap₂}
+use mathlib.Core.Path.{◌≡◌, refl, sym, ◌∙◌, ap}
 use mathlib.Core.Bool.{Bool, true, false, not, ◌&&◌, ◌||◌}
-use mathlib.Core.List.{[], ◌++◌}
 use Prim.Native.Nat.{ℕ, ◌-◌, ◌≤◌, ◌<◌}
 use native.Mathlib.Omega.{arith}
-use lib.Dec.{eqb, leb}
+use lib.Dec.{eqb}
 use lib.ListN.{length, take, drop, length-take}
 use lib.IntN.{ℤ}
 use lib.Signed.{lt_z}
@@ -15,7 +14,7 @@ use Rattle.registers.specs.Settings.{exam, value_at, possible_settings}
 use Rattle.registers.specs.declared.settings.Settings.{Settings}
 use Rattle.registers.proofs.Tests.{and_both}
 use Rattle.registers.proofs.answer.Laws.{over-fits}
-use Rattle.interpreter.specs.Events.{Result, result_of}
+use Rattle.interpreter.specs.Events.{result_of}
 use Rattle.writer.specs.Lines.{lines_for, writable, written}
 use Rattle.writer.specs.LinesParts.{Put}
 

@@ -1,16 +1,14 @@
 -- A session fed in pieces: the report is the verdict on the whole, whatever the pieces; and what two calls leave that meet one promise is the same.
-use mathlib.Core.Path.{◌≡◌, refl, sym, ◌∙◌, ap, ap₂, subst}
-use mathlib.Core.Bool.{Bool, true, false, false≢true}
-use mathlib.Core.List.{List, [], ◌∷◌, ◌++◌, flatten}
-use Prim.Native.Nat.{ℕ, suc, ◌+◌, ◌≤◌, ◌<◌, zero-le}
+use mathlib.Core.Path.{◌≡◌, refl, sym, ◌∙◌, ap, ap₂}
+use mathlib.Core.Bool.{Bool, true, false}
+use mathlib.Core.List.{List, [], flatten}
+use Prim.Native.Nat.{ℕ, ◌+◌, ◌<◌}
 use native.Mathlib.Omega.{arith}
-use lib.ListN.{length, take, length-append, length-replicate}
+use lib.ListN.{length, length-append, length-replicate}
 use Rattle.registers.specs.Text.{Text}
-use Rattle.interpreter.specs.Box.{Box, Memory, memory, blank, power_up, store_size, most_answer}
+use Rattle.interpreter.specs.Box.{Box, Memory, memory, blank, power_up, store_size}
 use Rattle.interpreter.specs.State.{box_of}
-use Rattle.interpreter.specs.Server.{lines_of}
-use Rattle.writer.specs.Session.{Verdict, marked, verdict_on}
-use Rattle.writer.specs.Marking.{Progress, fed, closed, report_at, verdict_of, progress_of, sound_marker, possible_marker, most_lines, Lent, Begun, Fed, Finished, Feeds, none, more, MarksSession}
+use Rattle.writer.specs.Marking.{Progress, fed, closed, report_at, verdict_of, progress_of, possible_marker, most_lines, Lent, Begun, Fed, Finished, Feeds, none, more, MarksSession}
 use Rattle.writer.specs.declared.session.Place.{Place}
 use Rattle.writer.specs.declared.session.Marker.{Marker}
 use Rattle.writer.specs.declared.session.Report.{Report}

@@ -9,7 +9,6 @@ use lib.Dec.{eqb, ltb, leb}
 use lib.ListN.{length, take, drop, get_or, length-drop, drop_of_length-le, take-append-drop}
 use lib.Seq.{drop-drop}
 use borrow.Author.Tests.{leb-true, le-leb, eqb-true, eqb-false, eq-eqb, lt-ltb, ltb-true}
-use Rattle.registers.specs.Text.{index_of}
 use Rattle.registers.specs.Text.{Text, if◌then◌else◌, empty}
 use Rattle.registers.proofs.Tests.{and_both, and-true, front-empty}
 use Rattle.interpreter.specs.Box.{Box, memory, blank, right_size, power_up, store_size, most_answer}
@@ -21,7 +20,7 @@ use Rattle.interpreter.specs.declared.state.State.{State}
 use Rattle.interpreter.proofs.Choices.{if-elim}
 use Rattle.interpreter.proofs.Lists.{is-empty}
 use Rattle.interpreter.proofs.state.Events.{size-right}
-use Rattle.writer.specs.Marking.{Progress, line_begun, place_sent, part_sent, place_found, byte_read, fed, closed, plainly, report_at, progress_of, sound_marker, possible_marker, most_lines, Lent, Begun, Fed, Finished}
+use Rattle.writer.specs.Marking.{Progress, line_begun, place_sent, place_found, byte_read, fed, closed, plainly, report_at, progress_of, sound_marker, possible_marker, most_lines, Lent, Begun, Fed, Finished}
 use Rattle.writer.specs.MarkingParts.{AnswerRead, Fits, FedAll}
 use Rattle.writer.specs.declared.session.Place.{Place}
 use Rattle.writer.specs.declared.session.Marker.{Marker}

@@ -2,17 +2,16 @@
 use mathlib.Core.Path.{◌≡◌, refl, sym, ◌∙◌, ap, ap₂, subst}
 use mathlib.Core.Bool.{Bool, true, false}
 use mathlib.Core.List.{List, [], ◌∷◌, ◌++◌}
-use Prim.Native.Nat.{ℕ, suc, ◌+◌, ◌≤◌, ◌<◌}
-use native.Mathlib.Numerals.{add-one}
+use Prim.Native.Nat.{ℕ, ◌+◌, ◌≤◌, ◌<◌}
 use native.Mathlib.Omega.{arith}
 use lib.Dec.{eqb, leb}
 use lib.ListN.{length, take, drop, length-take, take-append-drop}
 use lib.Seq.{take-append_seam, drop-append_seam}
-use borrow.Author.Tests.{le-leb, leb-false, eq-eqb, eqb-true}
+use borrow.Author.Tests.{leb-false, eqb-true}
 use Rattle.registers.specs.Text.{Text, if◌then◌else◌, empty}
-use Rattle.interpreter.specs.Box.{store_size, memory, right_size, Box, answer_is, raise, most_answer}
+use Rattle.interpreter.specs.Box.{store_size, memory, right_size, Box, answer_is, raise}
 use Rattle.interpreter.specs.FlowParts.{first_line}
-use Rattle.interpreter.specs.Events.{received, take as takes, result_of, Happened, happened, taken, happens}
+use Rattle.interpreter.specs.Events.{received, take as takes, result_of, happened, taken, happens}
 use Rattle.interpreter.specs.State.{box_of, possible_state}
 use Rattle.interpreter.specs.Server.{lines_of, Service, service, took_after, served_line, serves, begun, Serves}
 use Rattle.interpreter.specs.declared.state.State.{State}
@@ -20,9 +19,8 @@ use Rattle.interpreter.proofs.Lists.{is-empty}
 use Rattle.interpreter.proofs.state.Records.{short-from}
 use Rattle.interpreter.proofs.state.Events.{size-right}
 use Rattle.interpreter.proofs.server.Laws.{serves_on}
-use Rattle.writer.specs.Marking.{Progress, place_sent, part_sent, progress_of, Lent}
+use Rattle.writer.specs.Marking.{place_sent, part_sent, progress_of, Lent}
 use Rattle.writer.specs.declared.session.Place.{Place}
-use Rattle.writer.specs.declared.session.Marker.{Marker}
 use Rattle.writer.proofs.session.Bytes.{first_ends, first_more, first-none}
 
 -- a first line is one line

@@ -1,28 +1,26 @@
 -- What is found at the end of a session's bytes is the verdict on its lines. By induction over the bytes, for each stage at once (`Bridge`): at the
 -- start of a line, behind `>`, and behind `<`, where the bytes up to the next newline are the rest of the line.
-use mathlib.Core.Path.{◌≡◌, refl, sym, ◌∙◌, ap, ap₂}
-use mathlib.Core.Bool.{Bool, true, false, not, ◌&&◌}
+use mathlib.Core.Path.{◌≡◌, refl, sym, ◌∙◌, ap}
+use mathlib.Core.Bool.{Bool, true, false, ◌&&◌}
 use mathlib.Core.List.{List, [], ◌∷◌, ◌++◌}
-use Prim.Native.Nat.{ℕ, zero, suc, pred, ◌+◌, ◌-◌, ◌≤◌, ◌<◌, zero-le}
-use native.Mathlib.Nat.{le_refl}
+use Prim.Native.Nat.{ℕ, suc, ◌+◌, ◌-◌, ◌≤◌, ◌<◌, zero-le}
 use native.Mathlib.Numerals.{add-one}
 use native.Mathlib.Omega.{arith}
 use lib.Dec.{eqb, ltb}
 use lib.ListN.{length, take, drop, get_or, length-append, length-drop, length-take, drop_of_length-le}
 use lib.Seq.{take-append_seam, drop-cons, get_or-take}
-use borrow.Author.Tests.{eqb-true, eqb-false, eq-eqb, ne_eqb, lt-ltb, le-ltb, ltb-true, ltb-false}
-use Rattle.registers.specs.Text.{Text, if◌then◌else◌, empty, first, rest, same, start}
-use Rattle.registers.proofs.Tests.{and-true, front-empty}
+use borrow.Author.Tests.{eqb-true, eqb-false, eq-eqb, ne_eqb, ltb-true, ltb-false}
+use Rattle.registers.specs.Text.{Text, if◌then◌else◌, same}
+use Rattle.registers.proofs.Tests.{front-empty}
 use Rattle.interpreter.specs.Cuts.{join_first}
-use Rattle.interpreter.specs.Box.{Box, answer_is}
+use Rattle.interpreter.specs.Box.{Box}
 use Rattle.interpreter.specs.Line.{byte, piece}
-use Rattle.interpreter.specs.Events.{received, happens}
+use Rattle.interpreter.specs.Events.{happens}
 use Rattle.interpreter.specs.Server.{lines_of, heard_line}
-use Rattle.interpreter.proofs.Lists.{is-empty}
-use Rattle.writer.specs.Session.{Marking, Verdict, agree, differs, broken, Stepped, goes, stops, line_sent, answer_read, line_read, bare, next_line, marked, answer_to}
-use Rattle.writer.specs.Marking.{Progress, begun_at, found_so, line_begun, place_sent, part_sent, place_found, placed, byte_read, fed, closed, plainly, differs_at, report_at, verdict_of}
+use Rattle.writer.specs.Session.{Marking, Verdict, differs, broken, line_read, bare, next_line, marked, answer_to}
+use Rattle.writer.specs.Marking.{Progress, begun_at, found_so, line_begun, place_sent, part_sent, place_found, placed, byte_read, fed, closed, report_at, verdict_of}
 use Rattle.writer.specs.declared.session.Place.{Place}
-use Rattle.writer.proofs.session.Bytes.{byte-fresh, byte-sending, byte-finding, byte-stopped, fed-stopped, part-byte, plain-answer, begun-answer, begun-broken, begun-early, begun-sent, found-next, found_all, found-long, found-other, found_none, agree_at, open_at, broken-at, first-at, differs-at}
+use Rattle.writer.proofs.session.Bytes.{byte-fresh, byte-sending, byte-finding, fed-stopped, part-byte, plain-answer, begun-answer, begun-broken, begun-early, begun-sent, found-next, found_all, found-long, found-other, found_none}
 
 -- ---- the bytes up to the next newline, and the lines after it
 

@@ -1,4 +1,3 @@
-use Prim.Native.Nat.{◌-◌}
 use native.Mathlib.Omega.{arith}
 use Rattle.interpreter.proofs.cuts.Search.{way_on, way-stop, way_end}
 use Rattle.interpreter.proofs.cuts.part_end.Goals as goal

@@ -1,12 +1,11 @@
 -- Demands 2 and 3 of calls, proved: calls make a history of the definition, with the same results and a last state that means the same box
 -- (calls/AsHistory), and of histories the demands hold.
 use mathlib.Core.Path.{◌≡◌, refl, sym, ◌∙◌, ap, subst, subst₂}
-use mathlib.Core.Bool.{Bool, true, false}
+use mathlib.Core.Bool.{Bool, true}
 use mathlib.Core.List.{List, [], ◌∷◌, ◌++◌, append_assoc, head-eq_of_cons-eq}
 use Prim.Native.Nat.{◌≤◌}
 use lib.ListN.{length, drop}
 use lib.Seq.{drop_at}
-use lib.Signed.{le_z}
 use Rattle.registers.specs.Text.{Text, if◌then◌else◌, every}
 use Rattle.registers.specs.Label.{most_text, may_stand}
 use Rattle.registers.specs.Settings.{value_at, displayed, AsLong, within}

@@ -13,7 +13,6 @@ use lib.Seq.{take_at, take_all}
 use borrow.Author.Tests.{eqb-true, ltb-false}
 use Rattle.registers.specs.Text.{Text, if◌then◌else◌, empty, every, white}
 use Rattle.registers.specs.Check.{Checked, refused, passed}
-use Rattle.registers.specs.Number.{number}
 use Rattle.registers.specs.Group.{widest_group}
 use Rattle.interpreter.specs.Cuts.{cut_open}
 use Rattle.interpreter.specs.Reply.{joined}

@@ -3,7 +3,7 @@
 -- other pieces the same units run.
 use mathlib.Core.Path.{◌≡◌, refl, sym, ◌∙◌, ap, ap₂, subst}
 use mathlib.Core.Bool.{Bool, true, false, not, false≢true}
-use mathlib.Core.List.{List, [], ◌∷◌, ◌++◌, map, append-nil, append_assoc}
+use mathlib.Core.List.{List, [], ◌∷◌, ◌++◌, append-nil, append_assoc}
 use Prim.Native.Nat.{ℕ}
 use lib.Dec.{leb, ltb, eqb}
 use lib.ListN.{length}
@@ -16,12 +16,12 @@ use Rattle.registers.specs.declared.settings.Settings.{Settings}
 use Rattle.registers.specs.declared.status.RegisterSet.{RegisterSet}
 use Rattle.registers.proofs.Tests.{and_both}
 use Rattle.interpreter.specs.Box.{Memory, altered_in, with_memory, Core, Box, box, power_up, most_line}
-use Rattle.interpreter.specs.Line.{end_line, held, byte, piece, units_of}
+use Rattle.interpreter.specs.Line.{end_line, held, byte, piece}
 use Rattle.interpreter.specs.Events.{Event, started, received, take, condition, look, altered, mislent, Happened, taken, reported, happens, after}
-use Rattle.interpreter.specs.Histories.{single, newline, moments, Recut, sent}
+use Rattle.interpreter.specs.Histories.{newline, sent}
 use Rattle.interpreter.specs.Demand3.{in_line, Fresh}
 use Rattle.interpreter.specs.Steps.{Step, powers_up, discards, finds_none, own_steps, end_steps, byte_steps, piece_steps, event_steps, steps}
-use Rattle.interpreter.specs.Isolation.{LinesAlike, besides, During, Alike, unended, powered, ended, calm, Calm, given, answers, Agree, Isolated, Isolation}
+use Rattle.interpreter.specs.Isolation.{LinesAlike, besides, During, Alike, unended, powered, ended, calm, Calm, given, answers, Isolation}
 use Rattle.interpreter.proofs.Choices.{if-elim, if₂}
 use Rattle.interpreter.proofs.demands.histories.Pieces.{after-append, recut-state}
 use Rattle.interpreter.proofs.demands.refused.LineBegins.{newline-fresh, lines-begin}

@@ -1,7 +1,7 @@
 -- A unit that sets nothing of channel 2 is read alike over settings that agree but for channel 2: the checks up to the row don't look at the
 -- settings, and those after it look at the unit's own slot, at its channel's range and at exam mode. What sets a setting of channel 2 and
 -- is read does nothing else.
-use mathlib.Core.Path.{◌≡◌, refl, sym, ◌∙◌, ap, subst}
+use mathlib.Core.Path.{◌≡◌, refl, ap, subst}
 use mathlib.Core.Bool.{Bool, true, false, not, ◌&&◌, false≢true}
 use mathlib.Core.List.{List, [], ◌∷◌}
 use Prim.Native.Nat.{ℕ, zero, suc}
@@ -18,11 +18,11 @@ use Rattle.registers.specs.Settings.{Kind, bool, words, number, table, table_cou
 use Rattle.registers.specs.declared.rounding.Side.{Side}
 use Rattle.registers.specs.declared.settings.Settings.{Settings}
 use Rattle.registers.proofs.Tests.{and_both}
-use Rattle.interpreter.specs.Header.{Header, header, is_common, full_names, path_after}
+use Rattle.interpreter.specs.Header.{header, is_common, full_names}
 use Rattle.interpreter.specs.Rows.{Row, rows, setting_rows, other_rows, find_row, second_of, on_second, on_channel, find_role}
-use Rattle.interpreter.specs.Parameter.{Given, Word, Figure, parameters, none_empty, parameter, limit_words, words_of, takes_numbers, limit_at, limit_given, value_given, side_given, put_given, setting_deed, limit_deed, register_deed, store_given, label_deed, place_given, saving_deed, deed_of}
+use Rattle.interpreter.specs.Parameter.{Given, Word, Figure, parameters, parameter, limit_words, words_of, takes_numbers, limit_at, limit_given, value_given, side_given, put_given, setting_deed, limit_deed, register_deed, store_given, label_deed, place_given, saving_deed, deed_of}
 use Rattle.interpreter.specs.Unit.{Read, header_text, parameter_text, read_unit}
-use Rattle.interpreter.specs.Isolation.{of_second, heads_second, sets_second, path_left}
+use Rattle.interpreter.specs.Isolation.{of_second, sets_second, path_left}
 use Rattle.interpreter.specs.declared.deed.Deed.{Deed}
 use Rattle.interpreter.specs.declared.deed.Deed.TheVariants.{Change, Complete, Clear, Query, Inquire, Saving}
 use Rattle.interpreter.specs.declared.deed.Change as changes

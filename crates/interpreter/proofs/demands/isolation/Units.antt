@@ -3,18 +3,18 @@
 use mathlib.Core.Path.{◌≡◌, refl, sym, ◌∙◌, ap, ap₂, subst}
 use mathlib.Core.Bool.{Bool, true, false, not, ◌&&◌, false≢true}
 use mathlib.Core.List.{List, [], ◌∷◌, ◌++◌}
-use Prim.Native.Nat.{ℕ, ◌≤◌}
+use Prim.Native.Nat.{ℕ}
 use native.Mathlib.Omega.{arith}
 use lib.Dec.{ltb, eqb}
 use lib.ListN.{length, get_or, set, length-set}
 use lib.Seq.{get_or-set_same, get_or-set_other, set_out}
 use lib.IntN.{ℤ, pos}
 use borrow.Author.Tests.{eqb-true, eqb-false, ltb-true, ltb-false}
-use Rattle.registers.specs.Text.{Text, if◌then◌else◌, every, empty}
+use Rattle.registers.specs.Text.{Text, if◌then◌else◌, empty}
 use Rattle.registers.specs.Label.{held_in, quoted_text}
 use Rattle.registers.specs.Check.{Checked, refused, passed, ◌>>=◌, ◌>>◌, check}
-use Rattle.registers.specs.Settings.{second, value_at, with_value, at_reset}
-use Rattle.registers.specs.Status.{Registers, locked, stored_in, set_read, all_read}
+use Rattle.registers.specs.Settings.{second, value_at, with_value}
+use Rattle.registers.specs.Status.{stored_in, set_read, all_read}
 use Rattle.registers.specs.declared.rounding.Side.{Side}
 use Rattle.registers.specs.declared.settings.Settings.{Settings}
 use Rattle.registers.proofs.Tests.{and_both}
@@ -33,7 +33,7 @@ use Rattle.interpreter.specs.declared.deed.Change.TheVariants.{Nothing, Put, Res
 use Rattle.interpreter.specs.declared.deed.Query as queries
 use Rattle.interpreter.specs.declared.deed.Query.TheVariants.{Identity, SelfTest, Completed, Limit, Value, Stored, Condition, SetEvents, Label as label_asked}
 use Rattle.interpreter.proofs.Choices.{if-elim, if₂}
-use Rattle.interpreter.proofs.demands.isolation.Reading.{Both, refusals, passing, Then, stops, goes, then-bind, then-first, then_at, First, conflict-same, FirstDeed, FirstChange, DeedsAlike, equal, limits, ReadsAlike, read_alike, path-read, PutsSecond, second-read}
+use Rattle.interpreter.proofs.demands.isolation.Reading.{Both, refusals, passing, Then, stops, goes, then-bind, then-first, then_at, First, conflict-same, FirstDeed, DeedsAlike, equal, limits, ReadsAlike, read_alike, path-read, PutsSecond, second-read}
 
 -- ---- boxes that agree but for channel 2, and have as many settings
 

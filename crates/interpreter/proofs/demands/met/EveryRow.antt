@@ -29,8 +29,8 @@ use Rattle.interpreter.specs.Box.{power_up, blank}
 use Rattle.interpreter.specs.Perform.{permitted, changed, perform}
 use Rattle.interpreter.specs.Reply.{reply_to, inquiry_text, joined, fits_answer, reply}
 use Rattle.interpreter.specs.Line.{attempt, refuse, run_units, interrupted, finished, units_of, run_line, end_line, held, byte, piece}
-use Rattle.interpreter.specs.Events.{Event, received, take, result_of, taken, reported, happens, after}
-use Rattle.interpreter.specs.Demand3.{in_line, asked}
+use Rattle.interpreter.specs.Events.{Event, received, take, taken, reported, happens, after}
+use Rattle.interpreter.specs.Demand3.{in_line}
 use Rattle.interpreter.specs.declared.deed.Deed.TheVariants.{Query}
 use Rattle.interpreter.specs.declared.deed.Query.TheVariants.{Value}
 use Rattle.interpreter.specs.declared.deed.Role.{Role}

@@ -2,8 +2,8 @@
 -- refused and a condition in the midst of a line. Computed from the definitions.
 use mathlib.Core.Path.{◌≡◌, refl}
 use mathlib.Core.List.{List, [], ◌∷◌, ◌++◌}
-use lib.IntN.{ℤ, pos}
-use Rattle.registers.specs.Text.{if◌then◌else◌, bytes, same, white, printable, digit, letter, word_byte, small, capital, every}
+use lib.IntN.{pos}
+use Rattle.registers.specs.Text.{if◌then◌else◌, bytes, same, white, printable, digit, letter, word_byte, small, capital}
 use Rattle.registers.specs.Check.{◌>>=◌, ◌>>◌, check}
 use Rattle.registers.specs.Words.{short_form, long_form, matches}
 use Rattle.registers.specs.Number.{after_sign, fraction_of, after_fraction, exponent_of, after_exponent, lowering, written, numeral_from, decimal_of, value_of, scaled, number}
@@ -12,9 +12,9 @@ use Rattle.registers.specs.Rounding.{switched_on, nearest, size_in, rounded, siz
 use Rattle.registers.specs.Label.{may_stand, closes, undoubled, padded}
 use Rattle.registers.specs.Answer.{in_places, decimal, tenths}
 use Rattle.registers.specs.Error.{event_bit}
-use Rattle.registers.specs.Settings.{voltage, voltage2, value_at, table, setting_at, at_reset, wide_range, lowest, highest, within, conflict, examined, accepted, answer_of, slots, narrow}
+use Rattle.registers.specs.Settings.{voltage2, value_at, table, setting_at, at_reset, wide_range, lowest, highest, within, conflict, examined, accepted, answer_of, slots, narrow}
 use Rattle.registers.specs.Group.{rises, falls, events_after, condition_is}
-use Rattle.registers.specs.Status.{raised, locked, at_start}
+use Rattle.registers.specs.Status.{raised, at_start}
 use Rattle.registers.specs.declared.status.RegisterSet.TheVariants.{Warning}
 use Rattle.interpreter.specs.Cuts.{cut_at, quote_next, cut_open, trim_end, trim}
 use Rattle.interpreter.specs.Header.{name, placed, header, spells, body_of, by_first, numbered, node_matches, suffix_in}
@@ -27,10 +27,10 @@ use Rattle.interpreter.specs.Reply.{reply_to, inquiry_text, joined, fits_answer,
 use Rattle.interpreter.specs.Line.{attempt, refuse, run_units, interrupted, finished, units_of, run_line, end_line, held, byte, piece}
 use Rattle.interpreter.specs.Events.{Event, take, condition, look, taken, reported, happens, after}
 use Rattle.interpreter.proofs.demands.met.RefusedLines.{text}
-use Rattle.interpreter.specs.Histories.{newline, moments, Recut, sent}
+use Rattle.interpreter.specs.Histories.{newline, sent}
 use Rattle.interpreter.specs.Demand3.{in_line}
 use Rattle.interpreter.specs.Steps.{unit_steps, line_steps, end_steps, byte_steps, piece_steps, event_steps, steps}
-use Rattle.interpreter.specs.Isolation.{sets_second, same as same_unit, other_value, UnitsAlike, LinesAlike, besides, Alike, unended, ended, calm, Calm, given, answers}
+use Rattle.interpreter.specs.Isolation.{sets_second, same as same_unit, other_value, UnitsAlike, besides, Alike, unended, ended, calm, Calm, given, answers}
 
 -- channel 2's voltage and range are set, then channel 1 is asked, and channel 2 too
 abbrev first : List Event

@@ -9,7 +9,7 @@ use lib.Dec.{leb}
 use lib.ListN.{length, length-append}
 use lib.Seq.{set-get_or}
 use lib.IntN.{pos}
-use borrow.Author.Tests.{lt-ltb, leb-true, not-true}
+use borrow.Author.Tests.{lt-ltb, leb-true}
 use Rattle.registers.specs.Text.{Text, if◌then◌else◌, every, empty}
 use Rattle.registers.specs.Check.{passed, check, ◌>>=◌, ◌>>◌}
 use Rattle.registers.specs.Settings.{count, kind_of, value_at, with_value, displayed, with_text, answer_of}

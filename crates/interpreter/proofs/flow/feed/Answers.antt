@@ -1,4 +1,3 @@
-use Prim.Native.Nat.{◌-◌}
 use native.Mathlib.Omega.{arith}
 use Rattle.interpreter.proofs.flow.Laws.{feed-begun, feed-further, feed-on, feed-end}
 use Rattle.interpreter.proofs.flow.feed.Goals as goal

@@ -1,4 +1,3 @@
-use Prim.Native.Nat.{◌-◌}
 use native.Mathlib.Omega.{arith}
 use Rattle.interpreter.proofs.line.Units.{going_start, going_less, going_on, going_end}
 use Rattle.interpreter.proofs.line.run_units.Goals as goal

@@ -1,4 +1,3 @@
-use Prim.Native.Nat.{◌-◌}
 use Rattle.interpreter.proofs.Lists.{fewer}
 use Rattle.interpreter.proofs.table.Codes.{code-small}
 use Rattle.interpreter.proofs.name.Laws.{spelled_none, spelled-on, spelled-stop, spelled-end}

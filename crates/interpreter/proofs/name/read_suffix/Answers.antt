@@ -1,5 +1,4 @@
 use mathlib.Core.Path.{sym, ◌∙◌}
-use Prim.Native.Nat.{◌-◌}
 use borrow.Author.Tests.{not-true, not-false}
 use Rattle.interpreter.proofs.Lists.{fewer}
 use Rattle.interpreter.proofs.name.Laws.{counting-none, counting-on, counting-stop, counting-end}

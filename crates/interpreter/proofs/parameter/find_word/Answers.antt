@@ -1,5 +1,4 @@
 use mathlib.Core.Path.{refl, sym, ◌∙◌}
-use Prim.Native.Nat.{◌-◌}
 use native.Mathlib.Omega.{arith}
 use Rattle.interpreter.proofs.Lists.{fewer}
 use Rattle.interpreter.proofs.parameter.Words.{search-hit, search-miss, search-end}

@@ -1,4 +1,3 @@
-use Prim.Native.Nat.{◌-◌}
 use Rattle.interpreter.proofs.Lists.{fewer}
 use Rattle.interpreter.proofs.rows.Rows.{nodes-few, node-known, unformed, is-formed}
 use Rattle.interpreter.proofs.rows.Search.{seek-start, seek-end, skip-form, try-start, try-on, try-missed, try-left, try-done}

@@ -1,4 +1,3 @@
-use Prim.Native.Nat.{◌-◌}
 use Rattle.interpreter.proofs.Lists.{fewer}
 use Rattle.interpreter.proofs.rows.Start.{marking-start, marking-on, marking-end}
 use native.Mathlib.Omega.{arith}

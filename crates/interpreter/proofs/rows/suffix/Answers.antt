@@ -1,4 +1,3 @@
-use Prim.Native.Nat.{◌-◌}
 use Rattle.interpreter.proofs.Lists.{fewer}
 use Rattle.interpreter.proofs.rows.Suffixes.{class-hit, class-skip, class-end}
 use Rattle.interpreter.proofs.rows.suffix.Goals as goal

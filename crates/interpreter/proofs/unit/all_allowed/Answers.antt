@@ -1,4 +1,3 @@
-use Prim.Native.Nat.{◌-◌}
 use native.Mathlib.Omega.{arith}
 use Rattle.interpreter.proofs.Lists.{fewer}
 use Rattle.interpreter.proofs.unit.Bytes.{all-allowed, more-allowed}

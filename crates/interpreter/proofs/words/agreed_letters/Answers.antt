@@ -1,5 +1,4 @@
 use mathlib.Core.Path.{sym, ◌∙◌}
-use Prim.Native.Nat.{◌-◌}
 use native.Mathlib.Omega.{arith}
 use Rattle.interpreter.proofs.Lists.{fewer}
 use Rattle.interpreter.proofs.words.Letters.{agreeing-none, agreeing-on, agreeing-miss, agreeing-end, agreeing-full}

@@ -1,4 +1,3 @@
-use Prim.Native.Nat.{◌-◌}
 use native.Mathlib.Nat.{add-zero}
 use lib.Seq.{take_all}
 use Rattle.registers.proofs.answer.Laws.{laid_none, laid_more}

@@ -1,5 +1,5 @@
 use mathlib.Core.Path.{sym, ◌∙◌}
-use Prim.Native.Nat.{◌+◌, ◌*◌, ◌-◌}
+use Prim.Native.Nat.{◌+◌, ◌*◌}
 use native.Mathlib.Nat.{zero-add}
 use Rattle.registers.specs.ErrorParts.{message_size}
 use Rattle.registers.proofs.error.Texts.{number-cells, high-within, low-within, high_fits, both-fit, search-hit, search-more, search-end}

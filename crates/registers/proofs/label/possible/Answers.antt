@@ -1,4 +1,3 @@
-use Prim.Native.Nat.{◌-◌}
 use native.Mathlib.Omega.{arith}
 use Rattle.registers.proofs.label.Record.{testing-on, testing-end}
 use Rattle.registers.proofs.label.possible.Goals as goal

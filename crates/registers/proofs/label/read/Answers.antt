@@ -1,4 +1,3 @@
-use Prim.Native.Nat.{◌-◌}
 use native.Mathlib.Omega.{arith}
 use Rattle.registers.proofs.label.Laws.{reading-start, reading-quote, reading-byte, reading-end}
 use Rattle.registers.proofs.label.read.Goals as goal

@@ -1,5 +1,4 @@
 use mathlib.Core.Path.{sym, ◌∙◌}
-use Prim.Native.Nat.{◌-◌}
 use Rattle.registers.proofs.queue.Laws.{queued-one, queued-none, queued-all}
 use Rattle.registers.proofs.queue.may_all_be_queued.Goals as goal
 

@@ -1,5 +1,4 @@
 use mathlib.Core.Path.{refl, ◌∙◌}
-use Prim.Native.Nat.{◌-◌}
 use native.Mathlib.Omega.{arith}
 use Rattle.registers.proofs.queue.Laws.{shift-turn, shift-end}
 use Rattle.registers.proofs.queue.shifted.Goals as goal

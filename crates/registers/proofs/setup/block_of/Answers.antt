@@ -1,4 +1,3 @@
-use Prim.Native.Nat.{◌-◌}
 use mir.Syntax.{w32}
 use mir.Facts.{to_z-of_z}
 use borrow.Author.Rules.{rules}

@@ -1,4 +1,3 @@
-use Prim.Native.Nat.{◌-◌}
 use native.Mathlib.Omega.{arith}
 use Rattle.writer.proofs.lines.Label.{other_length, agreed-begun, agreed-more, agreed-not, agreed-all}
 use Rattle.writer.proofs.lines.is_same.Goals as goal

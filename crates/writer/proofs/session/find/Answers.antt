@@ -3,7 +3,6 @@ use Prim.Native.Nat.{◌<◌}
 use mathlib.Core.Path.{◌≡◌}
 use borrow.Author.Tests.{eqb-true, ltb-true}
 use Rattle.registers.proofs.Tests.{and_both}
-use Prim.Native.Nat.{◌-◌}
 use native.Mathlib.Omega.{arith}
 use lib.ListN.{length}
 use Rattle.writer.proofs.session.Feeding.{compare-begun, compare-on, compare-end}

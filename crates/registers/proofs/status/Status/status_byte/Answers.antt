@@ -1,6 +1,5 @@
 -- Every bit is a call of `bit_if`, bounded by its weight, so each sum fits in a byte; and the sum of what they promise is the
 -- definition's summary (`summary-is`), over which bit 6 is decided (`byte-is`).
-use Prim.Native.Nat.{ℕ}
 use borrow.Author.Rules.{rules}
 use lib.ListN.{length}
 use mathlib.Core.Path.{◌≡◌}
