@@ -6,7 +6,6 @@ use Prim.Native.Nat.{ℕ, ◌+◌, ◌-◌, ◌≤◌, ◌<◌, zero-le}
 use native.Mathlib.Omega.{arith}
 use lib.ListN.{length, take, drop, length-drop}
 use lib.IntN.{ℤ}
-use Rattle.io.specs.Counts.{clamp_len}
 use Rattle.registers.specs.Text.{Text}
 use Rattle.registers.specs.Settings.{AsLong}
 use Rattle.interpreter.specs.Box.{Memory, memory, store_size, right_size, power_up, most_answer}
@@ -20,7 +19,7 @@ use Rattle.interpreter.proofs.state.Events.{size-right}
 use Rattle.interpreter.proofs.server.Bytes.{lines-whole, whole-further}
 use Rattle.interpreter.proofs.server.Headway.{reads-within, reads-some}
 use Rattle.interpreter.proofs.server.Heard.{left-long, part-heard, part-answered, heard-append, heard-on, heard-history}
-use Rattle.bench24.specs.Heard.{Answers, HeardPart, HeardRead, HeardSince}
+use Rattle.bench24.specs.Heard.{Answers, HeardPart, HeardRead, HeardSince, clamp_len}
 use Rattle.bench24.specs.declared.Bench.{Bench}
 
 -- ---- what was read: a part of it is served, then the rest

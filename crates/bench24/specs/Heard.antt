@@ -1,7 +1,6 @@
 -- "A program over it reads lines from standard input and writes each answer": what the program has heard of one read, and since power-up.
 -- No contract can say which bytes the system read or wrote: the kit's read promises nothing of the bytes, its write nothing of its answer.
-use Rattle.std.specs.Prelude.{◌≡◌, true, false, ℕ, ◌≤◌, ◌<◌, length, take, ℤ}
-use Rattle.io.specs.Counts.{clamp_len}
+use Rattle.std.specs.Prelude.{◌≡◌, true, false, ℕ, ◌≤◌, ◌<◌, min, length, take, ℤ, pos, negsuc}
 use Rattle.registers.specs.Text.{Text}
 use Rattle.interpreter.specs.Box.{Memory, power_up}
 use Rattle.interpreter.specs.State.{box_of, possible_state}
@@ -24,6 +23,11 @@ pub record HeardPart (start : State) (m : Memory) (input : Text) (r : Bench) (n 
   pub box : box_of r.state n ≡ heard (box_of start m) (lines_of (take bytes input))
   pub some : 0 < length input → 0 < bytes
   pub all : r.serving ≡ true → bytes ≡ length input
+
+-- how many bytes of a buffer a read's answer speaks of: none where it is negative, and never more than there are
+abbrev pub clamp_len : ℤ → ℕ → ℕ
+clamp_len (pos n) most = min n most
+clamp_len (negsuc n) most = 0
 
 -- that is so of all bytes that a read put into the buffer, as many as it answered. Where there are none the bench is closed
 pub record HeardRead (start : State) (m : Memory) (buffer : Text) (got : ℤ) (r : Bench) (n : Memory) : Type 0 where

@@ -1,41 +1,50 @@
 // The library in a program of one's own: lines go in, answers come out, and the power stage reports
 // the teacher's lock key. It writes what document 01 and 02 say of these lines.
+#![tactic(auto)]
+
 use interpreter::state::{ANSWER, STORE, State};
 use registers::status::RegisterSet;
-
-#![tactic(auto)]
+use std::io;
 
 // Hands the box a line and writes its answer, if it has one. Bit 4 of the status byte tells, so no
 // take is made in vain: that would be error -420.
-fn send(state: State, store: &mut [u8], line: &[u8], buffer: &mut [u8]) -> State {
+fn send(
+    rt: &impl Print,
+    state: State,
+    store: &mut [u8],
+    line: &[u8],
+    buffer: &mut [u8],
+) -> io::Result<State> {
     let fed = state.piece(store, line);
     let seen = fed.state.look(store);
     if seen.byte & 16 == 0 {
-        return fed.state;
+        return Ok(fed.state);
     }
     let taken = fed.state.take(store, buffer);
     let outcome = taken.outcome;
     if outcome.number() == 0 {
         let n = taken.length;
-        io::write_all(libc::STDOUT_FILENO, &buffer[0..n]);
+        rt.write_all(&buffer[0..n])?;
     }
-    taken.state
+    Ok(taken.state)
 }
 
-fn main() {
+fn main(rt: HostRuntime) -> io::Result<()> {
     // no answer is longer
     let mut buffer = [0u8; ANSWER];
     // the saved setups; a device would keep them
     let mut store = [0u8; STORE];
     let mut state = State::power_up();
     state = send(
+        &rt,
         state,
         &mut store,
         b"VOLT 5;FREQ 60;VOLT?;FREQ?\n",
         &mut buffer,
-    );
+    )?;
     // the key is turned: the lock's condition register has a bit
     let locked = state.condition(&store, RegisterSet::Lock, 1);
-    state = send(locked.state, &mut store, b"VOLT 6\n", &mut buffer);
-    state = send(state, &mut store, b"VOLT?;:SYST:ERR?\n", &mut buffer);
+    state = send(&rt, locked.state, &mut store, b"VOLT 6\n", &mut buffer)?;
+    send(&rt, state, &mut store, b"VOLT?;:SYST:ERR?\n", &mut buffer)?;
+    Ok(())
 }

@@ -18,11 +18,15 @@
 // and that the line tells what was found, is to be read below: no contract can say what is read or written. A line is composed
 // first and written at once, so that several markers can write into one file or pipe. What was sent and recorded is looked up by
 // its line's number once it is needed, in the buffer; of a session of more than 1,048,575 bytes the numbers and the box's answer are told.
-ghost use Rattle.std.specs.Prelude.{◌≤◌, length};
-
 #![tactic(auto)]
 
+ghost use Rattle.std.specs.Prelude.{◌≤◌, length};
+
 use interpreter::state::{ANSWER, STORE};
+use std::env::{Env, FillError};
+use std::io::Read;
+use std::rt::Files;
+use std::{fs, io, str};
 use writer::session;
 use writer::session::{Found, Report};
 
@@ -37,8 +41,14 @@ const INPUT: usize = 1048576;
 // The room for a report's line. A name has at most 4,095 bytes and four times as many where each is spelled out.
 const OUT: usize = 20480;
 
+// The room for an argument: a longer one is taken for an empty one.
+const NAME: usize = 4096;
+
+// The digits of a byte that is spelled out.
+const HEX: &[u8; 16] = b"0123456789abcdef";
+
 // How much was read, whether the input has ended, and whether it ended because it can't be read.
-#[derive(Drop)]
+#[derive(Clone, Copy)]
 struct Chunk {
     length: usize,
     ended: bool,
@@ -46,7 +56,7 @@ struct Chunk {
 }
 
 // What was found in a session; how many of its bytes are at hand, and whether these are all.
-#[derive(Drop)]
+#[derive(Clone, Copy)]
 struct Marked {
     report: Report,
     held: usize,
@@ -72,9 +82,8 @@ fn put(text: &[u8], out: &mut [u8], at: usize) -> usize {
 }
 
 fn put_number(n: usize, out: &mut [u8], at: usize) -> usize {
-    let mut digits = [0u8; 20];
-    let k = io::decimal(n as u64, &mut digits);
-    put(&digits[0..k], out, at)
+    let mut digits = itoa::Buffer::new();
+    put(digits.format(n).as_bytes(), out, at)
 }
 
 // Writes a byte, spelled out where it can't be seen.
@@ -82,10 +91,10 @@ fn put_byte(byte: u8, out: &mut [u8], at: usize) -> usize {
     if (32 <= byte) & (byte < 127) {
         return put(&[byte], out, at);
     }
-    let mut digits = [0u8; 16];
-    let k = io::hex(byte as u64, 2, &mut digits);
     let end = put(b"\\x", out, at);
-    put(&digits[0..k], out, end)
+    let high = usize::from(byte / 16);
+    let low = usize::from(byte % 16);
+    put(&[HEX[high], HEX[low]], out, end)
 }
 
 // Writes all bytes of a text so that they can be seen.
@@ -272,21 +281,36 @@ fn put_name(status: bool, digit: u8, name: &[u8], out: &mut [u8]) -> usize {
     put_title(name, out, 0)
 }
 
-// Ends the line and writes it to standard output, at once.
-fn write_line(out: &mut [u8], at: usize) {
+// Ends the line and writes it to standard output, at once. If that fails the other sessions are marked all the same.
+fn write_line(rt: &impl Print, out: &mut [u8], at: usize) {
     let end = put(b"\n", out, at);
     if end <= out.len() {
-        io::write_all(libc::STDOUT_FILENO, &out[0..end]);
+        let _ = rt.write_all(&out[0..end]);
     }
 }
 
 // ---- a session
 
+// Reads until the buffer is full, or the input ends or can't be read, and gives how many bytes came.
+fn read_full(source: &mut impl Read, input: &mut [u8]) -> usize
+    ensures { result ≤ length input.new }
+{
+    let mut done: usize = 0;
+    while done < input.len() {
+        let n = source.read(&mut input[done..]).unwrap_or(0);
+        if n == 0 {
+            return done;
+        }
+        done += n;
+    }
+    done
+}
+
 // Fills a buffer, as far as the input goes. An input that can't be read any more says so again when it is asked for one more byte.
-fn fill(fd: i32, input: &mut [u8]) -> Chunk
+fn fill(source: &mut impl Read, input: &mut [u8]) -> Chunk
     ensures { result.length ≤ length input.new }
 {
-    let n = io::read_full(fd, input);
+    let n = read_full(source, input);
     if input.len() <= n {
         return Chunk {
             length: n,
@@ -295,11 +319,10 @@ fn fill(fd: i32, input: &mut [u8]) -> Chunk
         };
     }
     let mut probe = [0u8; 1];
-    let got = libc::read(fd, &mut probe);
     Chunk {
         length: n,
         ended: true,
-        failed: got < 0,
+        failed: source.read(&mut probe).is_err(),
     }
 }
 
@@ -361,12 +384,17 @@ fn at_hand(report: Report, n: usize, whole: bool, failed: bool) -> Marked {
 }
 
 // Marks a session, a buffer at a time. A proved loop has to end, so it counts its turns down, from a number that none uses up.
-fn mark(fd: i32, input: &mut [u8], store: &mut [u8; STORE], room: &mut [u8; ANSWER]) -> Marked {
+fn mark(
+    source: &mut impl Read,
+    input: &mut [u8],
+    store: &mut [u8; STORE],
+    room: &mut [u8; ANSWER],
+) -> Marked {
     let mut marker = session::begin();
     let mut turns = u64::MAX;
     while turns > 0 {
         turns -= 1;
-        let chunk = fill(fd, input);
+        let chunk = fill(source, input);
         let n = chunk.length;
         marker = session::feed(marker, store, room, &input[0..n]);
         if chunk.ended {
@@ -378,14 +406,15 @@ fn mark(fd: i32, input: &mut [u8], store: &mut [u8; STORE], room: &mut [u8; ANSW
 }
 
 // Tells of a session that can't be read.
-fn tell_unreadable(status: bool, name: &[u8], out: &mut [u8]) {
+fn tell_unreadable(rt: &impl Print, status: bool, name: &[u8], out: &mut [u8]) {
     let at = put_name(status, b'2', name, out);
     let end = put(b"cannot be read", out, at);
-    write_line(out, end);
+    write_line(rt, out, end);
 }
 
 // Writes what was found in a session, of which all bytes are at hand or none.
 fn tell_report(
+    rt: &impl Print,
     status: bool,
     name: &[u8],
     report: Report,
@@ -407,16 +436,23 @@ fn tell_report(
     let found = report.found;
     let at = put_name(status, digit_of(found), name, out);
     let end = put_report(report, known, room, &sent[0..m], &shown[0..n], out, at);
-    write_line(out, end);
+    write_line(rt, out, end);
 }
 
 // Marks a session and writes its line.
-fn tell(fd: i32, status: bool, name: &[u8], input: &mut [u8], out: &mut [u8]) {
+fn tell(
+    rt: &impl Print,
+    source: &mut impl Read,
+    status: bool,
+    name: &[u8],
+    input: &mut [u8],
+    out: &mut [u8],
+) {
     let mut store = [0u8; STORE];
     let mut room = [0u8; ANSWER];
-    let marked = mark(fd, input, &mut store, &mut room);
+    let marked = mark(source, input, &mut store, &mut room);
     if marked.failed {
-        tell_unreadable(status, name, out);
+        tell_unreadable(rt, status, name, out);
         return;
     }
     let held = marked.held;
@@ -425,6 +461,7 @@ fn tell(fd: i32, status: bool, name: &[u8], input: &mut [u8], out: &mut [u8]) {
     }
     let report = marked.report;
     tell_report(
+        rt,
         status,
         name,
         report,
@@ -445,52 +482,85 @@ fn is_option(word: &[u8]) -> bool {
     (word[0] == b'-') & (word[1] == b'-')
 }
 
-// Marks the session in a file.
-fn tell_file(status: bool, name: &[u8], input: &mut [u8], out: &mut [u8]) {
-    let fd = os::open_read(name);
-    if fd < 0 {
-        tell_unreadable(status, name, out);
-        return;
+// Opens a file to read. To std its name is text, and no other file can be opened.
+fn open<R: Files>(rt: &R, name: &[u8]) -> io::Result<R::File> {
+    match str::from_utf8(name) {
+        Ok(path) => fs::open(rt, path),
+        Err(_) => Err(io::Error::from(io::ErrorKind::InvalidFilename)),
     }
-    tell(fd, status, name, input, out);
-    libc::close(fd);
+}
+
+// Marks the session in a file.
+fn tell_file(
+    rt: &(impl Files + Print),
+    status: bool,
+    name: &[u8],
+    input: &mut [u8],
+    out: &mut [u8],
+) {
+    match open(rt, name) {
+        Ok(mut file) => tell(rt, &mut file, status, name, input, out),
+        Err(_) => tell_unreadable(rt, status, name, out),
+    }
+}
+
+// Counts the arguments, the program's own name among them.
+fn arg_count(rt: &impl Env) -> usize {
+    let mut word = [0u8; NAME];
+    for i in 0..usize::MAX {
+        if let Err(FillError::NotPresent) = rt.arg(i, &mut word) {
+            return i;
+        }
+    }
+    usize::MAX
 }
 
 // Marks the session in the file that an argument names.
-fn tell_argument(status: bool, i: usize, input: &mut [u8], out: &mut [u8]) {
-    let mut name = io::buffer();
-    let n = os::arg(i, &mut name);
-    tell_file(status, &name[0..n], input, out);
+fn tell_argument(
+    rt: &(impl Env + Files + Print),
+    status: bool,
+    i: usize,
+    input: &mut [u8],
+    out: &mut [u8],
+) {
+    let mut name = [0u8; NAME];
+    let n = rt.arg(i, &mut name).unwrap_or(0);
+    tell_file(rt, status, &name[0..n], input, out);
 }
 
 // Marks the sessions in the files that are named from a place on.
-fn tell_files(status: bool, first: usize, count: usize, input: &mut [u8], out: &mut [u8]) {
-    let mut i = first;
-    while i < count {
-        tell_argument(status, i, input, out);
-        i += 1;
+fn tell_files(
+    rt: &(impl Env + Files + Print),
+    status: bool,
+    first: usize,
+    count: usize,
+    input: &mut [u8],
+    out: &mut [u8],
+) {
+    for i in first..count {
+        tell_argument(rt, status, i, input, out);
     }
 }
 
 // Marks what the arguments name, or else what comes on standard input.
-fn run(input: &mut [u8], out: &mut [u8]) {
-    let mut word = io::buffer();
-    let n = os::arg(1, &mut word);
+fn run(rt: &(impl Env + Files + Input + Print), input: &mut [u8], out: &mut [u8]) {
+    let mut word = [0u8; NAME];
+    let n = rt.arg(1, &mut word).unwrap_or(0);
     let status = is_option(&word[0..n]);
     let mut first: usize = 1;
     if status {
         first = 2;
     }
-    let count = os::arg_count();
+    let count = arg_count(rt);
     if count <= first {
-        tell(libc::STDIN_FILENO, status, b"standard input", input, out);
+        tell(rt, &mut rt.reader(), status, b"standard input", input, out);
         return;
     }
-    tell_files(status, first, count, input, out);
+    tell_files(rt, status, first, count, input, out);
 }
 
-fn main() {
+fn main(rt: HostRuntime) {
     let mut input = [0u8; INPUT];
     let mut out = [0u8; OUT];
-    run(&mut input, &mut out);
+    run(&rt, &mut input, &mut out);
 }

@@ -8,10 +8,16 @@
 // whatever they are, the first 4,097 are recorded: it is refused again. What was read is served and written at once. The contracts say
 // that nothing goes wrong and that every run ends; that each line and its answer are written is to be read below, and tests/marking
 // holds the marker to it.
+#![tactic(auto)]
+
 use interpreter::server;
 use interpreter::state::{ANSWER, STORE, State};
-
-#![tactic(auto)]
+use registers::text;
+use std::alloc::Global;
+use std::env::{Env, FillError};
+use std::io::{Read, Write};
+use std::rt::Files;
+use std::{fs, io, str};
 
 // The room for a line that is a byte too long, and its newline.
 const HELD: usize = 4098;
@@ -23,8 +29,14 @@ const ENTRY: usize = 8200;
 
 const BOOK: usize = 65536;
 
+// The buffer for what a read brings.
+const CHUNK: usize = 65536;
+
+// The room for a file's name: a longer one names none.
+const NAME: usize = 4096;
+
 // The box; how many bytes of the line at hand are held, and how many of the record are still to be written; whether it still serves.
-#[derive(Drop)]
+#[derive(Clone, Copy)]
 struct Bench {
     state: State,
     held: usize,
@@ -33,7 +45,7 @@ struct Bench {
 }
 
 // How many bytes of the record are still to be written, and whether the others were.
-#[derive(Drop)]
+#[derive(Clone, Copy)]
 struct Spilled {
     kept: usize,
     serving: bool,
@@ -79,7 +91,7 @@ fn keep(line: &[u8], answer: &[u8], book: &mut [u8], at: usize) -> usize {
 }
 
 // Writes the record away where it has no room for one more entry, or where that is wanted.
-fn write_away(to: i32, book: &[u8], kept: usize, wanted: bool) -> Spilled {
+fn write_away(to: &mut impl Write, book: &[u8], kept: usize, wanted: bool) -> Spilled {
     if book.len() < kept {
         return Spilled {
             kept: 0,
@@ -96,11 +108,11 @@ fn write_away(to: i32, book: &[u8], kept: usize, wanted: bool) -> Spilled {
     }
     Spilled {
         kept: 0,
-        serving: io::write_all(to, &book[0..kept]),
+        serving: to.write_all(&book[0..kept]).is_ok(),
     }
 }
 
-fn spill(mut bench: Bench, to: i32, book: &[u8; BOOK], wanted: bool) -> Bench {
+fn spill(mut bench: Bench, to: &mut impl Write, book: &[u8; BOOK], wanted: bool) -> Bench {
     let spilled = write_away(to, book, bench.kept, wanted);
     bench.kept = spilled.kept;
     bench.serving = bench.serving & spilled.serving;
@@ -109,6 +121,7 @@ fn spill(mut bench: Bench, to: i32, book: &[u8; BOOK], wanted: bool) -> Bench {
 
 // Runs a line, writes its answer out if that is wanted, and keeps both.
 fn run_line(
+    rt: &impl Print,
     bench: Bench,
     answers: bool,
     store: &mut [u8],
@@ -125,7 +138,7 @@ fn run_line(
     }
     let mut serving = true;
     if answers {
-        serving = io::write_all(libc::STDOUT_FILENO, &room[0..n]);
+        serving = rt.write_all(&room[0..n]).is_ok();
     }
     let kept = keep(line, &room[0..n], book, bench.kept);
     Bench {
@@ -138,8 +151,9 @@ fn run_line(
 
 // Ends the line at hand with its newline and runs it.
 fn end_line(
+    rt: &impl Print,
     bench: Bench,
-    to: i32,
+    answers: bool,
     store: &mut [u8; STORE],
     line: &mut [u8; HELD],
     room: &mut [u8; ANSWER],
@@ -152,20 +166,15 @@ fn end_line(
     line[held] = b'\n';
     let end = held + 1;
     let bytes: &[u8] = line;
-    run_line(
-        bench,
-        to != libc::STDOUT_FILENO,
-        store,
-        &bytes[0..end],
-        room,
-        book,
-    )
+    run_line(rt, bench, answers, store, &bytes[0..end], room, book)
 }
 
 // Serves what was read, line by line.
 fn serve_all(
+    rt: &impl Print,
     start: Bench,
-    to: i32,
+    to: &mut impl Write,
+    answers: bool,
     store: &mut [u8; STORE],
     input: &[u8],
     line: &mut [u8; HELD],
@@ -178,13 +187,13 @@ fn serve_all(
         if !bench.serving {
             return bench;
         }
-        let end = bytes::scan::find(input, at, input.len(), b'\n');
+        let end = text::find(input, at, b'\n');
         bench.held = hold(&input[at..end], line, bench.held);
         if input.len() <= end {
             return bench;
         }
         at = end + 1;
-        bench = end_line(bench, to, store, line, room, book);
+        bench = end_line(rt, bench, answers, store, line, room, book);
         bench = spill(bench, to, book, false);
     }
     bench
@@ -193,13 +202,16 @@ fn serve_all(
 // Serves from power-up until the input ends, or can't be read, or something can't be written. A proved loop has to end, so it
 // counts its turns down, from a number that no run uses up.
 fn run(
-    to: i32,
+    rt: &(impl Input + Print),
+    to: &mut impl Write,
+    answers: bool,
     store: &mut [u8; STORE],
     input: &mut [u8],
     line: &mut [u8; HELD],
     room: &mut [u8; ANSWER],
     book: &mut [u8; BOOK],
 ) {
+    let mut source = rt.reader();
     let mut bench = Bench {
         state: State::power_up(),
         held: 0,
@@ -209,12 +221,21 @@ fn run(
     let mut turns = u64::MAX;
     while turns > 0 {
         turns -= 1;
-        let got = libc::read(libc::STDIN_FILENO, input);
-        let n = io::count(got, input);
+        let n = source.read(input).unwrap_or(0);
         if n == 0 {
             return;
         }
-        bench = serve_all(bench, to, store, &input[0..n], line, room, book);
+        bench = serve_all(
+            rt,
+            bench,
+            to,
+            answers,
+            store,
+            &input[0..n],
+            line,
+            room,
+            book,
+        );
         bench = spill(bench, to, book, true);
         if !bench.serving {
             return;
@@ -222,29 +243,56 @@ fn run(
     }
 }
 
-// Opens what the record goes to: the file that is named, or else standard output.
-fn open_record() -> i32 {
-    if os::arg_count() < 2 {
-        return libc::STDOUT_FILENO;
-    }
-    let mut name = io::buffer();
-    let n = os::arg(1, &mut name);
-    let to = os::open_overwrite(&name[0..n]);
-    if to < 0 {
-        os::fail(&name[0..n]);
-    }
-    to
-}
-
-fn main() {
+// Runs the box with its record, and writes its answers out where the record doesn't go there.
+fn record(rt: &(impl Input + Print), to: &mut impl Write, answers: bool) {
     let mut store = [0u8; STORE];
-    let mut input = io::large_buffer();
+    let mut input = [0u8; CHUNK];
     let mut line = [0u8; HELD];
     let mut room = [0u8; ANSWER];
     let mut book = [0u8; BOOK];
-    let to = open_record();
-    if to < 0 {
-        return;
+    run(
+        rt, to, answers, &mut store, &mut input, &mut line, &mut room, &mut book,
+    );
+}
+
+// Opens the file for the record, empty. To std a file's name is text, and no other can be opened.
+fn open_record<R: Files>(rt: &R, name: &[u8]) -> io::Result<R::File> {
+    match str::from_utf8(name) {
+        Ok(path) => fs::create(rt, path),
+        Err(_) => Err(io::Error::from(io::ErrorKind::InvalidFilename)),
     }
-    run(to, &mut store, &mut input, &mut line, &mut room, &mut book);
+}
+
+// The system's words for an error, without the error's number, which std writes behind them.
+fn words_of(text: &str) -> &str {
+    match text.split_once(" (os error ") {
+        Some((words, _)) => words,
+        None => text,
+    }
+}
+
+// Tells on standard error which file can't be written, and why.
+fn fail(errors: &impl Print, alloc: Global, name: &[u8], error: io::Error) -> io::Result<()> {
+    let text = format!(in alloc; "{error}")?;
+    errors.write_all(name)?;
+    println!(errors; ": {}", words_of(text.as_str()))
+}
+
+fn main(rt: HostRuntime) -> io::Result<()> {
+    let mut name = [0u8; NAME];
+    let n = match rt.arg(1, &mut name) {
+        Ok(n) => n,
+        Err(FillError::TooLong) => 0,
+        Err(FillError::NotPresent) => {
+            record(&rt, &mut io::writer(&rt), false);
+            return Ok(());
+        }
+    };
+    match open_record(&rt, &name[0..n]) {
+        Ok(mut file) => {
+            record(&rt, &mut file, true);
+            Ok(())
+        }
+        Err(e) => fail(&rt.stderr(), rt.alloc(), &name[0..n], e),
+    }
 }
