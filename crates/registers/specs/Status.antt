@@ -118,6 +118,10 @@ locked r = not (eqb (group_in Lock r).condition 0)
 
 -- ---- the status byte
 
+-- a weight where its bit is 1
+abbrev pub weight_if : Bool → ℕ → ℕ
+weight_if on weight = if on then weight else 0
+
 -- the weight of bit k where it is set
 abbrev pub bit_if : Bool → ℕ → ℕ
 bit_if true k = 2 ^ k

@@ -1,10 +1,10 @@
 // The status record: event status, enables, the three register groups, and the queue of error numbers, without their minus.
 ghost use Rattle.std.specs.Prelude.{◌≡◌, ◌+◌, ◌^◌, ◌≤◌, ◌<◌};
 ghost use Rattle.std.specs.Int.Bits.{bit_or};
-ghost use Rattle.registers.specs.Text.{if◌then◌else◌, first};
+ghost use Rattle.registers.specs.Text.{first};
 ghost use Rattle.registers.specs.Error.{number_of};
 ghost use Rattle.registers.specs.Group.{group_count};
-ghost use Rattle.registers.specs.Status.{locked, place_of, group_in, set_read, set_bits, registers_of, trouble_of, with_registers, raised_in, cleared_in, events_in, oldest_read_in, reported_in, register_set, register_in, widest, status_byte, possible_status, at_start};
+ghost use Rattle.registers.specs.Status.{locked, place_of, group_in, set_read, set_bits, registers_of, trouble_of, with_registers, raised_in, cleared_in, events_in, oldest_read_in, reported_in, register_set, register_in, widest, status_byte, possible_status, at_start, weight_if};
 
 use crate::error::Error;
 use crate::group::Group;
@@ -43,7 +43,7 @@ const SUMMARY: u16 = 64;
 
 // Gives a bit's weight where the bit is on; a function, so that each sum of bits has a bound.
 fn bit_if(on: bool, weight: u8) -> u8
-    ensures value { result ≡ if on then weight else 0 }
+    ensures value { result ≡ weight_if on weight }
     ensures upper_bound { result ≤ weight }
 {
     if on { weight } else { 0 }
