@@ -3,7 +3,7 @@ use mathlib.Core.Path.{◌≡◌, refl, subst}
 use mathlib.Core.Bool.{Bool, true, false}
 use Prim.Native.Nat.{ℕ}
 use native.Mathlib.Omega.{arith}
-use Rattle.registers.specs.Text.{if◌then◌else◌}
+use Rattle.registers.specs.Text.{if◌then◌otherwise◌}
 use Rattle.registers.specs.Check.{Checked, refused, passed, check, ◌>>=◌, ◌>>◌}
 use Rattle.interpreter.specs.Unit.{raisable}
 
@@ -36,8 +36,8 @@ module _ {A : Type 0} (Q : A → Type 0) where
   hold-check n true m e k = k refl
   hold-check n false m e k = refuses-by e
 
-  pub hold-if : (t : Bool) (x y : Checked A) → Holds Q x → Holds Q y → Holds Q (if t then x else y)
-  unfolding if◌then◌else◌
+  pub hold-if : (t : Bool) (x y : Checked A) → Holds Q x → Holds Q y → Holds Q (if t then x otherwise y)
+  unfolding if◌then◌otherwise◌
   hold-if true x y h k = h
   hold-if false x y h k = k
 

@@ -9,7 +9,7 @@ use lib.Dec.{ltb}
 use lib.ListN.{length, take, length-replicate, length-append}
 use lib.Seq.{take_all}
 use borrow.Author.Tests.{lt-ltb, le-ltb}
-use Rattle.registers.specs.Text.{Text, if◌then◌else◌, bytes, same, white, printable, digit, letter, word_byte, small, capital, every, after as after_all}
+use Rattle.registers.specs.Text.{Text, if◌then◌otherwise◌, bytes, same, white, printable, digit, letter, word_byte, small, capital, every, after as after_all}
 use Rattle.registers.specs.Check.{◌>>=◌, ◌>>◌, check}
 use Rattle.registers.specs.Words.{short_form, long_form, matches}
 use Rattle.registers.specs.Number.{after_sign, fraction_of, after_fraction, exponent_of, after_exponent, lowering, written, numeral_from, decimal_of, value_of, scaled, number}
@@ -34,7 +34,7 @@ use Rattle.interpreter.proofs.flow.Laws.{piece-held}
 use Rattle.interpreter.proofs.demands.histories.Pieces.{newline-after}
 
 no-newline : (n : ℕ) → newlines (letters n) ≡ 0
-unfolding newlines if◌then◌else◌
+unfolding newlines if◌then◌otherwise◌
 no-newline zero = refl
 no-newline (suc n) = no-newline n
 
@@ -48,14 +48,14 @@ unfolding power_up happens after
 overlong-is n = rw (piece-held (letters n) (power_up blank) (no-newline n) zero-le, length-replicate n (code "X"))
 
 fits-is : (n : ℕ) → fits_answer [] (letters n) ≡ ltb n most_answer
-unfolding joined fits_answer if◌then◌else◌
+unfolding joined fits_answer if◌then◌otherwise◌
 fits-is n = rw (length-replicate n (code "X"))
 
 -- ---- blanks before a unit change nothing
 
 module _ (u : Text) where
   spaced-newlines : (n : ℕ) → newlines (spaces n ++ u) ≡ newlines u
-  unfolding newlines if◌then◌else◌
+  unfolding newlines if◌then◌otherwise◌
   spaced-newlines zero = refl
   spaced-newlines (suc n) = spaced-newlines n
 
@@ -70,12 +70,12 @@ module _ (u : Text) where
   spaced-allowed (suc n) = spaced-allowed n
 
   spaced-after : (n : ℕ) → after_all white (spaces n ++ u) ≡ after_all white u
-  unfolding white if◌then◌else◌
+  unfolding white if◌then◌otherwise◌
   spaced-after zero = refl
   spaced-after (suc n) = spaced-after n
 
   spaced-cut : (n : ℕ) → cut_open (code ";") 0 u ≡ u ∷ [] → cut_open (code ";") 0 (spaces n ++ u) ≡ (spaces n ++ u) ∷ []
-  unfolding cut_open quote_next if◌then◌else◌
+  unfolding cut_open quote_next if◌then◌otherwise◌
   spaced-cut zero e = e
   spaced-cut (suc n) e = rw (spaced-cut n e)
 
@@ -84,10 +84,10 @@ module _ (u : Text) where
   spaced-unit n path b = rw (spaced-allowed n, spaced-after n)
 
   spaced-line : (n : ℕ) (b : Box) → cut_open (code ";") 0 u ≡ u ∷ [] → run_line (spaces n ++ u) false b ≡ run_line u false b
-  unfolding run_line units_of run_units if◌then◌else◌
+  unfolding run_line units_of run_units if◌then◌otherwise◌
   spaced-line n b e = rw (spaced-white n, spaced-cut n e, e) (go (every white u))
     where
-      go : (t : Bool) → finished (run_units (if t then [] else (spaces n ++ u) ∷ []) [] b) ≡ finished (run_units (if t then [] else u ∷ []) [] b)
+      go : (t : Bool) → finished (run_units (if t then [] otherwise (spaces n ++ u) ∷ []) [] b) ≡ finished (run_units (if t then [] otherwise u ∷ []) [] b)
       go true = refl
       go false = rw (spaced-unit n [] b)
 
@@ -102,13 +102,13 @@ size n = length-append (spaces n) unit ∙ ap (λ (k : ℕ). k + 6) (length-repl
 
 line-ends : (n : ℕ) → after (power_up blank) (spaced n)
     ≡ run_line (take most_line (spaces n ++ unit)) (ltb most_line (length (spaces n ++ unit))) (power_up blank)
-unfolding power_up happens after end_line interrupted newlines bytes if◌then◌else◌
+unfolding power_up happens after end_line interrupted newlines bytes if◌then◌otherwise◌
 line-ends n =
     newline-after (power_up blank) (received (spaces n ++ unit) ∷ [])
     ∙ ap end_line (piece-held (spaces n ++ unit) (power_up blank) (spaced-newlines unit n) zero-le)
 
 unit_runs : Runs (run_line unit false (power_up blank))
-unfolding if◌then◌else◌ bytes same white printable digit letter word_byte small capital ◌>>=◌ ◌>>◌ check short_form long_form matches
+unfolding if◌then◌otherwise◌ bytes same white printable digit letter word_byte small capital ◌>>=◌ ◌>>◌ check short_form long_form matches
     after_sign fraction_of after_fraction exponent_of after_exponent lowering written numeral_from decimal_of value_of scaled suffixes no_suffix power_in remains number
     nearest size_in rounded size_side side_in slots table setting_at at_reset wide_range lowest highest narrow within conflict examined accepted at_start
     may_stand closes undoubled padded label_deed cut_at quote_next cut_open trim_end trim name placed body_of by_first header numbered node_matches suffix_in spells setting_rows other_rows rows fits_row find_row second_of on_channel find_role
@@ -117,7 +117,7 @@ unfolding if◌then◌else◌ bytes same white printable digit letter word_byte 
 unit_runs = record { set = refl; queue = refl }
 
 cut-whole : cut_open (code ";") 0 unit ≡ unit ∷ []
-unfolding cut_open quote_next bytes if◌then◌else◌
+unfolding cut_open quote_next bytes if◌then◌otherwise◌
 cut-whole = refl
 
 runs-at : (n : ℕ) → n + 6 ≤ most_line → Runs (after (power_up blank) (spaced n))
@@ -128,7 +128,7 @@ runs-at n h =
     subst Runs (sym (line-ends n ∙ ap₂ (λ (l : Text) (o : Bool). run_line l o (power_up blank)) whole few ∙ spaced-line unit n (power_up blank) cut-whole)) unit_runs
 
 overruns-at : (n : ℕ) → most_line < n + 6 → Overruns (after (power_up blank) (spaced n))
-unfolding run_line power_up raised at_start if◌then◌else◌
+unfolding run_line power_up raised at_start if◌then◌otherwise◌
 overruns-at n h =
     let k = size n in
     let many = lt-ltb most_line (length (spaces n ++ unit)) (omega arith) in

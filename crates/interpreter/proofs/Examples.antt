@@ -1,6 +1,6 @@
 -- The worked lines of 01 and 02, computed from the definitions.
 use mathlib.Core.Path.{refl}
-use Rattle.registers.specs.Text.{if◌then◌else◌, bytes, same, white, printable, digit, letter, word_byte, small, capital}
+use Rattle.registers.specs.Text.{if◌then◌otherwise◌, bytes, same, white, printable, digit, letter, word_byte, small, capital}
 use Rattle.registers.specs.Check.{◌>>=◌, ◌>>◌, check}
 use Rattle.registers.specs.Words.{short_form, long_form, matches}
 use Rattle.registers.specs.Number.{after_sign, fraction_of, after_fraction, exponent_of, after_exponent, lowering, written, numeral_from, decimal_of, value_of, scaled, number}
@@ -27,7 +27,7 @@ use Rattle.interpreter.specs.Events.{reported, happens, after}
 use Rattle.interpreter.specs.Examples.{examples, same_values, outcome, ran, all_set, expected, AllHold}
 
 pub all_hold : AllHold
-unfolding if◌then◌else◌ bytes same white printable digit letter word_byte small capital ◌>>=◌ ◌>>◌ check short_form long_form matches
+unfolding if◌then◌otherwise◌ bytes same white printable digit letter word_byte small capital ◌>>=◌ ◌>>◌ check short_form long_form matches
     after_sign fraction_of after_fraction exponent_of after_exponent lowering written numeral_from decimal_of value_of scaled suffixes no_suffix power_in remains number
     switched_on nearest size_in rounded size_side side_in in_places decimal tenths event_bit
     slots table setting_at at_reset wide_range lowest highest narrow within conflict examined accepted answer_of raised completed without_bit6 rises falls events_after condition_is event_read set_bits summary status_byte stored_in register_in at_start

@@ -1,7 +1,7 @@
 -- 02, #112, "No error unaccounted for": what the steps of a history (Steps.antt) do to its error queue, and the account of them. It looks at
 -- the steps alone, and at the numbers that wait as each comes; nothing is counted up in the box.
 use Rattle.std.specs.Prelude.{◌≡◌, Bool, true, false, not, ◌||◌, List, [], ◌∷◌, ◌++◌, ℕ, ltb, eqb, length, take}
-use Rattle.registers.specs.Text.{if◌then◌else◌, every, only}
+use Rattle.registers.specs.Text.{if◌then◌otherwise◌, every, only}
 use Rattle.registers.specs.Check.{Checked, refused, passed}
 use Rattle.registers.specs.Error.{overflow}
 use Rattle.registers.specs.Queue.{most}
@@ -68,7 +68,7 @@ waits s = queue (box_at s)
 -- "Call lost one raised while sixteen wait, and also the sixteenth entry at that moment unless it is -350". Entries come last into the queue, so
 -- the sixteenth is the last raised of those not lost (`Accounted.sixteenth` states that it is)
 abbrev pub kept_by : Act → List ℕ → List ℕ → List ℕ
-kept_by (raises n) q ks = if ltb (length q) most then ks ++ n ∷ [] else (if eqb (last q) overflow then ks else front ks)
+kept_by (raises n) q ks = if ltb (length q) most then ks ++ n ∷ [] otherwise (if eqb (last q) overflow then ks otherwise front ks)
 kept_by reads q ks = ks
 kept_by starts q ks = []
 kept_by leaves q ks = ks
@@ -98,7 +98,7 @@ full_at_next (s ∷ ss) = full_by (act_of s) (waits s) (full_at_next ss)
 
 -- the errors raised that are not lost
 abbrev pub unlost_by : Act → List ℕ → Bool → List ℕ → List ℕ
-unlost_by (raises n) q next later = if full_at q || next then later else n ∷ later
+unlost_by (raises n) q next later = if full_at q || next then later otherwise n ∷ later
 unlost_by reads q next later = later
 unlost_by starts q next later = later
 unlost_by leaves q next later = later

@@ -1,12 +1,12 @@
 -- What the search for a separator outside quotes says. Nothing of 01 is defined here: see Cuts.antt.
 use Rattle.std.specs.Prelude.{◌≡◌, [], ◌∷◌, ℕ, suc, ◌+◌, ◌≤◌, length, drop}
-use Rattle.registers.specs.Text.{Text, if◌then◌else◌}
+use Rattle.registers.specs.Text.{Text, if◌then◌otherwise◌}
 use Rattle.interpreter.specs.Cuts.{quote_next, separates}
 
 -- the place of the first separator outside quotes, the length where there is none
 unfoldable pub place_open : ℕ → ℕ → Text → ℕ
 place_open s mark [] = 0
-place_open s mark (b ∷ bs) = let more = place_open s (quote_next mark b) bs in if separates s mark b then 0 else suc more
+place_open s mark (b ∷ bs) = let more = place_open s (quote_next mark b) bs in if separates s mark b then 0 otherwise suc more
 
 -- i is on the way from a place to the separator, with this quote open
 pub record OnWay (s : ℕ) (l : Text) (at i mark : ℕ) : Type 0 where

@@ -1,6 +1,6 @@
 -- What a row is for, as the code tells it. Nothing of 01 is defined here: see Rows.antt.
 use Rattle.std.specs.Prelude.{◌&&◌, ◌++◌, map, ℕ, ◌+◌, ◌-◌, leb, ltb, eqb, get_or}
-use Rattle.registers.specs.Text.{if◌then◌else◌}
+use Rattle.registers.specs.Text.{if◌then◌otherwise◌}
 use Rattle.registers.specs.Settings.{count, table_count, slots}
 use Rattle.registers.specs.declared.status.RegisterSet.{RegisterSet}
 use Rattle.registers.specs.declared.status.RegisterSet.TheVariants.{Operation, Lock, Warning}
@@ -39,19 +39,19 @@ no_channel = place_count + 1
 unfoldable pub place_of : ℕ → ℕ → ℕ
 place_of row x =
     if leb row_count row then nowhere
-    else (if ltb x 2 then (if ltb row table_count then row else row + (count - table_count))
-    else (if eqb x 2 && ltb row monitor then row + table_count
-    else (if eqb x 2 && (ltb monitor row && ltb row brightness) then row + (table_count - 1) else no_channel)))
+    otherwise (if ltb x 2 then (if ltb row table_count then row otherwise row + (count - table_count))
+    otherwise (if eqb x 2 && ltb row monitor then row + table_count
+    otherwise (if eqb x 2 && (ltb monitor row && ltb row brightness) then row + (table_count - 1) otherwise no_channel)))
 
 unfoldable pub role_at : ℕ → Role
 role_at i = get_or (map (λ (r : Row). r.role) (setting_rows 0 slots ++ other_rows)) i (Setting i)
 
 -- a register set by its place, and the role of each of a set's five rows
 abbrev pub set_at : ℕ → RegisterSet
-set_at i = if eqb i 0 then Operation else (if eqb i 1 then Lock else Warning)
+set_at i = if eqb i 0 then Operation otherwise (if eqb i 1 then Lock otherwise Warning)
 
 abbrev pub role_of_set : RegisterSet → ℕ → Role
 role_of_set x i =
     if eqb i 0 then Only (Query (Condition x))
-    else (if eqb i 1 then Only (Query (SetEvents x))
-    else (if eqb i 2 then Register (Enable x) else (if eqb i 3 then Register (Ntr x) else Register (Ptr x))))
+    otherwise (if eqb i 1 then Only (Query (SetEvents x))
+    otherwise (if eqb i 2 then Register (Enable x) otherwise (if eqb i 3 then Register (Ntr x) otherwise Register (Ptr x))))

@@ -1,7 +1,7 @@
 -- Demand 1: each refusal is given exactly when 01 says, carries its number, and changes only what 01 lists for it.
 use Rattle.std.specs.Prelude.{◌≡◌, true, false, List, [], ◌∷◌, ℕ, ◌≤◌, ltb, eqb, length}
 use Prim.Native.Char.{code}
-use Rattle.registers.specs.Text.{Text, if◌then◌else◌, every, white, empty}
+use Rattle.registers.specs.Text.{Text, if◌then◌otherwise◌, every, white, empty}
 use Rattle.registers.specs.Check.{refused}
 use Rattle.registers.specs.Group.{widest_group}
 use Rattle.interpreter.specs.Cuts.{cut_open}
@@ -19,21 +19,21 @@ use Rattle.interpreter.specs.declared.state.State.{State}
 unfoldable pub number_for : Box → Event → ℕ
 number_for b started = 0
 number_for b (received xs) = 0
-number_for b (take buffer) = if empty b.core.answer then 2 else (if ltb (length buffer) (length b.core.answer) then 1 else 0)
-number_for b (condition x n) = if ltb widest_group n then 3 else 0
+number_for b (take buffer) = if empty b.core.answer then 2 otherwise (if ltb (length buffer) (length b.core.answer) then 1 otherwise 0)
+number_for b (condition x n) = if ltb widest_group n then 3 otherwise 0
 number_for b look = 0
 number_for b (altered i x) = 0
 number_for b (mislent buffer) = 5
 
 -- "Number 4 is tested first", on the record's own numbers, and for "any but power-up"; by 02 (#108) number 5 before it
 unfoldable pub refusal_of : State → Memory → Event → ℕ
-refusal_of s m e = if rightly m e then (if admitted s e then number_for (box_of s m) e else 4) else 5
+refusal_of s m e = if rightly m e then (if admitted s e then number_for (box_of s m) e otherwise 4) otherwise 5
 
 -- ---- its column "What it leaves", by the number. 1: "result gives the needed length"; 2: "error -420 raised"; else the state is
 -- unchanged and the count, length or status byte is 0. The lent buffer is never touched
 
 abbrev pub leaves : Box → Event → ℕ → Happened
-leaves b e n = happened (result_of n (if eqb n 1 then length b.core.answer else 0) (lent e)) (if eqb n 2 then raise 420 b else b)
+leaves b e n = happened (result_of n (if eqb n 1 then length b.core.answer otherwise 0) (lent e)) (if eqb n 2 then raise 420 b otherwise b)
 
 -- a call, known by its promise alone, left the result r, the state t and the lent memory n
 pub record Refuses (s : State) (m : Memory) (e : Event) (r : Result) (t : State) (n : Memory) : Type 0 where
@@ -62,7 +62,7 @@ abbrev pub units_leave : List Text → Box → Box
 units_leave us b =
     let c = run_units (obeyed us [] b) [] b in
     let n = refusal us [] b in
-    if eqb n 0 then c else refuse n c
+    if eqb n 0 then c otherwise refuse n c
 
 -- a newline found the box b and left another
 pub record LineRefused (b after : Box) : Type 0 where

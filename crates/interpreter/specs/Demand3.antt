@@ -2,7 +2,7 @@
 use Rattle.std.specs.Prelude.{◌≡◌, Bool, true, false, not, List, [], ◌∷◌, ◌++◌, ℕ, ◌-◌, eqb, length, drop}
 use Prim.Native.Char.{code}
 use Rattle.std.proofs.Math.ListN as L
-use Rattle.registers.specs.Text.{Text, if◌then◌else◌, every}
+use Rattle.registers.specs.Text.{Text, if◌then◌otherwise◌, every}
 use Rattle.registers.specs.Check.{Checked, refused, passed}
 use Rattle.interpreter.specs.Box.{Memory, Core, Box, power_up}
 use Rattle.interpreter.specs.Unit.{Read, read_unit}
@@ -38,10 +38,10 @@ join_units (u ∷ []) = u
 join_units (u ∷ v ∷ us) = u ++ code ";" ∷ join_units (v ∷ us)
 
 unfoldable pub cut_line : Box → Text
-cut_line b = if b.core.overlong then [] else join_units (obeyed (units_of b.core.line) [] (at_newline b))
+cut_line b = if b.core.overlong then [] otherwise join_units (obeyed (units_of b.core.line) [] (at_newline b))
 
 unfoldable pub line_refusal : Box → ℕ
-line_refusal b = if b.core.overlong then 363 else refusal (units_of b.core.line) [] (at_newline b)
+line_refusal b = if b.core.overlong then 363 otherwise refusal (units_of b.core.line) [] (at_newline b)
 
 -- of the bytes received only the first k, and every other event
 unfoldable pub keep : ℕ → List Event → List Event
@@ -126,10 +126,10 @@ watch_units (u ∷ us) path b =
     then_watch (watch_read (read_unit b.core.settings path u)) (watch_next (λ p c. watch_units us p c) (attempt path b u))
 
 unfoldable pub watch_line : Text → Bool → Box → Watch
-watch_line line overlong b = if overlong then neither else watch_units (units_of line) [] b
+watch_line line overlong b = if overlong then neither otherwise watch_units (units_of line) [] b
 
 unfoldable pub watch_byte : Box → ℕ → Watch
-watch_byte b x = if eqb x 10 then watch_line b.core.line b.core.overlong (at_newline b) else neither
+watch_byte b x = if eqb x 10 then watch_line b.core.line b.core.overlong (at_newline b) otherwise neither
 
 unfoldable pub watch_piece : Box → Text → Watch
 watch_piece b [] = neither

@@ -4,7 +4,7 @@
 use Rattle.std.specs.Prelude.{◌≡◌, Bool, true, false, List, [], ◌∷◌, ◌++◌, ℕ, suc, eqb, ltb}
 use Prim.Native.Char.{code}
 use Rattle.std.proofs.Math.ListN as L
-use Rattle.registers.specs.Text.{Text, if◌then◌else◌, empty, every}
+use Rattle.registers.specs.Text.{Text, if◌then◌otherwise◌, empty, every}
 use Rattle.interpreter.specs.Cuts.{cut_open}
 use Rattle.interpreter.specs.Box as lent
 use Rattle.interpreter.specs.Box.{Box, box, raise, answer_is, power_up, blank}
@@ -98,8 +98,8 @@ unfoldable pub refusing_byte : Box → ℕ → Box
 refusing_byte b x =
     let c = at_newline b in
     if eqb x 10
-    then (if b.core.overlong then raise 363 c else (if empty (units_of b.core.line) then c else raise 113 c))
-    else box (held x b.core) b.trouble
+    then (if b.core.overlong then raise 363 c otherwise (if empty (units_of b.core.line) then c otherwise raise 113 c))
+    otherwise box (held x b.core) b.trouble
 
 unfoldable pub refusing_piece : Box → Text → Box
 refusing_piece b [] = b
@@ -122,7 +122,7 @@ refuser = record { Memory = Box; start = first; tells = λ b e. (happens b e).re
 -- a history without its pieces
 unfoldable pub unheard : List Event → List Event
 unheard [] = []
-unheard (e ∷ es) = let more = unheard es in if is_piece e then more else e ∷ more
+unheard (e ∷ es) = let more = unheard es in if is_piece e then more otherwise e ∷ more
 
 abbrev pub IgnoresPieces : Program → Type 0
 IgnoresPieces p = (es : List Event) (e : Event) → Typed es e → no_piece e ≡ true → tells_next p es e ≡ tells_next p (unheard es) e
@@ -152,7 +152,7 @@ AnswersAlike a p = (l buffer : Text) → cut_open (code ";") 0 l ≡ l ∷ [] �
 
 -- it is the box, but that this answer stands in the place of every other
 unfoldable pub answering : Text → Box → Box
-answering a b = if empty b.core.answer then b else answer_is a b
+answering a b = if empty b.core.answer then b otherwise answer_is a b
 
 abbrev pub fixed_answer : Text → Program
 fixed_answer a =
@@ -160,7 +160,7 @@ fixed_answer a =
 
 -- one that answers this to every query, as `0`, and `0;0` to two: it is the box, but that a unit's own answer is replaced
 abbrev pub instead : Text → Box → Box → Box
-instead a b c = if eqb (L.length c.core.answer) (L.length b.core.answer) then c else answer_is (joined b.core.answer a) c
+instead a b c = if eqb (L.length c.core.answer) (L.length b.core.answer) then c otherwise answer_is (joined b.core.answer a) c
 
 unfoldable pub each_unit : Text → List Text → List Text → Box → Box
 each_unit a [] path b = b
@@ -170,8 +170,8 @@ unfoldable pub each_byte : Text → Box → ℕ → Box
 each_byte a b x =
     let c = at_newline b in
     if eqb x 10
-    then (if b.core.overlong then raise 363 c else finished (each_unit a (units_of b.core.line) [] c))
-    else box (held x b.core) b.trouble
+    then (if b.core.overlong then raise 363 c otherwise finished (each_unit a (units_of b.core.line) [] c))
+    otherwise box (held x b.core) b.trouble
 
 unfoldable pub each_piece : Text → Box → Text → Box
 each_piece a b [] = b
@@ -207,7 +207,7 @@ OnlyFirstLine p = (l : Text) (es : List Event) (e : Event) → every no_start es
 
 -- it is the box until the first newline, which it obeys too, and drops all bytes after it
 unfoldable pub first_byte : Box × Bool → ℕ → Box × Bool
-first_byte m x = if m.1 then m else (byte m.0 x, eqb x 10)
+first_byte m x = if m.1 then m otherwise (byte m.0 x, eqb x 10)
 
 unfoldable pub first_piece : Box × Bool → Text → Box × Bool
 first_piece m [] = m

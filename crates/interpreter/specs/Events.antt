@@ -1,7 +1,7 @@
 -- "What can happen to the box": the five events, the refusals of its table, and histories. By 02 (#108) the caller lends a memory to every
 -- event but power-up: it is part of the box here, and a history tells where the caller changes it or lends another.
 use Rattle.std.specs.Prelude.{◌≡◌, Bool, true, not, ◌&&◌, List, [], ◌∷◌, ◌++◌, ℕ, leb, length, drop}
-use Rattle.registers.specs.Text.{Text, if◌then◌else◌, empty}
+use Rattle.registers.specs.Text.{Text, if◌then◌otherwise◌, empty}
 use Rattle.registers.specs.Group.{widest_group}
 use Rattle.registers.specs.Settings.{possible_settings, AsLong}
 use Rattle.registers.specs.Status.{set_reported, status_byte, possible_registers, possible_trouble}
@@ -41,9 +41,9 @@ unfoldable pub taken : Text → Box → Happened
 taken buffer b =
     let a = b.core.answer in
     if empty a then happened (result_of 2 0 buffer) (raise 420 b)
-    else (if leb (length a) (length buffer)
+    otherwise (if leb (length a) (length buffer)
     then happened (result_of 0 (length a) (a ++ drop (length a) buffer)) (answer_is [] b)
-    else happened (result_of 1 (length a) buffer) b)
+    otherwise happened (result_of 1 (length a) buffer) b)
 
 -- "the box reports the 16-bit operation condition register"; by 02 (#104) LOCK and WARNing have each "its own condition event"; number 3
 unfoldable pub reported : RegisterSet → ℕ → Box → Happened
@@ -51,7 +51,7 @@ reported x n b =
     if leb n widest_group
     then happened (result_of 0 0 [])
     (box (with_registers (set_reported x n b.core.registers) b.core) b.trouble)
-    else happened (result_of 3 0 []) b
+    otherwise happened (result_of 3 0 []) b
 
 -- look: "the status byte, with bit 6 as below. It changes nothing"
 abbrev pub seen : Box → ℕ

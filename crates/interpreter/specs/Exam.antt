@@ -1,6 +1,6 @@
 -- Exam mode (02, #107): "an off-step number on a settings row of step 0.1 or 1 is -222, where it was rounded before".
 use Rattle.std.specs.Prelude.{◌≡◌, Bool, true, false, not, List, ℕ, ℤ}
-use Rattle.registers.specs.Text.{Text, if◌then◌else◌}
+use Rattle.registers.specs.Text.{Text, if◌then◌otherwise◌}
 use Rattle.registers.specs.Check.{Checked, refused, passed, ◌>>=◌, ◌>>◌, check}
 use Rattle.registers.specs.Settings.{kind_of, quantity_of, value_at, exam, within, examined, on_step}
 use Rattle.registers.specs.declared.rounding.Side.{Side}
@@ -58,7 +58,7 @@ off_step (Saving x p) = false
 -- "is -222, where it was rounded before"; all else is as it was, what is refused too
 unfoldable pub in_exam : Checked Read → Checked Read
 in_exam (refused n) = refused n
-in_exam (passed r) = if off_step r.deed then refused 222 else passed r
+in_exam (passed r) = if off_step r.deed then refused 222 otherwise passed r
 
 abbrev pub ExamUnits : Type 0
 ExamUnits = (s s' : Settings) → Switched s s' → (path : List Text) (u : Text) → read_unit s' path u ≡ in_exam (read_unit s path u)

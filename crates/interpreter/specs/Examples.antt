@@ -4,7 +4,7 @@
 use Rattle.std.specs.Prelude.{◌≡◌, Bool, true, false, ◌&&◌, List, [], ◌∷◌, ◌++◌, map, ℕ, ◌+◌, set, ℤ, pos}
 use Prim.Native.String.{String}
 use Rattle.std.specs.Int.Signed.{le_z}
-use Rattle.registers.specs.Text.{Text, if◌then◌else◌, bytes, empty}
+use Rattle.registers.specs.Text.{Text, if◌then◌otherwise◌, bytes, empty}
 use Rattle.registers.specs.Settings.{output, voltage, range, exam, output2, voltage2, range2, at_reset, minus}
 use Rattle.interpreter.specs.Rows.{monitor}
 use Rattle.registers.specs.declared.status.RegisterSet.TheVariants.{Operation, Lock, Warning}
@@ -262,7 +262,7 @@ expected e =
       answer = bytes e.answer;
       queue = e.errors;
       values = true;
-      byte = e.bits + (if empty (bytes e.answer) then 0 else 16) + (if empty e.errors then 0 else 4);
+      byte = e.bits + (if empty (bytes e.answer) then 0 otherwise 16) + (if empty e.errors then 0 otherwise 4);
     }
 
 -- every line of the table leaves what 01 and 02 say

@@ -3,7 +3,7 @@
 use Rattle.std.specs.Prelude.{Bool, true, false, not, ◌&&◌, ◌||◌, List, [], ◌∷◌, ◌++◌, ℕ, eqb}
 use Prim.Native.Char.{code}
 use Prim.Native.String.{String}
-use Rattle.registers.specs.Text.{Text, if◌then◌else◌, bytes, letter, digit, word_byte, every, empty, same, first, rest, start, after}
+use Rattle.registers.specs.Text.{Text, if◌then◌otherwise◌, bytes, letter, digit, word_byte, every, empty, same, first, rest, start, after}
 use Rattle.registers.specs.Check.{Checked, passed, ◌>>◌, check}
 use Rattle.registers.specs.Words.{Node, must, may, matches}
 use Rattle.interpreter.specs.Cuts.{last, front, cut_at}
@@ -24,7 +24,7 @@ abbrev pub asks : Text → Bool
 asks t = eqb (last t) (code "?")
 
 unfoldable pub body_of : Text → Text
-body_of t = if asks t then front t else t
+body_of t = if asks t then front t otherwise t
 
 -- "a letter and then letters, digits or underscores"
 unfoldable pub name : Text → Bool
@@ -38,7 +38,7 @@ placed p names q = check 102 (every name names) >> passed (record { place = p; n
 unfoldable pub by_first : Text → Bool → Checked Header
 by_first body q =
     if eqb (first body) (code "*") then placed common (rest body ∷ []) q
-    else (if eqb (first body) (code ":") then placed root (cut_at (code ":") (rest body)) q else placed here (cut_at (code ":") body) q)
+    otherwise (if eqb (first body) (code ":") then placed root (cut_at (code ":") (rest body)) q otherwise placed here (cut_at (code ":") body) q)
 
 unfoldable pub header : Text → Checked Header
 header t = by_first (body_of t) (asks t)
@@ -81,12 +81,12 @@ suffix n = after not_digit n
 
 -- a node with a numeric suffix of any digits, or with none; which of them are good is asked once the row is found
 unfoldable pub node_matches : String → Text → Bool
-node_matches w n = if numbered w then matches w (stem n) && every digit (suffix n) else matches w n
+node_matches w n = if numbered w then matches w (stem n) && every digit (suffix n) otherwise matches w n
 
 -- the suffix of a header: that of the first name that has one. In a row no more than one node takes one
 unfoldable pub suffix_in : List Text → Text
 suffix_in [] = []
-suffix_in (n ∷ names) = if empty (suffix n) then suffix_in names else suffix n
+suffix_in (n ∷ names) = if empty (suffix n) then suffix_in names otherwise suffix n
 
 -- ---- when a row spells names: "Nodes in brackets may be left out", "kept or left out in any way"
 

@@ -2,7 +2,7 @@
 use Rattle.std.specs.Prelude.{◌≡◌, Bool, true, not, ◌||◌, List, [], ◌∷◌, ◌++◌, map, ℕ, ◌+◌, ◌≤◌, ◌<◌, eqb, length, take, drop}
 use Prim.Native.Char.{code}
 use mir.Val.{bool_byte}
-use Rattle.registers.specs.Text.{Text, if◌then◌else◌, visible, every, empty, first, rest, start}
+use Rattle.registers.specs.Text.{Text, if◌then◌otherwise◌, visible, every, empty, first, rest, start}
 use Rattle.registers.specs.Check.{refused, passed}
 use Rattle.interpreter.specs.Cuts.{cut_at}
 use Rattle.interpreter.specs.Header.{Header, header, name, asks, full_names, path_after, is_common, body_of, suffix_in}
@@ -21,11 +21,11 @@ abbrev pub asks_in : Text → Bool
 asks_in t = asks (start visible t)
 
 unfoldable pub names_in : Bool → Text → List Text
-names_in joined t = if joined then cut_at (code ":") (body_of (start visible t)) else body_of (start visible t) ∷ []
+names_in joined t = if joined then cut_at (code ":") (body_of (start visible t)) otherwise body_of (start visible t) ∷ []
 
 -- a `?` that starts a text is skipped
 unfoldable pub unasked : Text → Text
-unasked t = if eqb (first t) (code "?") then rest t else t
+unasked t = if eqb (first t) (code "?") then rest t otherwise t
 
 -- ---- the path as numbers
 

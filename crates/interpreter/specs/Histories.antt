@@ -1,7 +1,7 @@
 -- Histories however their bytes are cut into pieces, and the results that don't depend on the cutting.
 use Rattle.std.specs.Prelude.{◌≡◌, Bool, true, false, not, List, [], ◌∷◌, ◌++◌, map, ℕ, suc, ◌+◌, eqb}
 use Rattle.std.proofs.Math.ListN as L
-use Rattle.registers.specs.Text.{Text, if◌then◌else◌}
+use Rattle.registers.specs.Text.{Text, if◌then◌otherwise◌}
 use Rattle.interpreter.specs.Box.{Box}
 use Rattle.interpreter.specs.Events.{Event, started, received, take, condition, look, altered, mislent, Result, happens}
 
@@ -51,18 +51,18 @@ no_piece e = not (is_piece e)
 -- how many of the events
 unfoldable pub how_many : (Event → Bool) → List Event → ℕ
 how_many p [] = 0
-how_many p (e ∷ es) = let more = how_many p es in if p e then suc more else more
+how_many p (e ∷ es) = let more = how_many p es in if p e then suc more otherwise more
 
 -- the results of some of the events
 unfoldable pub results_of : (Event → Bool) → Box → List Event → List Result
 results_of p b [] = []
-results_of p b (e ∷ es) = let more = results_of p (happens b e).box es in if p e then (happens b e).result ∷ more else more
+results_of p b (e ∷ es) = let more = results_of p (happens b e).box es in if p e then (happens b e).result ∷ more otherwise more
 
 -- the same of a list that has a result for each event
 unfoldable pub chosen : (Event → Bool) → List Event → List Result → List Result
 chosen p [] rs = []
 chosen p (e ∷ es) [] = []
-chosen p (e ∷ es) (r ∷ rs) = let more = chosen p es rs in if p e then r ∷ more else more
+chosen p (e ∷ es) (r ∷ rs) = let more = chosen p es rs in if p e then r ∷ more otherwise more
 
 -- the answers taken
 abbrev pub answers : Box → List Event → List Result
@@ -96,4 +96,4 @@ sent (mislent buffer ∷ es) = sent es
 -- all that its takes copied, one answer after the other; a refused take copies nothing
 unfoldable pub copied : List Result → Text
 copied [] = []
-copied (r ∷ rs) = (if eqb r.number 0 then L.take r.value r.buffer else []) ++ copied rs
+copied (r ∷ rs) = (if eqb r.number 0 then L.take r.value r.buffer otherwise []) ++ copied rs

@@ -2,7 +2,7 @@
 -- answers for channel 1". The premises: "every setting unit for channel 2 is accepted in both histories, and in neither is there a *SAV, a
 -- *RCL, an overlong line or a -430". "The answers are those given by the units, whether or not they are taken".
 use Rattle.std.specs.Prelude.{◌≡◌, Bool, true, false, not, ◌&&◌, List, [], ◌∷◌, ◌++◌, ℕ, eqb}
-use Rattle.registers.specs.Text.{Text, if◌then◌else◌, every}
+use Rattle.registers.specs.Text.{Text, if◌then◌otherwise◌, every}
 use Rattle.registers.specs.Check.{Checked, refused, passed}
 use Rattle.registers.specs.Settings.{second, value_at}
 use Rattle.interpreter.specs.Header.{Header, header, is_common, full_names, path_after}
@@ -68,7 +68,7 @@ LinesAlike x y = UnitsAlike [] (units_of x) (units_of y)
 -- all events but pieces
 unfoldable pub besides : List Event → List Event
 besides [] = []
-besides (e ∷ es) = let more = besides es in if is_piece e then more else e ∷ more
+besides (e ∷ es) = let more = besides es in if is_piece e then more otherwise e ∷ more
 
 -- what happens while a line is under way: its bytes, and the same other events in both histories
 pub record During (d e : List Event) : Type 0 where
@@ -132,7 +132,7 @@ abbrev pub answer_to : Deed → Core → List Text
 answer_to (Change x) c = []
 answer_to Complete c = []
 answer_to Clear c = []
-answer_to (Query q) c = if asks_second q then [] else reply_to q c ∷ []
+answer_to (Query q) c = if asks_second q then [] otherwise reply_to q c ∷ []
 answer_to (Inquire q) c = []
 answer_to (Saving x p) c = []
 

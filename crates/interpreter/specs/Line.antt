@@ -2,7 +2,7 @@
 use Rattle.std.specs.Prelude.{Bool, true, false, List, [], ◌∷◌, ◌++◌, ltb, eqb, length}
 use Prim.Native.Nat.{ℕ}
 use Prim.Native.Char.{code}
-use Rattle.registers.specs.Text.{Text, if◌then◌else◌, white, every, empty}
+use Rattle.registers.specs.Text.{Text, if◌then◌otherwise◌, white, every, empty}
 use Rattle.registers.specs.Check.{Checked, refused, passed, ◌>>=◌, ◌>>◌}
 use Rattle.interpreter.specs.Cuts.{cut_open}
 use Rattle.interpreter.specs.Box.{Core, Box, box, raise, with_line, answer_is, most_line}
@@ -25,7 +25,7 @@ attempt path b u =
 
 -- "raises one error and changes nothing else (but check 9 drops the answer)"
 unfoldable pub refuse : ℕ → Box → Box
-refuse n b = raise n (if eqb n 430 then answer_is [] b else b)
+refuse n b = raise n (if eqb n 430 then answer_is [] b otherwise b)
 
 -- ---- "Units run left to right. The first refused unit .., and the rest of the line is dropped"
 
@@ -41,19 +41,19 @@ run_units (u ∷ us) path b = next (λ p c. run_units us p c) b (attempt path b 
 
 -- "a waiting answer is first discarded with -410"
 unfoldable pub interrupted : Box → Box
-interrupted b = if empty b.core.answer then b else raise 410 (answer_is [] b)
+interrupted b = if empty b.core.answer then b otherwise raise 410 (answer_is [] b)
 
 -- "Answers of one line are joined by `;` and ended by a newline"
 unfoldable pub finished : Box → Box
-finished b = if empty b.core.answer then b else answer_is (b.core.answer ++ 10 ∷ []) b
+finished b = if empty b.core.answer then b otherwise answer_is (b.core.answer ++ 10 ∷ []) b
 
 -- "A blank line .. does nothing else. Otherwise the line is cut at every `;`"
 unfoldable pub units_of : Text → List Text
-units_of line = if every white line then [] else cut_open (code ";") 0 line
+units_of line = if every white line then [] otherwise cut_open (code ";") 0 line
 
 -- "at the newline -363 is raised and no unit runs"; "Each line starts at the root"
 unfoldable pub run_line : Text → Bool → Box → Box
-run_line line overlong b = if overlong then raise 363 b else finished (run_units (units_of line) [] b)
+run_line line overlong b = if overlong then raise 363 b otherwise finished (run_units (units_of line) [] b)
 
 -- the box in which the units of the waiting line run: its bytes are taken, and -410 comes "also of a blank or overlong line"
 abbrev pub at_newline : Box → Box
@@ -66,11 +66,11 @@ end_line b = run_line b.core.line b.core.overlong (at_newline b)
 
 -- "further bytes are dropped"
 unfoldable pub held : ℕ → Core → Core
-held x c = if ltb (length c.line) most_line then with_line (c.line ++ x ∷ []) c.overlong c else with_line c.line true c
+held x c = if ltb (length c.line) most_line then with_line (c.line ++ x ∷ []) c.overlong c otherwise with_line c.line true c
 
 -- "A newline (byte 10) ends a line, always"
 unfoldable pub byte : Box → ℕ → Box
-byte b x = if eqb x 10 then end_line b else box (held x b.core) b.trouble
+byte b x = if eqb x 10 then end_line b otherwise box (held x b.core) b.trouble
 
 -- "A piece behaves as its bytes one at a time"
 unfoldable pub piece : Box → Text → Box
@@ -80,4 +80,4 @@ piece b (x ∷ xs) = piece (byte b x) xs
 -- "The result is the number of newlines in the piece"
 unfoldable pub newlines : Text → ℕ
 newlines [] = 0
-newlines (x ∷ xs) = let more = newlines xs in if eqb x 10 then Prim.Native.Nat.suc more else more
+newlines (x ∷ xs) = let more = newlines xs in if eqb x 10 then Prim.Native.Nat.suc more otherwise more

@@ -1,7 +1,7 @@
 -- How the code reads a name: as a number. Nothing of 01 is defined here: see Header.antt.
 use Rattle.std.specs.Prelude.{◌≡◌, Bool, ◌&&◌, ◌||◌, [], ◌∷◌, ℕ, ◌+◌, ◌-◌, ◌*◌, ◌%◌, ◌^◌, eqb, length, drop}
 use Prim.Native.Char.{code as code_in}
-use Rattle.registers.specs.Text.{Text, if◌then◌else◌, bytes, letter, digit, word_byte, every, empty, same, first, start}
+use Rattle.registers.specs.Text.{Text, if◌then◌otherwise◌, bytes, letter, digit, word_byte, every, empty, same, first, start}
 use Rattle.interpreter.specs.Header.{stem, suffix}
 use Rattle.interpreter.specs.declared.name.Name.{Name}
 
@@ -15,7 +15,7 @@ abbrev pub code_count : ℕ
 code_count = 32
 
 unfoldable pub code_of : ℕ → ℕ
-code_of b = if letter b then b % code_count else (if eqb b (code_in "_") then code_count - 1 else 0)
+code_of b = if letter b then b % code_count otherwise (if eqb b (code_in "_") then code_count - 1 otherwise 0)
 
 -- a number with one code more, in 60 bits: what doesn't fit is shifted out
 unfoldable pub with_code : ℕ → ℕ → ℕ
@@ -34,13 +34,13 @@ word_key (b ∷ bs) = with_code (key_from 0 bs) (code_of b)
 unfoldable pub class_of : Text → ℕ
 class_of t =
     if empty t then 0
-    else (if same t (bytes "1") then 1 else (if same t (bytes "2") then 2 else (if every digit t then 3 else 4)))
+    otherwise (if same t (bytes "1") then 1 otherwise (if same t (bytes "2") then 2 otherwise (if every digit t then 3 otherwise 4)))
 
 -- the same by its first byte, how many it has, and whether all are digits
 unfoldable pub class_by : ℕ → ℕ → Bool → ℕ
 class_by x n digits =
     if eqb n 0 then 0
-    else (if eqb n 1 && eqb x (code_in "1") then 1 else (if eqb n 1 && eqb x (code_in "2") then 2 else (if digits then 3 else 4)))
+    otherwise (if eqb n 1 && eqb x (code_in "1") then 1 otherwise (if eqb n 1 && eqb x (code_in "2") then 2 otherwise (if digits then 3 otherwise 4)))
 
 -- where a suffix stands in a name's number, and the first number of what is no numeric suffix
 abbrev pub suffix_place : ℕ
@@ -55,7 +55,7 @@ key_of t = word_key (stem t) + class_of (suffix t) * suffix_place
 
 -- the name that a text starts with, empty where it starts with none: "a letter and then letters, digits or underscores"
 unfoldable pub name_in : Text → Text
-name_in t = if letter (first t) then start word_byte t else []
+name_in t = if letter (first t) then start word_byte t otherwise []
 
 -- ---- what each function finds
 

@@ -3,7 +3,7 @@ use Rattle.std.specs.Prelude.{Bool, true, false, not, ◌&&◌, ◌||◌, List, 
 use Prim.Native.Char.{code}
 use Prim.Native.String.{String}
 use Rattle.std.specs.Int.Signed.{le_z}
-use Rattle.registers.specs.Text.{Text, if◌then◌else◌, letter, digit, word_byte, every, empty, first}
+use Rattle.registers.specs.Text.{Text, if◌then◌otherwise◌, letter, digit, word_byte, every, empty, first}
 use Rattle.registers.specs.Check.{Checked, refused, passed, ◌>>=◌, ◌>>◌, check}
 use Rattle.registers.specs.Words.{matches}
 use Rattle.registers.specs.Number.{number as read_number, sign, point}
@@ -29,7 +29,7 @@ use Rattle.interpreter.specs.declared.deed.Saving as savings
 
 -- check 2: "commas part the parameters"; none where nothing follows the header
 unfoldable pub parameters : Text → List Text
-parameters t = if empty t then [] else map trim (cut_open (code ",") 0 t)
+parameters t = if empty t then [] otherwise map trim (cut_open (code ",") 0 t)
 
 -- no "empty parameter"
 abbrev pub none_empty : List Text → Bool
@@ -49,18 +49,18 @@ asks_limits (words ws) = 0
 asks_limits (number k low high) = 1
 
 unfoldable pub least : Role → Bool → ℕ
-least (setting i) asked = if asked then 0 else 1
-least (register r) asked = if asked then 0 else 1
-least label asked = if asked then 0 else 1
+least (setting i) asked = if asked then 0 otherwise 1
+least (register r) asked = if asked then 0 otherwise 1
+least label asked = if asked then 0 otherwise 1
 least (Only d) asked = 0
-least (saving x) asked = if asked then 0 else 1
+least (saving x) asked = if asked then 0 otherwise 1
 
 unfoldable pub greatest : Role → Bool → ℕ
-greatest (setting i) asked = if asked then asks_limits (kind_of i) else 1
-greatest (register r) asked = if asked then 0 else 1
-greatest label asked = if asked then 0 else 1
+greatest (setting i) asked = if asked then asks_limits (kind_of i) otherwise 1
+greatest (register r) asked = if asked then 0 otherwise 1
+greatest label asked = if asked then 0 otherwise 1
 greatest (Only d) asked = 0
-greatest (saving x) asked = if asked then 0 else 1
+greatest (saving x) asked = if asked then 0 otherwise 1
 
 -- ---- checks 5 and 6
 
@@ -72,7 +72,7 @@ pub data Given : Type 0 where
 -- a word of the row, by its place in the row's list: "-141 if it .. isn't a word of that row"
 unfoldable pub find_word : ℕ → List String → Text → Checked Given
 find_word i [] t = refused 141
-find_word i (w ∷ ws) t = if matches w t then passed (Word i) else find_word (suc i) ws t
+find_word i (w ∷ ws) t = if matches w t then passed (Word i) otherwise find_word (suc i) ws t
 
 -- "a word; -141 if it has other bytes than letters, digits, underscore, or isn't a word of that row"
 unfoldable pub read_word : List String → Text → Checked Given
@@ -87,7 +87,7 @@ read_figure q t = read_number q t >>= λ d. passed (Figure d)
 unfoldable pub parameter : List String → Bool → Quantity → Text → Checked Given
 parameter ws numbers q t =
     if letter (first t) then read_word ws t
-    else (if digit (first t) || sign (first t) || point (first t) then (check 104 numbers >> read_figure q t) else refused 104)
+    otherwise (if digit (first t) || sign (first t) || point (first t) then (check 104 numbers >> read_figure q t) otherwise refused 104)
 
 -- "Number rows also take MINimum and MAXimum, in the query too"
 abbrev pub limit_words : List String
@@ -116,7 +116,7 @@ limit_at s i (suc n) = highest s i
 -- fourth line, was refused by check 5
 unfoldable pub value_given : Settings → ℕ → Kind → Given → ℤ
 value_given s i bool (Word n) = pos n
-value_given s i bool (Figure d) = if switched_on d then pos 1 else pos 0
+value_given s i bool (Figure d) = if switched_on d then pos 1 otherwise pos 0
 value_given s i (words ws) (Word n) = pos n
 value_given s i (words ws) (Figure d) = pos 0
 value_given s i (number k low high) (Word n) = limit_at s i n
@@ -175,7 +175,7 @@ unfoldable pub label_deed : Text → Checked Deed
 label_deed t =
     if is_quote (first t)
     then (check 151 (is_string t) >> check 150 (every may_stand (text_in t)) >> check 223 (leb (length (text_in t)) most_text) >> passed (Change labelled))
-    else refused 104
+    otherwise refused 104
 
 -- checks 5 to 7; a parameter is there where check 4 asked for one
 unfoldable pub deed_of : Settings → Role → Bool → List Text → Checked Deed

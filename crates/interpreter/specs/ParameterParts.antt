@@ -1,7 +1,7 @@
 -- What the parameter reader's own functions say. Nothing of 01 is defined here: see Parameter.antt.
 use Rattle.std.specs.Prelude.{◌≡◌, Bool, true, false, List, [], ◌∷◌, ℕ, ◌+◌, ◌≤◌, length, ℤ}
 use Prim.Native.String.{String}
-use Rattle.registers.specs.Text.{Text, if◌then◌else◌, empty}
+use Rattle.registers.specs.Text.{Text, if◌then◌otherwise◌, empty}
 use Rattle.registers.specs.Check.{Checked, refused, passed, ◌>>◌, check}
 use Rattle.registers.specs.Error.{number_of}
 use Rattle.registers.specs.Settings.{within, accepted}
@@ -48,7 +48,7 @@ pub record TakesOf (ws : List String) (also : Bool) (q : Quantity) (r : Takes) :
 
 -- a value, where it is within the limits, and what was rounded off
 unfoldable pub fit_in : Settings → ℕ → ℤ → Fit
-fit_in s i v = if within s i v then Within v else Outside
+fit_in s i v = if within s i v then Within v otherwise Outside
 
 abbrev pub rounded_to : Settings → ℕ → ℤ → Side → Rounded
 rounded_to s i v x = record { fit = fit_in s i v; side = x }
@@ -61,7 +61,7 @@ put_fit s i false (Within v) x = check 222 (accepted s x) >> passed (Change (Put
 
 -- the parameters of a text that has none, or one
 abbrev pub parts_of : Text → List Text
-parts_of t = if empty t then [] else t ∷ []
+parts_of t = if empty t then [] otherwise t ∷ []
 
 -- checks 5 to 7 on a register
 unfoldable pub register_to : Register → Bool → Text → Checked Deed

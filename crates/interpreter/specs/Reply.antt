@@ -1,7 +1,7 @@
 -- What a query answers, and check 9: the answer stands after those of the line's earlier units, if there is room for it.
 use Rattle.std.specs.Prelude.{Bool, not, ◌∷◌, ◌++◌, ltb, length}
 use Prim.Native.Char.{code}
-use Rattle.registers.specs.Text.{Text, if◌then◌else◌, bytes, empty, first}
+use Rattle.registers.specs.Text.{Text, if◌then◌otherwise◌, bytes, empty, first}
 use Rattle.registers.specs.Check.{Checked, passed, ◌>>◌, check}
 use Rattle.registers.specs.Answer.{decimal}
 use Rattle.registers.specs.Error.{error_text}
@@ -46,7 +46,7 @@ inquiry_reply q b = inquiry_text q b.core.registers b.trouble (not (empty b.core
 
 -- "Answers of one line are joined by `;`"
 unfoldable pub joined : Text → Text → Text
-joined a t = if empty a then t else a ++ code ";" ∷ t
+joined a t = if empty a then t otherwise a ++ code ";" ∷ t
 
 -- -430 where "the answer with its separator and the final newline would pass 1,024 bytes", by 02 (#106) 4,096
 unfoldable pub fits_answer : Text → Text → Bool

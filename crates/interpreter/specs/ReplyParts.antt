@@ -1,6 +1,6 @@
 -- What the functions that answer a deed say. Nothing of 01 is defined here: see Reply.antt.
 use Rattle.std.specs.Prelude.{◌≡◌, Bool, true, false, [], ℕ, ◌≤◌, ◌<◌, length, take, ℤ}
-use Rattle.registers.specs.Text.{Text, if◌then◌else◌}
+use Rattle.registers.specs.Text.{Text, if◌then◌otherwise◌}
 use Rattle.registers.specs.Words.{short_form}
 use Rattle.registers.specs.Check.{refused, passed}
 use Rattle.registers.specs.Answer.{decimal, tenths, signed_text}
@@ -76,7 +76,7 @@ ReplyTo (Saving x n) p answers r = r ≡ Nothing
 
 -- the answers so far with a reply after them
 unfoldable pub answered_with : Text → Reply → Text → Text
-answered_with label r a = if said r then joined a (text_of label r) else a
+answered_with label r a = if said r then joined a (text_of label r) otherwise a
 
 -- check 9 on a reply after the answers that stand in out: they end at r then, and r is the end of out if it leaves no room
 pub record GivenTo (label : Text) (reply : Reply) (answered : ℕ) (out : Text) (r : ℕ) (out' : Text) : Type 0 where

@@ -1,7 +1,7 @@
 -- The seventeen settings and "Registers and queue": every header that the box knows, with what it is for; and check 3.
 use Rattle.std.specs.Prelude.{Bool, true, false, ◌&&◌, ◌||◌, List, [], ◌∷◌, ◌++◌, ℕ, suc, ◌+◌, ◌-◌, ltb}
 use Prim.Native.String.{String}
-use Rattle.registers.specs.Text.{Text, if◌then◌else◌, bytes, same, empty, same_bool}
+use Rattle.registers.specs.Text.{Text, if◌then◌otherwise◌, bytes, same, empty, same_bool}
 use Rattle.registers.specs.Check.{Checked, refused, passed, ◌>>=◌}
 use Rattle.registers.specs.Words.{Node, must, may}
 use Rattle.registers.specs.Settings.{Setting, table, table_count}
@@ -90,7 +90,7 @@ fits_row star names asked r = same_bool star r.star && (has_form asked r.role &&
 -- check 3: "-113 is raised exactly when no row .. spells the header"
 unfoldable pub find_row : Bool → List Text → Bool → List Row → Checked Role
 find_row star names asked [] = refused 113
-find_row star names asked (r ∷ rs) = if fits_row star names asked r then passed r.role else find_row star names asked rs
+find_row star names asked (r ∷ rs) = if fits_row star names asked r then passed r.role otherwise find_row star names asked rs
 
 -- ---- the channel (02, #111): "The thirteen rows of that kind exist per channel; monitor mode (a suffix 2 there is -114) .. stay single"
 
@@ -105,7 +105,7 @@ brightness = 14
 unfoldable pub second_of : ℕ → Checked ℕ
 second_of i =
     if ltb i monitor then passed (i + table_count)
-    else (if ltb monitor i && ltb i brightness then passed (i + (table_count - 1)) else refused 114)
+    otherwise (if ltb monitor i && ltb i brightness then passed (i + (table_count - 1)) otherwise refused 114)
 
 abbrev pub on_second : Role → Checked Role
 on_second (setting i) = second_of i >>= λ j. passed (setting j)
@@ -116,7 +116,7 @@ on_second label = refused 114
 
 -- "a numeric suffix 1 or 2 .., none meaning 1"; "other suffixes there give -114"
 unfoldable pub on_channel : Text → Role → Checked Role
-on_channel t r = if empty t || same t (bytes "1") then passed r else (if same t (bytes "2") then on_second r else refused 114)
+on_channel t r = if empty t || same t (bytes "1") then passed r otherwise (if same t (bytes "2") then on_second r otherwise refused 114)
 
 -- check 3: the row, "-113", and then the channel, "-114 in check 3, if the header without them spells a row"
 unfoldable pub find_role : Bool → List Text → Bool → Checked Role

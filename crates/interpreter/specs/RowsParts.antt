@@ -2,7 +2,7 @@
 use Rattle.std.specs.Prelude.{◌≡◌, Bool, true, false, not, ◌&&◌, ◌||◌, List, [], ◌∷◌, ℕ, ◌+◌, ◌*◌, ◌/◌, ◌%◌, ◌≤◌, ◌<◌, ltb, eqb, length, get_or, drop}
 use Prim.Native.String.{String}
 use Rattle.std.specs.Int.Bits.{bit_and}
-use Rattle.registers.specs.Text.{Text, if◌then◌else◌, empty, same_bool}
+use Rattle.registers.specs.Text.{Text, if◌then◌otherwise◌, empty, same_bool}
 use Rattle.registers.specs.Words.{Node, must, may, short_form, long_form}
 use Rattle.interpreter.specs.Header.{numbered}
 use Rattle.interpreter.specs.NameParts.{word_key, suffix_place, no_number}
@@ -21,7 +21,7 @@ row_of star names asked = first_fit (fits_row star names asked) rows
 
 -- what is compared of a name's number: all of it, or without a numeric suffix where the word takes one
 unfoldable pub shown_key : Bool → ℕ → ℕ
-shown_key takes k = if takes && ltb k no_number then k % suffix_place else k
+shown_key takes k = if takes && ltb k no_number then k % suffix_place otherwise k
 
 unfoldable pub key_matches : String → ℕ → Bool
 key_matches w k = eqb (shown_key (numbered w) k) (word_key (short_form w)) || eqb (shown_key (numbered w) k) (word_key (long_form w))
@@ -29,16 +29,16 @@ key_matches w k = eqb (shown_key (numbered w) k) (word_key (short_form w)) || eq
 -- the suffix of the first name that has one
 unfoldable pub class_in : List ℕ → ℕ
 class_in [] = 0
-class_in (k ∷ keys) = if eqb (k / suffix_place) 0 then class_in keys else k / suffix_place
+class_in (k ∷ keys) = if eqb (k / suffix_place) 0 then class_in keys otherwise k / suffix_place
 
 -- ---- the greedy walk over a row's nodes: a node that matches is taken, an optional one that doesn't is left out
 
 unfoldable pub greedy : List Node → List ℕ → Bool
 greedy [] keys = empty keys
 greedy (must w ∷ nodes) [] = false
-greedy (must w ∷ nodes) (k ∷ keys) = if key_matches w k then greedy nodes keys else false
+greedy (must w ∷ nodes) (k ∷ keys) = if key_matches w k then greedy nodes keys otherwise false
 greedy (may w ∷ nodes) [] = greedy nodes []
-greedy (may w ∷ nodes) (k ∷ keys) = if key_matches w k then greedy nodes keys else greedy nodes (k ∷ keys)
+greedy (may w ∷ nodes) (k ∷ keys) = if key_matches w k then greedy nodes keys otherwise greedy nodes (k ∷ keys)
 
 unfoldable pub fits_keys : Bool → List ℕ → Bool → Row → Bool
 fits_keys star keys asked r = same_bool star r.star && (has_form asked r.role && greedy r.nodes keys)
@@ -69,14 +69,14 @@ pub record QuadRead (t : Text) (at r : ℕ) : Type 0 where
 
 -- the number of a word's short form, or its long one
 unfoldable pub key_cell : ℕ → ℕ → ℕ
-key_cell w i = word_key (if eqb i 0 then short_form (node_at w) else long_form (node_at w))
+key_cell w i = word_key (if eqb i 0 then short_form (node_at w) otherwise long_form (node_at w))
 
 -- a node's byte: its word, and whether the node may be left out
 unfoldable pub word_in : ℕ → ℕ
 word_in x = x % optional
 
 unfoldable pub node_of : ℕ → Node
-node_of x = if ltb x optional then must (node_at (word_in x)) else may (node_at (word_in x))
+node_of x = if ltb x optional then must (node_at (word_in x)) otherwise may (node_at (word_in x))
 
 -- one node is taken at a place of the names' numbers, or left out, or it is missed
 abbrev pub Walked : Node → List ℕ → ℕ → Walk → Type 0
@@ -89,7 +89,7 @@ pub record Marked (star : Bool) (keys : List ℕ) (r : ℕ) : Type 0 where
 
 -- a node that no name spells
 unfoldable pub left_out : ℕ → ℕ → Walk
-left_out node at = if ltb node optional then Missed else To at
+left_out node at = if ltb node optional then Missed otherwise To at
 
 -- a header's form as a bit, and whether a row has it
 unfoldable pub form_bit : Bool → Bool → ℕ

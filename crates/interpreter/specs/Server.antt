@@ -1,6 +1,6 @@
 -- A chunk served for a program, in the words of the events: each line is received, and an answer that then waits is taken.
 use Rattle.std.specs.Prelude.{◌≡◌, true, false, List, [], ◌∷◌, ◌++◌, ℕ, ◌+◌, ◌≤◌, eqb, leb, length, take, drop}
-use Rattle.registers.specs.Text.{Text, if◌then◌else◌, empty}
+use Rattle.registers.specs.Text.{Text, if◌then◌otherwise◌, empty}
 use Rattle.interpreter.specs.Cuts.{join_first}
 use Rattle.interpreter.specs.Box.{Memory, right_size, Box, answer_is, most_answer}
 use Rattle.interpreter.specs.Events.{Event, Happened, happens, received, take as takes}
@@ -10,7 +10,7 @@ use Rattle.interpreter.specs.declared.state.State.{State}
 -- the bytes cut after every newline
 unfoldable pub lines_of : Text → List Text
 lines_of [] = []
-lines_of (x ∷ xs) = if eqb x 10 then (x ∷ []) ∷ lines_of xs else join_first x (lines_of xs)
+lines_of (x ∷ xs) = if eqb x 10 then (x ∷ []) ∷ lines_of xs otherwise join_first x (lines_of xs)
 
 -- how far it got: the box, the bytes read, the answers, and the output's bytes after them
 pub record Service : Type 0 where
@@ -32,12 +32,12 @@ unfoldable pub served_line : Service → Text → Service
 served_line s line =
     let b = (happens s.box (received line)).box in
     if empty b.core.answer then service b (s.read + length line) s.answers s.rest
-    else took_after (s.read + length line) s.answers (happens b (takes s.rest))
+    otherwise took_after (s.read + length line) s.answers (happens b (takes s.rest))
 
 -- while there is room for one answer more
 unfoldable pub serves : Service → List Text → Service
 serves s [] = s
-serves s (line ∷ more) = if leb most_answer (length s.rest) then serves (served_line s line) more else s
+serves s (line ∷ more) = if leb most_answer (length s.rest) then serves (served_line s line) more otherwise s
 
 -- lines heard one after the other, whatever the room: each is received, and an answer that then waits is taken and gone. Calls
 -- that serve a chunk, and then what was left of it, lead to this
@@ -61,7 +61,7 @@ WholeLines n t = lines_of t ≡ lines_of (take n t) ++ lines_of (drop n t)
 
 -- further events, after a take into the lent bytes if an answer waits
 abbrev pub taking_first : Box → Text → List Event → List Event
-taking_first b room es = if empty b.core.answer then es else takes room ∷ es
+taking_first b room es = if empty b.core.answer then es otherwise takes room ∷ es
 
 -- those of a chunk: each line is received, and an answer that then waits is taken into the rest of the output
 unfoldable pub events_of : Service → List Text → List Event
@@ -69,7 +69,7 @@ events_of s [] = []
 events_of s (line ∷ more) =
     if leb most_answer (length s.rest)
     then received line ∷ taking_first (happens s.box (received line)).box s.rest (events_of (served_line s line) more)
-    else []
+    otherwise []
 
 -- those of lines heard, with the same bytes lent to every take
 unfoldable pub hearing : Text → Box → List Text → List Event

@@ -3,7 +3,7 @@
 -- Account.antt). A condition, a look and the bytes of a line that is under way run no unit and raise nothing, so they are no
 -- steps; nor are an event that is lent a store of the wrong length, and what the caller does to the store (#108).
 use Rattle.std.specs.Prelude.{◌≡◌, Bool, true, List, [], ◌∷◌, ◌++◌, ℕ, eqb}
-use Rattle.registers.specs.Text.{Text, if◌then◌else◌, empty}
+use Rattle.registers.specs.Text.{Text, if◌then◌otherwise◌, empty}
 use Rattle.registers.specs.Check.{Checked, refused, passed}
 use Rattle.interpreter.specs.Box.{Memory, Box}
 use Rattle.interpreter.specs.Line.{Obeyed, attempt, units_of, at_newline, byte}
@@ -40,19 +40,19 @@ unit_steps [] path b = []
 unit_steps (u ∷ us) path b = tries path b u ∷ steps_next (λ p c. unit_steps us p c) (attempt path b u)
 
 unfoldable pub line_steps : Text → Bool → Box → List Step
-line_steps line overlong b = if overlong then overruns b ∷ [] else unit_steps (units_of line) [] b
+line_steps line overlong b = if overlong then overruns b ∷ [] otherwise unit_steps (units_of line) [] b
 
 -- of the line that waits, at its newline
 abbrev pub own_steps : Box → List Step
 own_steps b = line_steps b.core.line b.core.overlong (at_newline b)
 
 unfoldable pub end_steps : Box → List Step
-end_steps b = (if empty b.core.answer then [] else discards b ∷ []) ++ own_steps b
+end_steps b = (if empty b.core.answer then [] otherwise discards b ∷ []) ++ own_steps b
 
 -- ---- histories
 
 unfoldable pub byte_steps : Box → ℕ → List Step
-byte_steps b x = if eqb x 10 then end_steps b else []
+byte_steps b x = if eqb x 10 then end_steps b otherwise []
 
 unfoldable pub piece_steps : Box → Text → List Step
 piece_steps b [] = []
@@ -61,7 +61,7 @@ piece_steps b (x ∷ xs) = byte_steps b x ++ piece_steps (byte b x) xs
 unfoldable pub event_steps : Box → Event → List Step
 event_steps b started = powers_up b ∷ []
 event_steps b (received xs) = piece_steps b xs
-event_steps b (take buffer) = if empty b.core.answer then finds_none b ∷ [] else []
+event_steps b (take buffer) = if empty b.core.answer then finds_none b ∷ [] otherwise []
 event_steps b (condition x n) = []
 event_steps b look = []
 event_steps b (altered i x) = []

@@ -2,7 +2,7 @@
 use Rattle.std.specs.Prelude.{Bool, true, false, ◌||◌, List, [], ◌∷◌, ◌++◌, map, ℕ, zero, suc, ◌+◌, ◌-◌, ◌*◌, ◌/◌, ◌%◌, eqb, length, get_or, replicate}
 use Prim.Native.String.{String}
 use mir.Val.{bool_byte}
-use Rattle.registers.specs.Text.{Text, if◌then◌else◌, bytes, first}
+use Rattle.registers.specs.Text.{Text, if◌then◌otherwise◌, bytes, first}
 use Rattle.registers.specs.Words.{Node, must, may, short_form, long_form}
 use Rattle.interpreter.specs.NameParts.{code_count, code_of, word_key}
 use Rattle.interpreter.specs.WordsParts.{word_bytes, word_table, place_in}
@@ -84,7 +84,7 @@ or_zero false n = 0
 unfoldable pub form_byte : Row → ℕ
 form_byte r =
     if r.star then or_zero (has_form false r.role) 4 + or_zero (has_form true r.role) 8
-    else or_zero (has_form false r.role) 1 + or_zero (has_form true r.role) 2
+    otherwise or_zero (has_form false r.role) 1 + or_zero (has_form true r.role) 2
 
 -- a row: its forms, how many nodes, the nodes, and zeros
 unfoldable pub row_row : Row → Text
@@ -151,7 +151,7 @@ can_mark x m (may w ∷ nodes) = can_mark x m nodes || can_mark x (with_letter m
 -- the first of some rows that passes a test; their number where none does
 unfoldable pub first_fit : (Row → Bool) → List Row → ℕ
 first_fit p [] = 0
-first_fit p (r ∷ rs) = if p r then 0 else suc (first_fit p rs)
+first_fit p (r ∷ rs) = if p r then 0 otherwise suc (first_fit p rs)
 
 -- the first row whose names can have it; the number of rows where none's can
 unfoldable pub start_of : ℕ → ℕ

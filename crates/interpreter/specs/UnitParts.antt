@@ -1,6 +1,6 @@
 -- What the unit reader's own functions say. Nothing of 01 is defined here: see Unit.antt.
 use Rattle.std.specs.Prelude.{◌≡◌, Bool, true, List, ℕ, ◌-◌, ◌≤◌, ◌<◌, leb, ltb, eqb, length, take, drop}
-use Rattle.registers.specs.Text.{Text, if◌then◌else◌, every}
+use Rattle.registers.specs.Text.{Text, if◌then◌otherwise◌, every}
 use Rattle.registers.specs.Check.{Checked, refused, passed, ◌>>=◌, ◌>>◌, check}
 use Rattle.registers.specs.Error.{number_of}
 use Rattle.registers.specs.Settings.{count, within, accepted}
@@ -26,7 +26,7 @@ use Rattle.interpreter.specs.declared.parameter.Decision.TheVariants.{Refused, O
 
 -- the role of the place that a search found, if it found one
 unfoldable pub role_found : ℕ → Checked Role
-role_found place = if ltb place place_count then passed (role_at place) else refused (if eqb place nowhere then 113 else 114)
+role_found place = if ltb place place_count then passed (role_at place) otherwise refused (if eqb place nowhere then 113 otherwise 114)
 
 -- the checks after the header
 unfoldable pub decided : Settings → ℕ → Bool → Text → Checked Deed
@@ -43,7 +43,7 @@ decided_text s row asked t = check 101 (every allowed t) >> decided s row asked 
 
 -- checks 1 and 2 on a unit that starts with no header
 unfoldable pub header_refusal : Text → ℕ
-header_refusal u = if every allowed u then 102 else 101
+header_refusal u = if every allowed u then 102 otherwise 101
 
 -- the part of a text between two places
 abbrev pub part_of : ℕ → ℕ → Text → Text

@@ -2,7 +2,7 @@
 -- Nothing of 01 is defined here: see Parameter.antt.
 use Rattle.std.specs.Prelude.{◌≡◌, Bool, ◌||◌, List, [], ◌∷◌, ◌++◌, map, ℕ, suc, ◌+◌, ◌-◌, ◌*◌, ◌≤◌, leb, eqb, length, get_or, take, drop, replicate}
 use Prim.Native.String.{String}
-use Rattle.registers.specs.Text.{Text, if◌then◌else◌, bytes, same, capital}
+use Rattle.registers.specs.Text.{Text, if◌then◌otherwise◌, bytes, same, capital}
 use Rattle.registers.specs.Words.{short_form, long_form}
 use Rattle.registers.specs.Settings.{Setting, slots}
 use Rattle.interpreter.specs.Parameter.{words_of}
@@ -28,7 +28,7 @@ word_at i = get_or word_list i ""
 -- a word's place in the list
 unfoldable pub place_in : List String → String → ℕ
 place_in [] w = 0
-place_in (v ∷ vs) w = let more = suc (place_in vs w) in if same (bytes v) (bytes w) then 0 else more
+place_in (v ∷ vs) w = let more = suc (place_in vs w) in if same (bytes v) (bytes w) then 0 otherwise more
 
 -- a word: the lengths of its short and its long form, its letters, and zeros
 unfoldable pub word_row : String → Text
@@ -61,7 +61,7 @@ short_table = short_table_of word_list
 unfoldable pub agreed : Text → Text → ℕ
 agreed [] letters = 0
 agreed (b ∷ bs) [] = 0
-agreed (b ∷ bs) (x ∷ xs) = let more = suc (agreed bs xs) in if eqb (capital b) x then more else 0
+agreed (b ∷ bs) (x ∷ xs) = let more = suc (agreed bs xs) in if eqb (capital b) x then more otherwise 0
 
 unfoldable pub word_cell : ℕ → ℕ → ℕ
 word_cell w i = get_or word_table (w * word_size + i) 0

@@ -2,7 +2,7 @@
 -- player's own.
 use Rattle.std.specs.Prelude.{◌≡◌, ℕ, ◌+◌, ◌-◌, ◌*◌, ◌<◌, ◌≤◌, min, [], ◌∷◌}
 use Prim.Native.Char.{code}
-use Rattle.registers.specs.Text.{Text, if◌then◌else◌, digit, every}
+use Rattle.registers.specs.Text.{Text, if◌then◌otherwise◌, digit, every}
 use Rattle.registers.specs.Number.{numeral_from}
 
 -- what stands for no hex digit: more than the value of any
@@ -34,7 +34,7 @@ with_digit n b = min unreadable (n * 10 + (b - zero_digit))
 
 -- the number that digits make after the number n, held at the bound; the bound where a byte is no digit
 unfoldable pub decimal_from : ℕ → Text → ℕ
-decimal_from n t = if every digit t then min unreadable (numeral_from n t) else unreadable
+decimal_from n t = if every digit t then min unreadable (numeral_from n t) otherwise unreadable
 
 -- the number that a text of digits spells; the bound for any other text
 unfoldable pub decimal_in : Text → ℕ

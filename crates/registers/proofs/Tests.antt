@@ -11,7 +11,7 @@ use lib.Dec.{T, leb, ltb, eqb}
 use lib.IntN.{ℤ, pos, negsuc}
 use lib.Signed.{le_z, lt_z}
 use borrow.Author.Tests.{eqb-true, eqb-false, leb-true, leb-false, le-leb, ne_eqb, lt-ltb, le-ltb}
-use Rattle.registers.specs.Text.{if◌then◌else◌, every, below, empty, rest}
+use Rattle.registers.specs.Text.{if◌then◌otherwise◌, every, below, empty, rest}
 
 -- a test that holds, as a fact and as an equation
 pub holds : {b : Bool} → b ≡ true → T b
@@ -107,8 +107,8 @@ lt_not a b = go (leb b a) refl
     go false e = lt-ltb a b (leb-false b a e)
 
 -- both branches are the same
-pub if-same : {A : Type 0} (t : Bool) (x y : A) → x ≡ y → (if t then x else y) ≡ y
-unfolding if◌then◌else◌
+pub if-same : {A : Type 0} (t : Bool) (x y : A) → x ≡ y → (if t then x otherwise y) ≡ y
+unfolding if◌then◌otherwise◌
 if-same true x y e = e
 if-same false x y e = refl
 

@@ -2,7 +2,7 @@
 -- answers are decimal". And how a text stands in a lent tail.
 use Rattle.std.specs.Prelude.{◌≡◌, [], ◌∷◌, ◌++◌, ℕ, zero, suc, ◌+◌, ◌/◌, ◌%◌, ltb, length, ℤ, pos, negsuc}
 use Prim.Native.Char.{code}
-use Rattle.registers.specs.Text.{Text, if◌then◌else◌}
+use Rattle.registers.specs.Text.{Text, if◌then◌otherwise◌}
 
 -- ---- numbers in decimal
 
@@ -11,7 +11,7 @@ unfoldable pub in_places : ℕ → ℕ → Text
 in_places zero n = []
 in_places (suc p) n =
     let more = in_places p (n / 10) ++ (code "0" + n % 10) ∷ [] in
-    if ltb n 10 then (code "0" + n) ∷ [] else more
+    if ltb n 10 then (code "0" + n) ∷ [] otherwise more
 
 -- twenty places hold every number of 64 bits
 abbrev pub most_places : ℕ

@@ -3,7 +3,7 @@
 use Rattle.std.specs.Prelude.{List, [], ◌∷◌, ◌++◌, ℕ, ◌^◌, ltb, eqb}
 use Prim.Native.Char.{code}
 use Prim.Native.String.{String}
-use Rattle.registers.specs.Text.{Text, if◌then◌else◌, bytes}
+use Rattle.registers.specs.Text.{Text, if◌then◌otherwise◌, bytes}
 use Rattle.registers.specs.Answer.{decimal}
 use Rattle.registers.specs.declared.error.Error.{Error}
 use Rattle.registers.specs.declared.error.Error.TheVariants.{InvalidCharacter, Syntax, DataType, ParameterNotAllowed, MissingParameter, UndefinedHeader, HeaderSuffix, InvalidCharacterInNumber, ExponentTooLarge, TooManyDigits, InvalidSuffix, SuffixNotAllowed, InvalidCharacterData, StringDataError, InvalidStringData, SettingsConflict, DataOutOfRange, TooMuchData, SaveRecallMemoryLost, InputBufferOverrun, QueryInterrupted, QueryUnterminated, QueryDeadlocked}
@@ -40,7 +40,7 @@ overflow = 350
 
 -- "A raised error sets one event bit by its hundreds: -1xx bit 5, -2xx bit 4, -3xx bit 3, -4xx bit 2"
 unfoldable pub event_bit : ℕ → ℕ
-event_bit n = if ltb n 200 then 2 ^ 5 else (if ltb n 300 then 2 ^ 4 else (if ltb n 400 then 2 ^ 3 else 2 ^ 2))
+event_bit n = if ltb n 200 then 2 ^ 5 otherwise (if ltb n 300 then 2 ^ 4 otherwise (if ltb n 400 then 2 ^ 3 otherwise 2 ^ 2))
 
 -- the texts of SCPI-99
 abbrev pub messages : List (ℕ × String)
@@ -75,9 +75,9 @@ messages =
 -- the text of a number; none for a number that has none
 unfoldable pub message_in : List (ℕ × String) → ℕ → String
 message_in [] n = ""
-message_in (m ∷ ms) n = if eqb m.0 n then m.1 else message_in ms n
+message_in (m ∷ ms) n = if eqb m.0 n then m.1 otherwise message_in ms n
 
 -- SYSTem:ERRor? answers `-222,"Data out of range"`, or `0,"No error"`
 unfoldable pub error_text : ℕ → Text
 error_text n =
-    (if eqb n 0 then [] else code "-" ∷ []) ++ decimal n ++ code "," ∷ code "\"" ∷ bytes (message_in messages n) ++ code "\"" ∷ []
+    (if eqb n 0 then [] otherwise code "-" ∷ []) ++ decimal n ++ code "," ∷ code "\"" ∷ bytes (message_in messages n) ++ code "\"" ∷ []

@@ -2,7 +2,7 @@
 use Rattle.std.specs.Prelude.{List, [], ◌∷◌, ◌++◌, ℕ, suc, ◌-◌, ◌/◌, ◌%◌, eqb, length, get_or, replicate}
 use Prim.Native.Char.{code}
 use Prim.Native.String.{String}
-use Rattle.registers.specs.Text.{Text, if◌then◌else◌, bytes}
+use Rattle.registers.specs.Text.{Text, if◌then◌otherwise◌, bytes}
 use Rattle.registers.specs.Error.{messages}
 
 -- what stands after a number in an answer: its text in quotes
@@ -42,4 +42,4 @@ unfoldable pub row_in : List (ℕ × String) → ℕ → ℕ
 row_in [] n = 0
 row_in (m ∷ ms) n =
     let more = suc (row_in ms n) in
-    if eqb m.0 n then 0 else more
+    if eqb m.0 n then 0 otherwise more

@@ -5,7 +5,7 @@ use Prim.Native.Char.{code}
 use Prim.Native.String.{String}
 use Rattle.std.specs.Int.Bits.{bit_or}
 use Rattle.std.specs.Int.Signed.{le_z}
-use Rattle.registers.specs.Text.{Text, if◌then◌else◌, bytes, white, digit, small, letter, capital, same_bool, every, same}
+use Rattle.registers.specs.Text.{Text, if◌then◌otherwise◌, bytes, white, digit, small, letter, capital, same_bool, every, same}
 use Rattle.registers.specs.Check.{Checked, refused, passed, ◌>>=◌, ◌>>◌, check}
 use Rattle.registers.specs.Words.{Node, must, may, short_form}
 use Rattle.registers.specs.Answer.{in_places, decimal, tenths, over}
@@ -340,7 +340,7 @@ shortest (must w ∷ nodes) = code ":" ∷ short_form w ++ shortest nodes
 
 row_in : List Setting → Text → ℕ
 row_in [] t = 0
-row_in (s ∷ ss) t = if same (shortest s.nodes) t then 0 else suc (row_in ss t)
+row_in (s ∷ ss) t = if same (shortest s.nodes) t then 0 otherwise suc (row_in ss t)
 
 row : String → ℕ
 row header = row_in table (code ":" ∷ bytes header)
@@ -407,7 +407,7 @@ holds (possible s on) = same_bool (possible_status s) on
 
 all_hold : T (every holds examples)
 unfolding examples passes fails same_fit same_side fit steps_of shortest row_in row given answered stored_all step steps_from holds
-    if◌then◌else◌ bytes white digit small letter capital same ◌>>=◌ ◌>>◌ check short_form in_places decimal tenths over
+    if◌then◌otherwise◌ bytes white digit small letter capital same ◌>>=◌ ◌>>◌ check short_form in_places decimal tenths over
     event_bit message_in error_text queueable may_be_queued
     after_sign fraction_of after_fraction exponent_of after_exponent lowering written numeral_from decimal_of value_of scaled suffixes no_suffix power_in remains number switched_on
     nearest size_in rounded fitted size_side side_in

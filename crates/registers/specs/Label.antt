@@ -3,7 +3,7 @@
 use Rattle.std.specs.Prelude.{◌≡◌, Bool, true, false, not, ◌&&◌, ◌||◌, [], ◌∷◌, ◌++◌, ℕ, zero, suc, eqb}
 use Prim.Native.Char.{code}
 use Rattle.std.proofs.Math.ListN as L
-use Rattle.registers.specs.Text.{Text, if◌then◌else◌, between, every, first, rest, start}
+use Rattle.registers.specs.Text.{Text, if◌then◌otherwise◌, between, every, first, rest, start}
 use Rattle.registers.specs.declared.label.Label.{Label}
 
 -- "up to 32"
@@ -36,7 +36,7 @@ undoubled q false [] = []
 undoubled q false (b ∷ bs) =
     let quote = undoubled q true bs in
     let other = undoubled q false bs in
-    if eqb b q then quote else b ∷ other
+    if eqb b q then quote otherwise b ∷ other
 
 -- a text that starts with its opening quote: whether it is one string, and what it means
 abbrev pub is_string : Text → Bool
@@ -64,7 +64,7 @@ unfoldable pub possible_text : Text → Bool
 possible_text [] = true
 possible_text (b ∷ bs) =
     let more = possible_text bs in
-    if eqb b 0 then every (λ x. eqb x 0) bs else may_stand b && more
+    if eqb b 0 then every (λ x. eqb x 0) bs otherwise may_stand b && more
 
 -- ---- "its query, which always uses double quotes": none of the text's bytes is one
 

@@ -1,7 +1,7 @@
 -- Check 6: a number as it is written, its exact decimal value, scaled by its suffix, and the refusals in their order.
 use Rattle.std.specs.Prelude.{Bool, not, ◌&&◌, ◌||◌, [], ◌∷◌, ◌++◌, ℕ, ◌+◌, ◌-◌, ◌*◌, leb, eqb, length}
 use Prim.Native.Char.{code}
-use Rattle.registers.specs.Text.{Text, if◌then◌else◌, digit, white, capital, empty, first, rest, start, after}
+use Rattle.registers.specs.Text.{Text, if◌then◌otherwise◌, digit, white, capital, empty, first, rest, start, after}
 use Rattle.registers.specs.Check.{Checked, refused, passed, ◌>>=◌, ◌>>◌, check}
 use Rattle.registers.specs.Error.{number_of}
 use Rattle.registers.specs.Suffix.{remains}
@@ -22,21 +22,21 @@ point b = eqb b (code ".")
 
 -- a text without the sign that it may start with
 unfoldable pub after_sign : Text → Text
-after_sign t = if sign (first t) then rest t else t
+after_sign t = if sign (first t) then rest t otherwise t
 
 -- the digits after the point that a text starts with, and what stands after them
 unfoldable pub fraction_of : Text → Text
-fraction_of t = if point (first t) then start digit (rest t) else []
+fraction_of t = if point (first t) then start digit (rest t) otherwise []
 
 unfoldable pub after_fraction : Text → Text
-after_fraction t = if point (first t) then after digit (rest t) else t
+after_fraction t = if point (first t) then after digit (rest t) otherwise t
 
 -- the digits of the exponent that a text starts with, and what stands after it: without a digit there is no exponent
 unfoldable pub exponent_of : Text → Text
-exponent_of t = if eqb (capital (first t)) (code "E") then start digit (after_sign (rest t)) else []
+exponent_of t = if eqb (capital (first t)) (code "E") then start digit (after_sign (rest t)) otherwise []
 
 unfoldable pub after_exponent : Text → Text
-after_exponent t = if empty (exponent_of t) then t else after digit (after_sign (rest t))
+after_exponent t = if empty (exponent_of t) then t otherwise after digit (after_sign (rest t))
 
 -- an exponent is there, and its sign is a minus
 unfoldable pub lowering : Text → Bool
@@ -81,8 +81,8 @@ decimal_of minus digits places lowers exponent =
     record {
       minus = minus;
       digits = digits;
-      up = if lowers then 0 else exponent - places;
-      down = if lowers then places + exponent else places - exponent;
+      up = if lowers then 0 otherwise exponent - places;
+      down = if lowers then places + exponent otherwise places - exponent;
     }
 
 -- of a number as it is written

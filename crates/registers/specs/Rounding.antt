@@ -2,7 +2,7 @@
 -- what was rounded off: "whether the exact value was on the step, below or above it" (02, #107).
 use Rattle.std.specs.Prelude.{◌≡◌, Bool, true, false, not, ◌&&◌, ℕ, ◌+◌, ◌*◌, ◌/◌, ◌^◌, eqb, ltb, ℤ, pos, neg_ℤ, ◌*ℤ◌}
 use Rattle.std.specs.Int.Signed.{le_z, lt_z}
-use Rattle.registers.specs.Text.{if◌then◌else◌}
+use Rattle.registers.specs.Text.{if◌then◌otherwise◌}
 use Rattle.registers.specs.Check.{Checked, refused, passed, ◌>>◌, check}
 use Rattle.registers.specs.declared.number.Decimal.{Decimal}
 use Rattle.registers.specs.declared.rounding.Fit.{Fit}
@@ -40,7 +40,7 @@ fitted k low high d = check 222 (le_z low (rounded k d) && le_z (rounded k d) hi
 
 -- how the exact size num / den stands to the one that it was rounded to
 unfoldable pub size_side : ℕ → ℕ → ℕ → Side
-size_side num den r = if eqb num (r * den) then On else (if ltb num (r * den) then Below else Above)
+size_side num den r = if eqb num (r * den) then On otherwise (if ltb num (r * den) then Below otherwise Above)
 
 -- what is less in size is more in value where the sign is a minus
 abbrev pub turned : Bool → Side → Side

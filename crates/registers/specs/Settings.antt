@@ -6,7 +6,7 @@
 use Rattle.std.specs.Prelude.{◌≡◌, Bool, true, false, not, ◌&&◌, ◌||◌, List, [], ◌∷◌, ◌++◌, map, ℕ, pred, leb, eqb, length, get_or, set, ℤ, pos, negsuc, neg_ℤ}
 use Prim.Native.String.{String}
 use Rattle.std.specs.Int.Signed.{le_z, lt_z}
-use Rattle.registers.specs.Text.{Text, if◌then◌else◌, below}
+use Rattle.registers.specs.Text.{Text, if◌then◌otherwise◌, below}
 use Rattle.registers.specs.Label.{most_text, padded, held_in, possible_text}
 use Rattle.registers.specs.Answer.{decimal, tenths, signed_text}
 use Rattle.registers.specs.Words.{Node, must, may, short_form}
@@ -187,7 +187,7 @@ lowest i = lowest_of (kind_of i)
 
 -- "0.0 to 12.0 or 24.0 by range"
 unfoldable pub highest : Settings → ℕ → ℤ
-highest s i = if narrow s i then twelve_volts else highest_of (kind_of i)
+highest s i = if narrow s i then twelve_volts otherwise highest_of (kind_of i)
 
 -- check 7: "-222 outside the limits"
 unfoldable pub within : Settings → ℕ → ℤ → Bool
@@ -222,11 +222,11 @@ possible_settings s = possible_values s && possible_text s.text
 
 -- a value is stored only where checks 7 and 8 let it pass
 unfoldable pub stored : ℕ → ℤ → Settings → Settings
-stored i v s = if within s i v && not (conflict s i v) then with_value i v s else s
+stored i v s = if within s i v && not (conflict s i v) then with_value i v s otherwise s
 
 -- a text, as the record holds it, is stored only where it is within its limits
 unfoldable pub text_stored : Text → Settings → Settings
-text_stored t s = if possible_text t then record { values = s.values; text = t } else s
+text_stored t s = if possible_text t then record { values = s.values; text = t } otherwise s
 
 -- ---- "Answers: 0 or 1; plain integers; one decimal for step 0.1 ..; words in short form"
 
@@ -239,7 +239,7 @@ word_text ws (negsuc n) = []
 unfoldable pub answer_of : Kind → ℤ → Text
 answer_of bool v = signed_text decimal v
 answer_of (words ws) v = word_text ws v
-answer_of (number k low high) v = signed_text (if eqb k 10 then tenths else decimal) v
+answer_of (number k low high) v = signed_text (if eqb k 10 then tenths otherwise decimal) v
 
 -- ---- what a row's values are, by name: 01's "Values" and "Step"
 

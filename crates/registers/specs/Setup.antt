@@ -1,7 +1,7 @@
 -- 02, #108: "Saved setups". A block of the lent store holds every setting of both channels (#111), the display's text
 -- among them (#109), and its own check.
 use Rattle.std.specs.Prelude.{Bool, ◌&&◌, List, [], ◌∷◌, ◌++◌, ℕ, zero, suc, ◌+◌, ◌-◌, ◌*◌, ◌/◌, ◌%◌, eqb, leb, length, take, drop, get_or, replicate, ℤ, pos, negsuc, neg_ℤ}
-use Rattle.registers.specs.Text.{Text, if◌then◌else◌}
+use Rattle.registers.specs.Text.{Text, if◌then◌otherwise◌}
 use Rattle.registers.specs.Label.{most_text, padded}
 use Rattle.registers.specs.Settings.{count, table_count, at_reset, value_at, possible_settings}
 use Rattle.registers.specs.declared.settings.Settings.{Settings}
@@ -47,7 +47,7 @@ shifted (pos n) = n + 256
 shifted (negsuc n) = 256 - suc n
 
 unfoldable pub unshifted : ℕ → ℤ
-unshifted n = if leb 256 n then pos (n - 256) else neg_ℤ (pos (256 - n))
+unshifted n = if leb 256 n then pos (n - 256) otherwise neg_ℤ (pos (256 - n))
 
 -- what a block says of a row
 unfoldable pub value_in : Text → ℕ → ℤ
@@ -77,7 +77,7 @@ marked b = eqb (get_or b 0 0) mark_byte && eqb (get_or b 1 0) mark_byte
 
 -- what a block says: of both channels, or of channel 1 and what is single, with channel 2 as at *RST
 unfoldable pub settings_in : Text → Settings
-settings_in b = if marked b then read_in count (drop mark_size b) else read_in table_count b
+settings_in b = if marked b then read_in count (drop mark_size b) otherwise read_in table_count b
 
 -- the bytes of the first rows
 unfoldable pub bytes_of : Settings → ℕ → Text
@@ -105,7 +105,7 @@ recallable b = checks b && possible_settings (settings_in b)
 
 -- the settings that a block is read as; "a block whose check fails" says nothing, so it is read as what *RST leaves
 unfoldable pub said_in : Text → Settings
-said_in b = if checks b then settings_in b else at_reset
+said_in b = if checks b then settings_in b otherwise at_reset
 
 -- ---- the store
 

@@ -2,7 +2,7 @@
 -- register and the error queue, all that a refused unit adds to; `Registers` is what it leaves alone.
 use Rattle.std.specs.Prelude.{Bool, true, false, not, ◌&&◌, List, [], ◌∷◌, ◌++◌, map, ℕ, ◌+◌, ◌-◌, ◌^◌, leb, ltb, eqb, length, take, drop, set, get_or, replicate}
 use Rattle.std.specs.Int.Bits.{bit_and, bit_or}
-use Rattle.registers.specs.Text.{if◌then◌else◌, every, empty, rest}
+use Rattle.registers.specs.Text.{if◌then◌otherwise◌, every, empty, rest}
 use Rattle.registers.specs.Error.{event_bit, overflow}
 use Rattle.registers.specs.Queue.{may_be_queued, most, last_place}
 use Rattle.registers.specs.Group.{meet, condition_is, event_read, with_enable, with_ptr, with_ntr, possible_group, group_at_start, no_group, widest_group, group_count}
@@ -37,7 +37,7 @@ unfoldable pub raised : ℕ → Trouble → Trouble
 raised n t =
     if ltb (length t.queue) most
     then record { events = bit_or t.events (event_bit n); queue = t.queue ++ n ∷ [] }
-    else record { events = bit_or (bit_or t.events (event_bit n)) (event_bit overflow); queue = take last_place t.queue ++ overflow ∷ [] }
+    otherwise record { events = bit_or (bit_or t.events (event_bit n)) (event_bit overflow); queue = take last_place t.queue ++ overflow ∷ [] }
 
 -- what *CLS leaves
 abbrev pub no_trouble : Trouble
@@ -120,7 +120,7 @@ locked r = not (eqb (group_in Lock r).condition 0)
 
 -- a weight where its bit is 1
 abbrev pub weight_if : Bool → ℕ → ℕ
-weight_if on weight = if on then weight else 0
+weight_if on weight = if on then weight otherwise 0
 
 -- the weight of bit k where it is set
 abbrev pub bit_if : Bool → ℕ → ℕ
@@ -184,7 +184,7 @@ unfoldable pub raised_in : ℕ → Status → Status
 raised_in n s =
     if ltb s.queued most
     then with_trouble (bit_or s.events (event_bit n)) (s.queued + 1) (set s.errors s.queued n) s
-    else with_trouble (bit_or (bit_or s.events (event_bit n)) (event_bit overflow)) s.queued (set s.errors last_place overflow) s
+    otherwise with_trouble (bit_or (bit_or s.events (event_bit n)) (event_bit overflow)) s.queued (set s.errors last_place overflow) s
 
 -- "*CLS clears the event status register, the operation event register and the queue, nothing else"; by 02 (#104) "all three event
 -- registers"
@@ -198,15 +198,15 @@ events_in n s = with_trouble n s.queued s.errors s
 -- the oldest error removed, as `oldest_read` says; the numbers move up and a 0 follows them
 unfoldable pub oldest_read_in : Status → Status
 oldest_read_in s =
-    if eqb s.queued 0 then s else with_trouble s.events (s.queued - 1) (drop 1 s.errors ++ 0 ∷ []) s
+    if eqb s.queued 0 then s otherwise with_trouble s.events (s.queued - 1) (drop 1 s.errors ++ 0 ∷ []) s
 
 -- a condition is reported; refusal 3: a value "above 32,767" leaves all "unchanged"
 unfoldable pub reported_in : RegisterSet → ℕ → Status → Status
-reported_in x n s = if leb n widest_group then with_registers (set_reported x n (registers_of s)) s else s
+reported_in x n s = if leb n widest_group then with_registers (set_reported x n (registers_of s)) s otherwise s
 
 -- a register takes a value; one above its width is not stored
 unfoldable pub register_set : Register → ℕ → Status → Status
-register_set x n s = if leb n (widest x) then with_registers (stored_in x n (registers_of s)) s else s
+register_set x n s = if leb n (widest x) then with_registers (stored_in x n (registers_of s)) s otherwise s
 
 -- ---- power-up: "event status 128, enables 0 .. all else empty"
 

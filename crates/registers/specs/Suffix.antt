@@ -1,7 +1,7 @@
 -- Unit suffixes (02, #101): what may stand after a number, and the power of ten by which it multiplies the number.
 use Rattle.std.specs.Prelude.{List, [], ◌∷◌, map, ℕ}
 use Prim.Native.String.{String}
-use Rattle.registers.specs.Text.{Text, if◌then◌else◌, bytes, capital, letter, same, empty, first}
+use Rattle.registers.specs.Text.{Text, if◌then◌otherwise◌, bytes, capital, letter, same, empty, first}
 use Rattle.registers.specs.Check.{Checked, refused, passed, ◌>>◌, check}
 use Rattle.registers.specs.declared.suffix.Power.{Power}
 use Rattle.registers.specs.declared.suffix.Quantity.{Quantity}
@@ -40,8 +40,8 @@ no_suffix Second = 131
 -- a text's power of ten among some suffixes, "any letter case", or error n
 unfoldable pub power_in : ℕ → List (String × Power) → Text → Checked Power
 power_in n [] t = refused n
-power_in n (x ∷ xs) t = if same (map capital t) (bytes x.0) then passed x.1 else power_in n xs t
+power_in n (x ∷ xs) t = if same (map capital t) (bytes x.0) then passed x.1 otherwise power_in n xs t
 
 -- check 6, what remains after a number and its white space: a suffix, the whole of it; "else -121"
 unfoldable pub remains : Quantity → Text → Checked Power
-remains q t = if letter (first t) then power_in (no_suffix q) (suffixes q) t else (check 121 (empty t) >> passed one)
+remains q t = if letter (first t) then power_in (no_suffix q) (suffixes q) t otherwise (check 121 (empty t) >> passed one)

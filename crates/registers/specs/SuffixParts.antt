@@ -2,7 +2,7 @@
 use Rattle.std.specs.Prelude.{Bool, ◌&&◌, List, [], ◌∷◌, ℕ, eqb, length}
 use Prim.Native.Char.{code}
 use Prim.Native.String.{String}
-use Rattle.registers.specs.Text.{Text, if◌then◌else◌, bytes, capital, first, rest}
+use Rattle.registers.specs.Text.{Text, if◌then◌otherwise◌, bytes, capital, first, rest}
 use Rattle.registers.specs.Check.{Checked, refused, passed}
 use Rattle.registers.specs.Error.{number_of}
 use Rattle.registers.specs.Suffix.{one, milli, suffixes, no_suffix}
@@ -37,7 +37,7 @@ spelling s l = alike l (length s) (first s) (first (rest s)) (first (rest (rest 
 -- the power of ten of some letters among some suffixes, or error n
 unfoldable pub power_by : ℕ → List (String × Power) → Letters → Checked Power
 power_by n [] l = refused n
-power_by n (x ∷ xs) l = if spelling (bytes x.0) l then passed x.1 else power_by n xs l
+power_by n (x ∷ xs) l = if spelling (bytes x.0) l then passed x.1 otherwise power_by n xs l
 
 unfoldable pub scale_to : Quantity → Letters → Checked Power
 scale_to q l = power_by (no_suffix q) (suffixes q) l
@@ -45,4 +45,4 @@ scale_to q l = power_by (no_suffix q) (suffixes q) l
 unfoldable pub milli_to : ℕ → Letters → Checked Power
 milli_to unit l =
     if alike l 1 unit 0 0 then passed one
-    else (if alike l 2 (code "M") unit 0 then passed milli else refused 131)
+    otherwise (if alike l 2 (code "M") unit 0 then passed milli otherwise refused 131)

@@ -5,10 +5,10 @@ use Prim.Native.Char.{code}
 use Prim.Native.String as S
 use Prim.Native.String.{String}
 
-infix 10 if◌then◌else◌
-unfoldable pub if◌then◌else◌ {ℓ} : {A : Type ℓ} → Bool → A → A → A
-if true then x else y = x
-if false then x else y = y
+infix 10 if◌then◌otherwise◌
+unfoldable pub if◌then◌otherwise◌ {ℓ} : {A : Type ℓ} → Bool → A → A → A
+if true then x otherwise y = x
+if false then x otherwise y = y
 
 abbrev pub Text : Type 0
 Text = List ℕ
@@ -51,7 +51,7 @@ word_byte b = letter b || digit b || eqb b (code "_")
 
 -- "in any letter case": a letter in capitals, any other byte as it is
 unfoldable pub capital : ℕ → ℕ
-capital b = if small b then b - 32 else b
+capital b = if small b then b - 32 otherwise b
 
 -- ---- texts and lists
 
@@ -88,12 +88,12 @@ rest (x ∷ xs) = xs
 -- the longest start whose bytes all pass
 abbrev pub start : (ℕ → Bool) → Text → Text
 start p [] = []
-start p (b ∷ bs) = if p b then b ∷ start p bs else []
+start p (b ∷ bs) = if p b then b ∷ start p bs otherwise []
 
 -- what stands after that start
 abbrev pub after : (ℕ → Bool) → Text → Text
 after p [] = []
-after p (b ∷ bs) = if p b then after p bs else b ∷ bs
+after p (b ∷ bs) = if p b then after p bs otherwise b ∷ bs
 
 -- how many bytes stand before the first of this kind; all of them where there is none
 unfoldable pub index_after : Bool → ℕ → ℕ
@@ -107,7 +107,7 @@ index_of b (x ∷ xs) = index_after (eqb x b) (index_of b xs)
 -- the bytes that pass
 abbrev pub only : (ℕ → Bool) → Text → Text
 only p [] = []
-only p (b ∷ bs) = if p b then b ∷ only p bs else only p bs
+only p (b ∷ bs) = if p b then b ∷ only p bs otherwise only p bs
 
 -- the same bytes
 unfoldable pub same : Text → Text → Bool

@@ -2,7 +2,7 @@
 use mathlib.Core.Path.{◌≡◌, refl}
 use mathlib.Core.List.{[], ◌∷◌}
 use lib.IntN.{pos}
-use Rattle.registers.specs.Text.{Text, if◌then◌else◌, bytes, same, small}
+use Rattle.registers.specs.Text.{Text, if◌then◌otherwise◌, bytes, same, small}
 use Rattle.registers.specs.Words.{short_form}
 use Rattle.registers.specs.Answer.{in_places, decimal, tenths}
 use Rattle.registers.specs.Settings.{output, voltage, range, exam, voltage2, range2, value_at, with_value, with_text, table, slots, setting_at, at_reset, wide_range, narrow, lowest, highest, within, possible_values, possible_settings, answer_of, minus}
@@ -51,6 +51,6 @@ pub record MetLines : Type 0 where
   pub above_range : written at_reset (with_value voltage (pos 200) at_reset) 1 [] ≡ result_of 6 0 []
 
 pub met-lines : MetLines
-unfolding if◌then◌else◌ bytes same small short_form in_places decimal tenths table slots setting_at at_reset wide_range narrow lowest highest within possible_values possible_settings padded possible_text answer_of
+unfolding if◌then◌otherwise◌ bytes same small short_form in_places decimal tenths table slots setting_at at_reset wide_range narrow lowest highest within possible_values possible_settings padded possible_text answer_of
     numbered second_of short_names joined_names header_for line_for label_for may_stand slot_of row_at lines_to writable written aimed_to
 met-lines = record { up = refl; down = refl; same = refl; short = refl; up2 = refl; down2 = refl; aim2 = refl; label = refl; no_label = refl; bad_label = refl; channel = refl; exam_modes = refl; above_range = refl }

@@ -8,7 +8,7 @@ use native.Mathlib.Omega.{arith}
 use lib.Dec.{eqb, leb}
 use lib.ListN.{length}
 use borrow.Author.Tests.{eqb-true, eqb-false, leb-true}
-use Rattle.registers.specs.Text.{Text, if◌then◌else◌, bytes, same, digit, letter, word_byte, small, capital, every, below}
+use Rattle.registers.specs.Text.{Text, if◌then◌otherwise◌, bytes, same, digit, letter, word_byte, small, capital, every, below}
 use Rattle.registers.specs.Check.{Checked, passed, ◌>>=◌, ◌>>◌, check}
 use Rattle.registers.specs.Words.{short_form, long_form, matches}
 use Rattle.registers.specs.Settings.{count, table, slots, setting_at}
@@ -40,7 +40,7 @@ AllTo zero = Unit {0}
 AllTo (suc n) = AllTo n × (found n ≡ expected n)
 
 all_found : AllTo count
-unfolding if◌then◌else◌ bytes same digit letter word_byte small capital ◌>>=◌ ◌>>◌ check short_form long_form matches table slots setting_at
+unfolding if◌then◌otherwise◌ bytes same digit letter word_byte small capital ◌>>=◌ ◌>>◌ check short_form long_form matches table slots setting_at
     cut_at name placed body_of by_first header numbered node_matches suffix_in spells setting_rows other_rows rows fits_row find_row second_of on_channel find_role short_names joined_names header_for
 all_found =
     ((((((((((((((((((((((((((((((tt, refl), refl), refl), refl), refl), refl), refl), refl), refl), refl), refl), refl), refl), refl), refl), refl), refl), refl), refl), refl), refl), refl), refl), refl), refl), refl), refl), refl), refl), refl)
@@ -60,7 +60,7 @@ spelling-for i h =
 
 -- and the display's text
 pub label-spelling : Spelling display label_header
-unfolding if◌then◌else◌ bytes same digit letter word_byte small capital ◌>>=◌ ◌>>◌ check short_form long_form matches table slots setting_at
+unfolding if◌then◌otherwise◌ bytes same digit letter word_byte small capital ◌>>=◌ ◌>>◌ check short_form long_form matches table slots setting_at
     cut_at name placed body_of by_first header numbered node_matches suffix_in spells setting_rows other_rows rows fits_row find_row second_of on_channel find_role
 label-spelling = record { read = record { place = here; names = cut_at (code ":") label_header; query = false }; reads = refl; sets = refl; row = refl }
 
@@ -73,7 +73,7 @@ abbrev brief : ℕ → Bool
 brief i = leb (length (header_for i)) most_header
 
 all-brief : below count brief ≡ true
-unfolding if◌then◌else◌ bytes same small short_form table slots setting_at numbered short_names joined_names header_for
+unfolding if◌then◌otherwise◌ bytes same small short_form table slots setting_at numbered short_names joined_names header_for
 all-brief = refl
 
 pub header-short : (i : ℕ) → i < count → length (header_for i) ≤ most_header
@@ -84,7 +84,7 @@ abbrev pub inside : ℕ → Bool
 inside x = not (eqb x 10)
 
 all-inside : below count (λ i. every inside (header_for i)) ≡ true
-unfolding if◌then◌else◌ bytes same small short_form table slots setting_at numbered short_names joined_names header_for
+unfolding if◌then◌otherwise◌ bytes same small short_form table slots setting_at numbered short_names joined_names header_for
 all-inside = refl
 
 pub header-inside : (i : ℕ) → i < count → every inside (header_for i) ≡ true

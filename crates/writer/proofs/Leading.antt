@@ -12,7 +12,7 @@ use lib.Seq.{take-append_seam, get_or-set_same, get_or-set_other, set-get_or, se
 use lib.IntN.{ℤ, pos, negsuc}
 use lib.Signed.{le_z, lt_z}
 use borrow.Author.Tests.{ltb-false, leb-true, lt-leb, eqb-true, eqb-false, ne_eqb}
-use Rattle.registers.specs.Text.{Text, if◌then◌else◌, every, same, empty}
+use Rattle.registers.specs.Text.{Text, if◌then◌otherwise◌, every, same, empty}
 use Rattle.registers.specs.Settings.{count, table_count, voltage, range, voltage2, range2, kind_of, highest_of, twelve_volts, value_at, with_value, with_text, displayed, wide_range, narrow, lowest, highest, within, conflict, possible_settings}
 use Rattle.registers.specs.Status.{Trouble, raised, locked}
 use Rattle.registers.specs.declared.settings.Settings.{Settings}
@@ -58,7 +58,7 @@ above_zero (negsuc n) e = absurd (false≢true e)
 -- ---- what a discarded answer leaves
 
 abbrev left_of : Text → Trouble → Trouble
-left_of a t = if empty a then t else raised 410 t
+left_of a t = if empty a then t otherwise raised 410 t
 
 discard-trouble : (b : Box) → (interrupted b).trouble ≡ left_of b.core.answer b.trouble
 unfolding interrupted
@@ -84,22 +84,22 @@ still-some (x ∷ s) t e = refl
 
 -- a slot that is no voltage
 within-other : (s s' : Settings) (i : ℕ) (v : ℤ) → (eqb i voltage ≡ false) × (eqb i voltage2 ≡ false) → within s i v ≡ within s' i v
-unfolding within highest narrow if◌then◌else◌
+unfolding within highest narrow if◌then◌otherwise◌
 within-other s s' i v q = rw (q.0, q.1)
 
 -- a voltage, where its range is the same
 within-range : {volts wide : ℕ} → Channel volts wide → (s s' : Settings) (v : ℤ) → wide_range s wide ≡ wide_range s' wide → within s volts v ≡ within s' volts v
 unfolding within
 within-range {volts} k s s' v e =
-    let same : highest s volts ≡ highest s' volts = k.top s ∙ ap (λ (t : Bool). if not t then twelve_volts else highest_of (kind_of voltage)) e ∙ sym (k.top s') in
+    let same : highest s volts ≡ highest s' volts = k.top s ∙ ap (λ (t : Bool). if not t then twelve_volts otherwise highest_of (kind_of voltage)) e ∙ sym (k.top s') in
     rw same
 
 -- a voltage of 12.0 and less, whatever its range
 within-narrow : {volts wide : ℕ} → Channel volts wide → (s w : Settings) (v : ℤ) → within w volts v ≡ true → le_z v twelve_volts ≡ true → within s volts v ≡ true
-unfolding within if◌then◌else◌
+unfolding within if◌then◌otherwise◌
 within-narrow {volts} {wide} k s w v e low = rw ((and_both (le_z (lowest volts) v) _ e).0, k.top s) (go (wide_range s wide))
   where
-    go : (t : Bool) → le_z v (if not t then twelve_volts else highest_of (kind_of voltage)) ≡ true
+    go : (t : Bool) → le_z v (if not t then twelve_volts otherwise highest_of (kind_of voltage)) ≡ true
     go true = under-wide false v low
     go false = low
 
@@ -122,7 +122,7 @@ moved_to p w channel wide (suc n) = let i = slot_of channel (row_at wide n) in w
 
 -- the two rows that change places: what comes before them, and what after
 row_same : (n : ℕ) → (n ≡ voltage → ⊥) → (n ≡ range → ⊥) → row_at true n ≡ n
-unfolding row_at if◌then◌else◌
+unfolding row_at if◌then◌otherwise◌
 row_same n a b = rw (ne_eqb n voltage a, ne_eqb n range b)
 
 module _ (p w : Settings) (channel : ℕ) where
@@ -136,7 +136,7 @@ module _ (p w : Settings) (channel : ℕ) where
   puts r s = with_value (slot_of channel r) (value_at w (slot_of channel r)) s
 
   in_order : (n : ℕ) → moved false n ≡ aim n
-  unfolding row_at aimed_to if◌then◌else◌
+  unfolding row_at aimed_to if◌then◌otherwise◌
   in_order zero = refl
   in_order (suc n) = ap (puts n) (in_order n)
 
@@ -147,7 +147,7 @@ module _ (p w : Settings) (channel : ℕ) where
       ap (λ (r : ℕ). puts r (moved true n)) (row_same n (λ e. omega arith) (λ e. omega arith)) ∙ ap (puts n) (before-both n (omega arith))
 
   both : moved true 6 ≡ aim 6
-  unfolding aimed_to row_at if◌then◌else◌
+  unfolding aimed_to row_at if◌then◌otherwise◌
   both =
       ap (λ (s : Settings). puts voltage (puts range s)) (before-both voltage (le_refl voltage))
       ∙ ap (λ (l : List ℤ). record { values = l; text = (aim voltage).text })
@@ -269,7 +269,7 @@ module _ (p w : Settings) (channel : ℕ) (lp : Whole p) (good : Good w) where
 
   range_clear : (wide : Bool) → wide_range w (slot_of channel range) ≡ wide → (n : ℕ) → row_at wide n ≡ range
       → conflict (moved_to p w channel wide n) (slot_of channel range) (value_at w (slot_of channel range)) ≡ false
-  unfolding wide_range row_at if◌then◌else◌
+  unfolding wide_range row_at if◌then◌otherwise◌
   range_clear true is n e = conflict-high (own-channel channel) (moved_to p w channel true n) (value_at w (slot_of channel range)) (above_zero (value_at w (slot_of channel range)) is)
   range_clear false is n e =
       let k = own-channel channel in
@@ -313,7 +313,7 @@ module _ (p w : Settings) (channel : ℕ) (lp : Whole p) (good : Good w) where
 
     -- a row that differs
     one-more : (n : ℕ) → n < table_count → differs p w (slot_at w channel n) ≡ true → Reached n → Reached (suc n)
-    unfolding lines_to if◌then◌else◌
+    unfolding lines_to if◌then◌otherwise◌
     one-more n h q (none e m) =
         let i = slot_at w channel n in
         let v = value_at w i in
@@ -331,7 +331,7 @@ module _ (p w : Settings) (channel : ℕ) (lp : Whole p) (good : Good w) where
         (ap (piece start) is ∙ (demand2.parts start (lines_to p w channel n) (line_for i v)).0 ∙ ap (λ (b : Box). piece b (line_for i v)) g ∙ runs)
 
     no_more : (n : ℕ) → n < table_count → differs p w (slot_at w channel n) ≡ false → Reached n → Reached (suc n)
-    unfolding lines_to if◌then◌else◌
+    unfolding lines_to if◌then◌otherwise◌
     no_more n h q (none e m) =
         let is : lines_to p w channel (suc n) ≡ lines_to p w channel n = rw (q, append-nil (lines_to p w channel n)) in
         none (is ∙ e) (moved_same n h q ∙ m)
@@ -357,12 +357,12 @@ module _ (p w : Settings) (channel : ℕ) (lp : Whole p) (good : Good w) where
     -- where lines were written
     led-some : (l : Text) → lines_for p w channel ≡ l → empty l ≡ false
         → piece start l ≡ box (with_settings (aimed p w channel) clean) (left_of c.answer t) → Led start
-    unfolding if◌then◌else◌
+    unfolding if◌then◌otherwise◌
     led-some l is f g =
         rw (is, f) (g ∙ sym (ap₂ (λ (x : Core) (u : Trouble). box (with_settings (aimed p w channel) x) u) (discard-core start) (discard-trouble start)))
 
     start-led : possible_text w.text ≡ true → length w.text ≡ most_text → Led start
-    unfolding piece if◌then◌else◌
+    unfolding piece if◌then◌otherwise◌
     start-led possible long = go (same p.text w.text) refl (reached table_count (le_refl table_count))
       where
         held : HeldRight w.text
@@ -437,7 +437,7 @@ leads p w channel lp lw ok b ready =
 -- what was written, where nothing was refused
 lines-written : (p w : Settings) (channel : ℕ) (buffer left : Text) (n : ℕ) → result_of 0 n left ≡ written p w channel buffer
     → (writable p w channel ≡ true) × (take n left ≡ lines_for p w channel)
-unfolding written if◌then◌else◌
+unfolding written if◌then◌otherwise◌
 lines-written p w channel buffer left n e = go (writable p w channel) refl (leb (length (lines_for p w channel)) (length buffer)) refl
   where
     never : (k : ℕ) (v : ℕ) (x : Text) → (k ≡ 0 → ⊥) → result_of 0 n left ≡ result_of k v x → ⊥

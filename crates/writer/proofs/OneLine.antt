@@ -10,7 +10,7 @@ use lib.Dec.{leb, eqb}
 use lib.ListN.{length, length-append}
 use lib.IntN.{ℤ}
 use borrow.Author.Tests.{leb-true, lt-ltb, not-true, ne_eqb}
-use Rattle.registers.specs.Text.{Text, if◌then◌else◌, bytes, white, printable, every, empty}
+use Rattle.registers.specs.Text.{Text, if◌then◌otherwise◌, bytes, white, printable, every, empty}
 use Rattle.registers.specs.Check.{passed, check, ◌>>=◌, ◌>>◌}
 use Rattle.registers.specs.Settings.{count, kind_of, with_value, with_text, within, conflict, answer_of}
 use Rattle.registers.specs.Status.{Trouble, locked}
@@ -39,7 +39,7 @@ use Rattle.writer.proofs.Headers.{spelling-for, label-spelling, header-short, in
 -- bytes that have room in the line are held
 held_whole : (c : Core) (t : Trouble) (o : Bool) (text l : Text) → every inside text ≡ true → length l + length text ≤ most_line
     → piece (box (with_line l o c) t) text ≡ box (with_line (l ++ text) o c) t
-unfolding piece byte held if◌then◌else◌
+unfolding piece byte held if◌then◌otherwise◌
 held_whole c t o [] l h room = ap (λ (x : Text). box (with_line x o c) t) (sym (append-nil l))
 held_whole c t o (x ∷ text) l h room =
     let p = and_both (inside x) (every inside text) h in
@@ -66,7 +66,7 @@ discard-core b =
     (λ e. ap (λ (a : Text). with_answer a b.core) (is-empty b.core.answer e)) (λ _. refl)
 
 none-finished : (c : Core) (t : Trouble) → finished (box (with_answer [] c) t) ≡ box (with_answer [] c) t
-unfolding finished if◌then◌else◌
+unfolding finished if◌then◌otherwise◌
 none-finished c t = refl
 
 stands_one : (x : ℕ) → may_stand x ≡ true → inside x ≡ true
@@ -141,7 +141,7 @@ module _ (i : ℕ) (h : i < count) (v : ℤ) (c : Core) (t : Trouble) (free : lo
   held-is = held_whole c t false text [] text-inside (let s = short in omega arith)
 
   newline-is : end_line (box (with_line text false c) t) ≡ box (with_settings (with_value i v c.settings) clean) discarding
-  unfolding end_line run_line if◌then◌else◌ deed_of
+  unfolding end_line run_line if◌then◌otherwise◌ deed_of
   newline-is =
       let n : interrupted start ≡ box clean discarding = ap (λ (x : Core). box x discarding) (discard-core start) in
       let r = sent.reads-line (tabled i) [] (header_for i) (code " " ∷ []) value [] parts c.settings (Change (Put i v On)) (answer-sets c.settings i h v w) in
@@ -149,7 +149,7 @@ module _ (i : ℕ) (h : i < count) (v : ℤ) (c : Core) (t : Trouble) (free : lo
       (none-finished (with_settings (with_value i v c.settings) (with_line [] false c)) discarding)
 
   pub line-runs : piece start (line_for i v) ≡ box (with_settings (with_value i v c.settings) clean) discarding
-  unfolding piece byte if◌then◌else◌
+  unfolding piece byte if◌then◌otherwise◌
   line-runs = ap (piece start) line-is ∙ (demand2.parts start text (10 ∷ [])).0 ∙ ap (λ (b : Box). piece b (10 ∷ [])) held-is ∙ newline-is
 
 -- a line isn't empty
@@ -204,7 +204,7 @@ module _ (x : Text) (accepted : every may_stand x ≡ true) (few : length x ≤ 
   label-puts path e = rw (e, free)
 
   label-newline : end_line (box (with_line label_text false c) t) ≡ labelled x
-  unfolding end_line run_line if◌then◌else◌ deed_of
+  unfolding end_line run_line if◌then◌otherwise◌ deed_of
   label-newline =
       let n : interrupted label_start ≡ box label_clean (interrupted label_start).trouble = ap (λ (d : Core). box d (interrupted label_start).trouble) (discard-core label_start) in
       let r = sent.reads-line display [] label_header (code " " ∷ []) quoted [] label-parts c.settings (Change Label) (label-sets x accepted few) in
@@ -212,7 +212,7 @@ module _ (x : Text) (accepted : every may_stand x ≡ true) (few : length x ≤ 
       (none-finished (with_settings (with_text x c.settings) (with_line [] false c)) (interrupted label_start).trouble)
 
   pub label-runs : piece label_start (label_for x) ≡ labelled x
-  unfolding piece byte if◌then◌else◌
+  unfolding piece byte if◌then◌otherwise◌
   label-runs = ap (piece label_start) label_is ∙ (demand2.parts label_start label_text (10 ∷ [])).0 ∙ ap (λ (b : Box). piece b (10 ∷ [])) label-held ∙ label-newline
 
 pub label-some : (x : Text) → empty (label_for x) ≡ false

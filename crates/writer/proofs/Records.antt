@@ -8,7 +8,7 @@ use native.Mathlib.Omega.{arith}
 use lib.Dec.{eqb}
 use lib.ListN.{length, length-append}
 use borrow.Author.Tests.{eqb-true, eqb-false, ne_eqb}
-use Rattle.registers.specs.Text.{Text, if◌then◌else◌, empty, first, rest, same}
+use Rattle.registers.specs.Text.{Text, if◌then◌otherwise◌, empty, first, rest, same}
 use Rattle.interpreter.specs.Cuts.{front}
 use Rattle.interpreter.specs.Box.{Core, Box, box, with_line}
 use Rattle.interpreter.specs.Line.{finished, run_line, end_line, byte, piece}
@@ -23,7 +23,7 @@ use Rattle.writer.proofs.OneLine.{discard-core}
 -- ---- texts
 
 front_of : (t : Text) (x : ℕ) → front (t ++ x ∷ []) ≡ t
-unfolding if◌then◌else◌
+unfolding if◌then◌otherwise◌
 front_of [] x = refl
 front_of (b ∷ []) x = refl
 front_of (b ∷ c ∷ t) x = ap (λ (y : Text). b ∷ y) (front_of (c ∷ t) x)
@@ -41,7 +41,7 @@ not-agree-broken m n e = let z : ◌≡◌ {A = ℕ} 0 1 = cc in omega arith
 
 -- a recorded answer is the box's
 recorded-is : (a x : Text) → same a (rest x ++ 10 ∷ []) ≡ true → first x ≡ 60 → as_recorded a ≡ x ∷ []
-unfolding if◌then◌else◌
+unfolding if◌then◌otherwise◌
 recorded-is a x e f =
     let is = same-eq a (rest x ++ 10 ∷ []) e in
     let line = with_first x 59 f in
@@ -73,8 +73,8 @@ module _ (ls : List Text) (k : Marking) (n m : ℕ) (l : Text)
   after-answer = record { box = k.box; sent = k.sent; answer = [] }
 
   sent-right : eqb (first x) 62 ≡ true → (t : Bool) → empty k.answer ≡ t
-      → next_line go_on (if t then goes after-sent else stops (differs k.sent (suc n) k.answer)) ≡ agree m → Right k (suc n) m (l ∷ ls)
-  unfolding if◌then◌else◌ go_on record_of
+      → next_line go_on (if t then goes after-sent otherwise stops (differs k.sent (suc n) k.answer)) ≡ agree m → Right k (suc n) m (l ∷ ls)
+  unfolding if◌then◌otherwise◌ go_on record_of
   sent-right q true e f =
       let r = ih after-sent (suc n) f in
       let g = r.long in
@@ -86,9 +86,9 @@ module _ (ls : List Text) (k : Marking) (n m : ℕ) (l : Text)
   sent-right q false e f = absurd (not-agree-differs _ _ _ _ f)
 
   answer-right : eqb (first x) 60 ≡ true → (t : Bool) → same k.answer (rest x ++ 10 ∷ []) ≡ t
-      → next_line go_on (if t then goes after-answer else stops (differs (if eqb k.sent 0 then suc n else k.sent) (suc n) k.answer)) ≡ agree m
+      → next_line go_on (if t then goes after-answer otherwise stops (differs (if eqb k.sent 0 then suc n otherwise k.sent) (suc n) k.answer)) ≡ agree m
       → Right k (suc n) m (l ∷ ls)
-  unfolding if◌then◌else◌ go_on
+  unfolding if◌then◌otherwise◌ go_on
   answer-right q true e f =
       let r = ih after-answer (suc n) f in
       let g = r.long in
@@ -102,18 +102,18 @@ module _ (ls : List Text) (k : Marking) (n m : ℕ) (l : Text)
   answer-right q false e f = absurd (not-agree-differs _ _ _ _ f)
 
   line-right : (s : Bool) → eqb (first x) 62 ≡ s → (t : Bool) → eqb (first x) 60 ≡ t
-      → next_line go_on (if s then line_sent k (suc n) x else (if t then answer_read k (suc n) x else stops (broken (suc n)))) ≡ agree m
+      → next_line go_on (if s then line_sent k (suc n) x otherwise (if t then answer_read k (suc n) x otherwise stops (broken (suc n)))) ≡ agree m
       → Right k (suc n) m (l ∷ ls)
-  unfolding if◌then◌else◌
+  unfolding if◌then◌otherwise◌
   line-right true q t r f = sent-right q (empty k.answer) refl f
   line-right false q true r f = answer-right r (same k.answer (rest x ++ 10 ∷ [])) refl f
   line-right false q false r f = absurd (not-agree-broken _ _ f)
 
 agrees-right : (ls : List Text) (k : Marking) (n m : ℕ) → marked k (suc n) ls ≡ agree m → Right k (suc n) m ls
-unfolding marked line_read record_of if◌then◌else◌ go_on
+unfolding marked line_read record_of if◌then◌otherwise◌ go_on
 agrees-right [] k n m e = go (empty k.answer) refl e
   where
-    go : (t : Bool) → empty k.answer ≡ t → (if t then agree n else differs k.sent (suc n) k.answer) ≡ agree m → Right k (suc n) m []
+    go : (t : Bool) → empty k.answer ≡ t → (if t then agree n otherwise differs k.sent (suc n) k.answer) ≡ agree m → Right k (suc n) m []
     go true q f =
         let is : n ≡ m = cc in
         record { long = omega arith; sent = []; is = rw (is-empty k.answer q) }
@@ -122,7 +122,7 @@ agrees-right (l ∷ ls) k n m e =
     line-right ls k n m l (λ j i. agrees-right ls j i m) (eqb (first (bare l)) 62) refl (eqb (first (bare l)) 60) refl e
 
 agreeing : AgreeingIsRight
-unfolding if◌then◌else◌
+unfolding if◌then◌otherwise◌
 agreeing session n e =
     let r = agrees-right (lines_of session) (record { box = at_power_up; sent = 0; answer = [] }) 0 n e in
     let g = r.long in
@@ -150,7 +150,7 @@ line-ended b =
     (λ _. finished-ended _)
 
 answer-ended : (b : Box) (t : Text) → Ended (answer_to b t)
-unfolding happens piece byte if◌then◌else◌
+unfolding happens piece byte if◌then◌otherwise◌
 answer-ended b t = subst (λ (c : Box). Ended c.core.answer) (sym (demand2.parts b t (10 ∷ [])).0) (line-ended (piece b t))
 
 -- ---- a right record agrees
@@ -162,7 +162,7 @@ module _ (l : Text) (ls : List Text) (k : Marking) (n : ℕ) (ends : Ended k.ans
 
   -- the answer that is still to be found comes next
   answer-agrees : (xs : List Text) → empty k.answer ≡ false → bare l ∷ map bare ls ≡ (60 ∷ front k.answer) ∷ record_of k.box xs → marked k (suc n) (l ∷ ls) ≡ agree (n + length (l ∷ ls))
-  unfolding marked line_read if◌then◌else◌
+  unfolding marked line_read if◌then◌otherwise◌
   answer-agrees xs q is =
       let same_here : same k.answer (front k.answer ++ 10 ∷ []) ≡ true = same_refl k.answer (front k.answer ++ 10 ∷ []) (sym (ends q)) in
       rw (head-eq_of_cons-eq is, same_here)
@@ -170,7 +170,7 @@ module _ (l : Text) (ls : List Text) (k : Marking) (n : ℕ) (ends : Ended k.ans
 
   -- or a line that is sent
   sent-agrees : (xs : List Text) → empty k.answer ≡ true → bare l ∷ map bare ls ≡ record_of k.box xs → marked k (suc n) (l ∷ ls) ≡ agree (n + length (l ∷ ls))
-  unfolding marked line_read record_of if◌then◌else◌
+  unfolding marked line_read record_of if◌then◌otherwise◌
   sent-agrees [] q is = absurd (nil≢cons (sym is))
   sent-agrees (x ∷ xs) q is =
       let b = heard_line k.box (x ++ 10 ∷ []) in
@@ -178,23 +178,23 @@ module _ (l : Text) (ls : List Text) (k : Marking) (n : ℕ) (ends : Ended k.ans
       (ih (record { box = b; sent = suc n; answer = answer_to k.box x }) (suc n) xs (answer-ended k.box x) (tail-eq_of_cons-eq is) ∙ ap agree more-lines)
 
 right-marked : (ls : List Text) (k : Marking) (n : ℕ) (xs : List Text) → Ended k.answer → map bare ls ≡ as_recorded k.answer ++ record_of k.box xs → marked k (suc n) ls ≡ agree (n + length ls)
-unfolding marked if◌then◌else◌
+unfolding marked if◌then◌otherwise◌
 right-marked [] k n xs ends is = go (empty k.answer) refl is
   where
-    go : (t : Bool) → empty k.answer ≡ t → [] ≡ (if t then [] else (60 ∷ front k.answer) ∷ []) ++ record_of k.box xs
-        → (if empty k.answer then agree n else differs k.sent (suc n) k.answer) ≡ agree (n + 0)
+    go : (t : Bool) → empty k.answer ≡ t → [] ≡ (if t then [] otherwise (60 ∷ front k.answer) ∷ []) ++ record_of k.box xs
+        → (if empty k.answer then agree n otherwise differs k.sent (suc n) k.answer) ≡ agree (n + 0)
     go true q f = let z : n ≡ n + 0 = omega arith in rw q (ap agree z)
     go false q f = absurd (nil≢cons f)
 right-marked (l ∷ ls) k n xs ends is = go (λ j i ys e g. right-marked ls j i ys e g) (empty k.answer) refl is
   where
     go : ((j : Marking) (i : ℕ) (ys : List Text) → Ended j.answer → map bare ls ≡ as_recorded j.answer ++ record_of j.box ys → marked j (suc i) ls ≡ agree (i + length ls))
-        → (t : Bool) → empty k.answer ≡ t → bare l ∷ map bare ls ≡ (if t then [] else (60 ∷ front k.answer) ∷ []) ++ record_of k.box xs
+        → (t : Bool) → empty k.answer ≡ t → bare l ∷ map bare ls ≡ (if t then [] otherwise (60 ∷ front k.answer) ∷ []) ++ record_of k.box xs
         → marked k (suc n) (l ∷ ls) ≡ agree (n + length (l ∷ ls))
     go ih true q f = sent-agrees l ls k n ends ih xs q f
     go ih false q f = answer-agrees l ls k n ends ih xs q f
 
 right : RightIsAgreeing
-unfolding if◌then◌else◌
+unfolding if◌then◌otherwise◌
 right session xs is = right-marked (lines_of session) (record { box = at_power_up; sent = 0; answer = [] }) 0 xs (none-ended [] refl) is ∙ ap agree (omega arith)
 
 -- ---- one differs
@@ -209,11 +209,11 @@ never-broken : (n m j : ℕ) (a : Text) → broken n ≡ differs m j a → ⊥
 never-broken n m j a e = let z : ◌≡◌ {A = ℕ} 0 1 = cc in omega arith
 
 as_some : (a : Text) → empty a ≡ false → as_recorded a ≡ (60 ∷ front a) ∷ []
-unfolding if◌then◌else◌
+unfolding if◌then◌otherwise◌
 as_some a e = rw e
 
 as_none : (a : Text) → empty a ≡ true → as_recorded a ≡ []
-unfolding if◌then◌else◌
+unfolding if◌then◌otherwise◌
 as_none a e = rw e
 
 -- at the line whose answer is still to be found, or at a later one
@@ -250,7 +250,7 @@ module _ (ls : List Text) (k : Marking) (n m j' : ℕ) (l a' : Text) (ends : End
 
   -- a line that is sent
   from-sending : first y ≡ 62 → k.answer ≡ [] → Where sending (suc n) m ls → Where k n m (l ∷ ls)
-  unfolding record_of heard_lines if◌then◌else◌
+  unfolding record_of heard_lines if◌then◌otherwise◌
   from-sending q e (at_hand p) =
       further_on (record {
         sent = [];
@@ -276,8 +276,8 @@ module _ (ls : List Text) (k : Marking) (n m j' : ℕ) (l a' : Text) (ends : End
       })
 
   sent-where : eqb (first y) 62 ≡ true → (t : Bool) → empty k.answer ≡ t
-      → next_line going (if t then goes sending else stops (differs k.sent (suc n) k.answer)) ≡ differs m j' a' → Where k n m (l ∷ ls)
-  unfolding if◌then◌else◌ going
+      → next_line going (if t then goes sending otherwise stops (differs k.sent (suc n) k.answer)) ≡ differs m j' a' → Where k n m (l ∷ ls)
+  unfolding if◌then◌otherwise◌ going
   sent-where q true e f = from-sending (eqb-true (first y) 62 q) (is-empty k.answer e) (ih sending (suc n) (answer-ended k.box (rest y)) f)
   sent-where q false e f =
       at_hand (record {
@@ -292,7 +292,7 @@ module _ (ls : List Text) (k : Marking) (n m j' : ℕ) (l a' : Text) (ends : End
 
   -- an answer that is right, and what is behind it
   from-answering : first y ≡ 60 → same k.answer (rest y ++ 10 ∷ []) ≡ true → Where answering (suc n) m ls → Where k n m (l ∷ ls)
-  unfolding if◌then◌else◌
+  unfolding if◌then◌otherwise◌
   from-answering q e (at_hand p) =
       let is = recorded-is k.answer y e q in
       at_hand (record {
@@ -332,9 +332,9 @@ module _ (ls : List Text) (k : Marking) (n m j' : ℕ) (l a' : Text) (ends : End
           false≢true (sym e ∙ same_refl k.answer (rest y ++ 10 ∷ []) (sym d))
 
   answer-where : eqb (first y) 60 ≡ true → (t : Bool) → same k.answer (rest y ++ 10 ∷ []) ≡ t
-      → next_line going (if t then goes answering else stops (differs (if eqb k.sent 0 then suc n else k.sent) (suc n) k.answer)) ≡ differs m j' a'
+      → next_line going (if t then goes answering otherwise stops (differs (if eqb k.sent 0 then suc n otherwise k.sent) (suc n) k.answer)) ≡ differs m j' a'
       → Where k n m (l ∷ ls)
-  unfolding if◌then◌else◌ going
+  unfolding if◌then◌otherwise◌ going
   answer-where q true e f = from-answering (eqb-true (first y) 60 q) e (ih answering (suc n) (none-ended [] refl) f)
   answer-where q false e f =
       at_hand (record {
@@ -344,18 +344,18 @@ module _ (ls : List Text) (k : Marking) (n m j' : ℕ) (l a' : Text) (ends : End
       })
 
   line-where : (s : Bool) → eqb (first y) 62 ≡ s → (t : Bool) → eqb (first y) 60 ≡ t
-      → next_line going (if s then line_sent k (suc n) y else (if t then answer_read k (suc n) y else stops (broken (suc n)))) ≡ differs m j' a'
+      → next_line going (if s then line_sent k (suc n) y otherwise (if t then answer_read k (suc n) y otherwise stops (broken (suc n)))) ≡ differs m j' a'
       → Where k n m (l ∷ ls)
-  unfolding if◌then◌else◌
+  unfolding if◌then◌otherwise◌
   line-where true q t r f = sent-where q (empty k.answer) refl f
   line-where false q true r f = answer-where r (same k.answer (rest y ++ 10 ∷ [])) refl f
   line-where false q false r f = absurd (never-broken _ _ _ _ f)
 
 differs-where : (ls : List Text) (k : Marking) (n m j : ℕ) (a : Text) → Ended k.answer → marked k (suc n) ls ≡ differs m j a → Where k n m ls
-unfolding marked line_read if◌then◌else◌ going
+unfolding marked line_read if◌then◌otherwise◌ going
 differs-where [] k n m j a ends e = go (empty k.answer) refl e
   where
-    go : (t : Bool) → empty k.answer ≡ t → (if t then agree n else differs k.sent (suc n) k.answer) ≡ differs m j a → Where k n m []
+    go : (t : Bool) → empty k.answer ≡ t → (if t then agree n otherwise differs k.sent (suc n) k.answer) ≡ differs m j a → Where k n m []
     go true q f = absurd (never-agree _ _ _ _ f)
     go false q f =
         at_hand (record {
@@ -376,7 +376,7 @@ begins-sent b [] line behind = λ e. omega arith
 begins-sent b (t ∷ sent) line behind = λ e. omega arith
 
 differing : DifferingIsAstray
-unfolding if◌then◌else◌
+unfolding if◌then◌otherwise◌
 differing session m j a e =
     go (differs-where (lines_of session) (record { box = at_power_up; sent = 0; answer = [] }) 0 m j a (none-ended [] refl) e)
   where
@@ -426,8 +426,8 @@ module _ (ls : List Text) (k : Marking) (n m : ℕ) (l : Text)
   goes-on j = marked j (suc (suc n)) ls
 
   sent-breaks : eqb (first z) 62 ≡ true → (t : Bool) → empty k.answer ≡ t
-      → next_line goes-on (if t then goes sent-on else stops (differs k.sent (suc n) k.answer)) ≡ broken m → Breaks k n m (l ∷ ls)
-  unfolding if◌then◌else◌ goes-on record_of
+      → next_line goes-on (if t then goes sent-on otherwise stops (differs k.sent (suc n) k.answer)) ≡ broken m → Breaks k n m (l ∷ ls)
+  unfolding if◌then◌otherwise◌ goes-on record_of
   sent-breaks q true e f =
       let r = ih sent-on (suc n) f in
       let g = r.number in
@@ -446,9 +446,9 @@ module _ (ls : List Text) (k : Marking) (n m : ℕ) (l : Text)
   sent-breaks q false e f = absurd (not-broken-differs _ _ _ _ f)
 
   answer-breaks : eqb (first z) 60 ≡ true → (t : Bool) → same k.answer (rest z ++ 10 ∷ []) ≡ t
-      → next_line goes-on (if t then goes answered-on else stops (differs (if eqb k.sent 0 then suc n else k.sent) (suc n) k.answer)) ≡ broken m
+      → next_line goes-on (if t then goes answered-on otherwise stops (differs (if eqb k.sent 0 then suc n otherwise k.sent) (suc n) k.answer)) ≡ broken m
       → Breaks k n m (l ∷ ls)
-  unfolding if◌then◌else◌ goes-on
+  unfolding if◌then◌otherwise◌ goes-on
   answer-breaks q true e f =
       let r = ih answered-on (suc n) f in
       let g = r.number in
@@ -469,9 +469,9 @@ module _ (ls : List Text) (k : Marking) (n m : ℕ) (l : Text)
   answer-breaks q false e f = absurd (not-broken-differs _ _ _ _ f)
 
   line-breaks : (s : Bool) → eqb (first z) 62 ≡ s → (t : Bool) → eqb (first z) 60 ≡ t
-      → next_line goes-on (if s then line_sent k (suc n) z else (if t then answer_read k (suc n) z else stops (broken (suc n)))) ≡ broken m
+      → next_line goes-on (if s then line_sent k (suc n) z otherwise (if t then answer_read k (suc n) z otherwise stops (broken (suc n)))) ≡ broken m
       → Breaks k n m (l ∷ ls)
-  unfolding if◌then◌else◌ record_of
+  unfolding if◌then◌otherwise◌ record_of
   line-breaks true q t r f = sent-breaks q (empty k.answer) refl f
   line-breaks false q true r f = answer-breaks r (same k.answer (rest z ++ 10 ∷ [])) refl f
   line-breaks false q false r f =
@@ -490,17 +490,17 @@ module _ (ls : List Text) (k : Marking) (n m : ℕ) (l : Text)
       }
 
 broken-breaks : (ls : List Text) (k : Marking) (n m : ℕ) → marked k (suc n) ls ≡ broken m → Breaks k n m ls
-unfolding marked line_read if◌then◌else◌ goes-on
+unfolding marked line_read if◌then◌otherwise◌ goes-on
 broken-breaks [] k n m e = go (empty k.answer) e
   where
-    go : (t : Bool) → (if t then agree n else differs k.sent (suc n) k.answer) ≡ broken m → Breaks k n m []
+    go : (t : Bool) → (if t then agree n otherwise differs k.sent (suc n) k.answer) ≡ broken m → Breaks k n m []
     go true f = absurd (not-broken-agree _ _ f)
     go false f = absurd (not-broken-differs _ _ _ _ f)
 broken-breaks (l ∷ ls) k n m e =
     line-breaks ls k n m l (λ j i. broken-breaks ls j i m) (eqb (first (bare l)) 62) refl (eqb (first (bare l)) 60) refl e
 
 breaking : BrokenIsBroken
-unfolding if◌then◌else◌
+unfolding if◌then◌otherwise◌
 breaking session m e =
     let r = broken-breaks (lines_of session) (record { box = at_power_up; sent = 0; answer = [] }) 0 m e in
     let g = r.number in

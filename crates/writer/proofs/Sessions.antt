@@ -2,7 +2,7 @@
 use mathlib.Core.Path.{◌≡◌, refl}
 use mathlib.Core.List.{List, [], ◌∷◌, map}
 use Prim.Native.String.{String}
-use Rattle.registers.specs.Text.{if◌then◌else◌, bytes, same, white, printable, digit, letter, word_byte, small, capital}
+use Rattle.registers.specs.Text.{if◌then◌otherwise◌, bytes, same, white, printable, digit, letter, word_byte, small, capital}
 use Rattle.registers.specs.Check.{◌>>=◌, ◌>>◌, check}
 use Rattle.registers.specs.Words.{short_form, long_form, matches}
 use Rattle.registers.specs.Number.{after_sign, fraction_of, after_fraction, exponent_of, after_exponent, lowering, written, numeral_from, decimal_of, value_of, scaled, number}
@@ -43,7 +43,7 @@ verdicts =
     ∷ []
 
 pub all-marked : map (λ (v : String × Verdict). verdict_on (bytes v.0)) verdicts ≡ map (λ (v : String × Verdict). v.1) verdicts
-unfolding if◌then◌else◌ bytes same white printable digit letter word_byte small capital ◌>>=◌ ◌>>◌ check short_form long_form matches
+unfolding if◌then◌otherwise◌ bytes same white printable digit letter word_byte small capital ◌>>=◌ ◌>>◌ check short_form long_form matches
     after_sign fraction_of after_fraction exponent_of after_exponent lowering written numeral_from decimal_of value_of scaled suffixes no_suffix power_in remains number switched_on
     nearest size_in rounded size_side side_in in_places decimal tenths event_bit message_in error_text
     table slots setting_at at_reset wide_range narrow lowest highest within conflict examined accepted answer_of raised oldest_read at_start

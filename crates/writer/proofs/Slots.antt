@@ -6,7 +6,7 @@ use Prim.Native.Nat.{ℕ, ◌<◌}
 use native.Mathlib.Omega.{arith}
 use lib.Dec.{ltb, eqb}
 use borrow.Author.Tests.{ltb-true, eqb-true, ne_eqb}
-use Rattle.registers.specs.Text.{if◌then◌else◌, below}
+use Rattle.registers.specs.Text.{if◌then◌otherwise◌, below}
 use Rattle.registers.specs.Settings.{count, table_count, voltage, range, voltage2, range2, wide_range}
 use Rattle.registers.specs.declared.settings.Settings.{Settings}
 use Rattle.registers.proofs.Tests.{below_at}
@@ -18,7 +18,7 @@ use Rattle.writer.specs.Lines.{own_slot, slot_of, row_at, slot_at}
 -- ---- the order of the rows
 
 pub row-row : (wide : Bool) (n : ℕ) → row_at wide (row_at wide n) ≡ n
-unfolding row_at if◌then◌else◌
+unfolding row_at if◌then◌otherwise◌
 row-row false n = refl
 row-row true n = go (eqb n voltage) refl (eqb n range) refl
   where
@@ -28,7 +28,7 @@ row-row true n = go (eqb n voltage) refl (eqb n range) refl
     go false q false r = rw (q, r, q, r)
 
 pub row_below : (wide : Bool) (n : ℕ) → n < table_count → row_at wide n < table_count
-unfolding row_at if◌then◌else◌
+unfolding row_at if◌then◌otherwise◌
 row_below false n h = h
 row_below true n h = go (eqb n voltage) refl (eqb n range) refl
   where
@@ -39,7 +39,7 @@ row_below true n h = go (eqb n voltage) refl (eqb n range) refl
 
 -- the two that change places
 pub row_first : row_at true voltage ≡ range
-unfolding row_at if◌then◌else◌
+unfolding row_at if◌then◌otherwise◌
 row_first = refl
 
 -- ---- channel 2's slots, computed
@@ -48,7 +48,7 @@ abbrev own : ℕ → ℕ
 own r = own_slot (second_of r) r
 
 all-below : below table_count (λ r. ltb (own r) count) ≡ true
-unfolding second_of if◌then◌else◌
+unfolding second_of if◌then◌otherwise◌
 all-below = refl
 
 -- a row other than a has neither of two slots
@@ -56,7 +56,7 @@ abbrev avoids : ℕ → ℕ → ℕ → Bool
 avoids a b r = eqb r a || (not (eqb (own r) a) && not (eqb (own r) b))
 
 all-avoid : (below table_count (avoids voltage voltage2) ≡ true) × (below table_count (avoids range range2) ≡ true)
-unfolding second_of if◌then◌else◌
+unfolding second_of if◌then◌otherwise◌
 all-avoid = (refl, refl)
 
 -- ---- of either channel
@@ -92,18 +92,18 @@ not-range channel = slot-avoids channel range range2 (omega arith) all-avoid.1
 
 -- a channel's voltage and range
 pub own-channel : (channel : ℕ) → Channel (slot_of channel voltage) (slot_of channel range)
-unfolding slot_of second_of if◌then◌else◌
+unfolding slot_of second_of if◌then◌otherwise◌
 own-channel channel = go (eqb channel 2)
   where
-    go : (t : Bool) → Channel (if t then own voltage else voltage) (if t then own range else range)
+    go : (t : Bool) → Channel (if t then own voltage otherwise voltage) (if t then own range otherwise range)
     go true = second-channel
     go false = first-channel
 
 pub two-slots : (channel : ℕ) → slot_of channel range ≡ slot_of channel voltage → ⊥
-unfolding slot_of second_of if◌then◌else◌
+unfolding slot_of second_of if◌then◌otherwise◌
 two-slots channel = go (eqb channel 2)
   where
-    go : (t : Bool) → (if t then own range else range) ≡ (if t then own voltage else voltage) → ⊥
+    go : (t : Bool) → (if t then own range otherwise range) ≡ (if t then own voltage otherwise voltage) → ⊥
     go true e = omega arith
     go false e = omega arith
 

@@ -3,7 +3,7 @@
 use Rattle.std.specs.Prelude.{◌≡◌, Bool, true, false, not, ◌&&◌, ◌||◌, List, [], ◌∷◌, ◌++◌, ℕ, zero, suc, ◌<◌, eqb, leb, length, take, drop, ℤ}
 use Prim.Native.Char.{code}
 use Rattle.std.specs.Int.Signed.{lt_z}
-use Rattle.registers.specs.Text.{Text, if◌then◌else◌, bytes, same, empty}
+use Rattle.registers.specs.Text.{Text, if◌then◌otherwise◌, bytes, same, empty}
 use Rattle.registers.specs.Label.{quoted_text}
 use Rattle.registers.specs.Check.{Checked, refused, passed}
 use Rattle.registers.specs.Words.{Node, must, may, short_form}
@@ -34,7 +34,7 @@ number_of BufferTooShort = 7
 -- a setting's header: the short forms of the nodes that can't be left out, with a number behind the node that takes one
 unfoldable pub short_names : Text → List Node → List Text
 short_names number [] = []
-short_names number (must w ∷ nodes) = (if numbered w then short_form w ++ number else short_form w) ∷ short_names number nodes
+short_names number (must w ∷ nodes) = (if numbered w then short_form w ++ number otherwise short_form w) ∷ short_names number nodes
 short_names number (may w ∷ nodes) = short_names number nodes
 
 unfoldable pub joined_names : List Text → Text
@@ -44,7 +44,7 @@ joined_names (x ∷ y ∷ names) = x ++ code ":" ∷ joined_names (y ∷ names)
 
 -- "none meaning 1"
 unfoldable pub header_for : ℕ → Text
-header_for i = joined_names (short_names (if second i then bytes "2" else []) (setting_at i).nodes)
+header_for i = joined_names (short_names (if second i then bytes "2" otherwise []) (setting_at i).nodes)
 
 -- the line that gives a setting a value, as the setting's query answers it
 unfoldable pub line_for : ℕ → ℤ → Text
@@ -61,18 +61,18 @@ own_slot (refused n) row = row
 own_slot (passed i) row = i
 
 unfoldable pub slot_of : ℕ → ℕ → ℕ
-slot_of channel row = if eqb channel 2 then own_slot (second_of row) row else row
+slot_of channel row = if eqb channel 2 then own_slot (second_of row) row otherwise row
 
 -- "range and voltage in an order that is never refused": to range R24V the range comes first, to R12V the voltage, as in 01's table
 unfoldable pub row_at : Bool → ℕ → ℕ
-row_at wide n = if wide && eqb n voltage then range else (if wide && eqb n range then voltage else n)
+row_at wide n = if wide && eqb n voltage then range otherwise (if wide && eqb n range then voltage otherwise n)
 
 -- by the channel's own range
 abbrev pub slot_at : Settings → ℕ → ℕ → ℕ
 slot_at w channel n = slot_of channel (row_at (wide_range w (slot_of channel range)) n)
 
 abbrev pub line_at : Settings → Settings → ℕ → Text
-line_at p w i = if differs p w i then line_for i (value_at w i) else []
+line_at p w i = if differs p w i then line_for i (value_at w i) otherwise []
 
 -- those of the first n rows, in that order
 unfoldable pub lines_to : Settings → Settings → ℕ → ℕ → Text
@@ -87,7 +87,7 @@ unfoldable pub label_for : Text → Text
 label_for t = label_header ++ (code " " ∷ quoted_text t ++ 10 ∷ [])
 
 abbrev pub label_line : Settings → Settings → Text
-label_line p w = if same p.text w.text then [] else label_for (displayed w)
+label_line p w = if same p.text w.text then [] otherwise label_for (displayed w)
 
 -- "one line for each setting that differs"
 abbrev pub lines_for : Settings → Settings → ℕ → Text
@@ -105,8 +105,8 @@ unfoldable pub written : Settings → Settings → ℕ → Text → Result
 written p w channel buffer =
     let t = lines_for p w channel in
     if writable p w channel
-    then (if leb (length t) (length buffer) then result_of 0 (length t) (t ++ drop (length t) buffer) else result_of 7 (length t) buffer)
-    else result_of 6 0 buffer
+    then (if leb (length t) (length buffer) then result_of 0 (length t) (t ++ drop (length t) buffer) otherwise result_of 7 (length t) buffer)
+    otherwise result_of 6 0 buffer
 
 -- ---- what its lines do
 
@@ -122,7 +122,7 @@ Whole s = AsLong s
 
 -- an answer that waits is discarded by the first line, as any line does
 abbrev pub discarded : Text → Box → Box
-discarded t b = if empty t then b else interrupted b
+discarded t b = if empty t then b otherwise interrupted b
 
 -- the present settings, but each of the channel's first n rows as it is wanted
 unfoldable pub aimed_to : Settings → Settings → ℕ → ℕ → Settings

@@ -1,7 +1,7 @@
 -- What the writer's private functions say. Nothing of 02 is defined here: see Lines.antt.
 use Rattle.std.specs.Prelude.{◌≡◌, List, [], ◌∷◌, ◌++◌, map, ℕ, ◌+◌, ◌-◌, ◌<◌, length, take, drop, get_or, replicate, eqb, ℤ, pos, true, ◌||◌}
 use Prim.Native.Char.{code}
-use Rattle.registers.specs.Text.{Text, if◌then◌else◌, bytes}
+use Rattle.registers.specs.Text.{Text, if◌then◌otherwise◌, bytes}
 use Rattle.std.specs.Int.Signed.{lt_z}
 use Rattle.registers.specs.Settings.{Setting, table, slots, table_count, count, range, range2, within}
 use Rattle.registers.specs.declared.settings.Settings.{Settings}
@@ -37,8 +37,8 @@ text_at k = get_or texts k []
 -- the place of a setting's word
 unfoldable pub word_place : ℕ → ℤ → ℕ
 word_place i v =
-    if eqb i monitor then (if lt_z v (pos 1) then 30 else (if lt_z v (pos 2) then 31 else 32))
-    else (if eqb i range || eqb i range2 then (if lt_z v (pos 1) then 33 else 34) else (if lt_z v (pos 1) then 35 else 36))
+    if eqb i monitor then (if lt_z v (pos 1) then 30 otherwise (if lt_z v (pos 2) then 31 otherwise 32))
+    otherwise (if eqb i range || eqb i range2 then (if lt_z v (pos 1) then 33 otherwise 34) otherwise (if lt_z v (pos 1) then 35 otherwise 36))
 
 unfoldable pub text_row : Text → Text
 text_row t = length t ∷ t ++ replicate (20 - length t) 0

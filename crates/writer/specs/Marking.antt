@@ -3,7 +3,7 @@
 use Rattle.std.specs.Prelude.{◌≡◌, Bool, true, false, ◌&&◌, ◌||◌, ℕ, ◌+◌, ◌≤◌, ◌<◌, eqb, ltb, leb, length, take, drop, get_or}
 use mathlib.Core.List.{List, [], ◌∷◌, ◌++◌, flatten}
 use Prim.Native.Char.{code}
-use Rattle.registers.specs.Text.{Text, if◌then◌else◌, empty}
+use Rattle.registers.specs.Text.{Text, if◌then◌otherwise◌, empty}
 use Rattle.interpreter.specs.Box.{Box, memory, blank, answer_is, store_size, most_answer}
 use Rattle.interpreter.specs.Events.{received, happens}
 use Rattle.interpreter.specs.State.{box_of, possible_state, Started}
@@ -45,13 +45,13 @@ begun_at q stage sent = record { stage = stage; number = q.number + 1; sent = se
 unfoldable pub line_begun : Place → ℕ → Place
 line_begun q x =
     if eqb x (code "<") then begun_at q finding q.sent
-    else (if eqb x (code ">")
-    then (if eqb q.waiting 0 then begun_at q sending (q.number + 1) else begun_at q differing q.sent)
-    else begun_at q stopped q.sent)
+    otherwise (if eqb x (code ">")
+    then (if eqb q.waiting 0 then begun_at q sending (q.number + 1) otherwise begun_at q differing q.sent)
+    otherwise begun_at q stopped q.sent)
 
 -- a part of a line that is sent: an answer of so many bytes waits, and the line has ended or goes on
 unfoldable pub place_sent : Place → ℕ → Bool → Place
-place_sent q n ended = record { stage = if ended then fresh else q.stage; number = q.number; sent = q.sent; waiting = n; found = q.found }
+place_sent q n ended = record { stage = if ended then fresh otherwise q.stage; number = q.number; sent = q.sent; waiting = n; found = q.found }
 
 -- the box receives it, and an answer that then waits is taken to the start of the room
 unfoldable pub part_sent : Progress → Text → Bool → Progress
@@ -68,8 +68,8 @@ unfoldable pub place_found : Place → Text → ℕ → Place
 place_found q room x =
     let n = q.found + 1 in
     if ltb q.found q.waiting && eqb (get_or room q.found 0) x
-    then (if eqb x 10 then (if eqb n q.waiting then found_so q fresh 0 n else found_so q differing q.waiting n) else found_so q q.stage q.waiting n)
-    else found_so q differing q.waiting q.found
+    then (if eqb x 10 then (if eqb n q.waiting then found_so q fresh 0 n otherwise found_so q differing q.waiting n) otherwise found_so q q.stage q.waiting n)
+    otherwise found_so q differing q.waiting q.found
 
 abbrev pub placed : Progress → Place → Progress
 placed p q = record { box = p.box; room = p.room; place = q }
@@ -78,8 +78,8 @@ placed p q = record { box = p.box; room = p.room; place = q }
 unfoldable pub byte_read : Progress → ℕ → Progress
 byte_read p x =
     if eqb p.place.stage fresh then placed p (line_begun p.place x)
-    else (if eqb p.place.stage sending then part_sent p (x ∷ []) (eqb x 10)
-    else (if eqb p.place.stage finding then placed p (place_found p.place p.room x) else p))
+    otherwise (if eqb p.place.stage sending then part_sent p (x ∷ []) (eqb x 10)
+    otherwise (if eqb p.place.stage finding then placed p (place_found p.place p.room x) otherwise p))
 
 unfoldable pub fed : Progress → Text → Progress
 fed p [] = p
@@ -87,7 +87,7 @@ fed p (x ∷ xs) = fed (byte_read p x) xs
 
 -- "a last line without newline counts" (READINGS)
 unfoldable pub closed : Progress → Progress
-closed p = if eqb p.place.stage sending || eqb p.place.stage finding then byte_read p 10 else p
+closed p = if eqb p.place.stage sending || eqb p.place.stage finding then byte_read p 10 otherwise p
 
 -- ---- what is found
 
@@ -101,10 +101,10 @@ differs_at line shown waiting = record { found = Differs; line = line; shown = s
 unfoldable pub report_at : Place → Report
 report_at q =
     if eqb q.stage fresh
-    then (if eqb q.waiting 0 then plainly Agree q.number else differs_at q.sent (q.number + 1) q.waiting)
-    else (if eqb q.stage differing
-    then (if eqb q.sent 0 then differs_at q.number q.number q.waiting else differs_at q.sent q.number q.waiting)
-    else plainly Broken q.number)
+    then (if eqb q.waiting 0 then plainly Agree q.number otherwise differs_at q.sent (q.number + 1) q.waiting)
+    otherwise (if eqb q.stage differing
+    then (if eqb q.sent 0 then differs_at q.number q.number q.waiting otherwise differs_at q.sent q.number q.waiting)
+    otherwise plainly Broken q.number)
 
 -- a report as a verdict: the box's answer stands at the start of the room. A marker that was refused marks nothing: line 0 is no line
 abbrev pub verdict_in : found.Found → ℕ → ℕ → Text → Verdict

@@ -3,7 +3,7 @@
 -- another first byte it reports a broken record with its line number and stops". Lines are counted from 1.
 use Rattle.std.specs.Prelude.{◌≡◌, not, List, [], ◌∷◌, ◌++◌, map, ℕ, suc, pred, ◌+◌, ◌≤◌, eqb, length}
 use Prim.Native.Char.{code}
-use Rattle.registers.specs.Text.{Text, if◌then◌else◌, empty, first, rest, start, same}
+use Rattle.registers.specs.Text.{Text, if◌then◌otherwise◌, empty, first, rest, start, same}
 use Rattle.interpreter.specs.Cuts.{front}
 use Rattle.interpreter.specs.Box.{Box, power_up, blank}
 use Rattle.interpreter.specs.Events.{received, happens}
@@ -35,19 +35,19 @@ line_sent k n x =
     let l = rest x ++ 10 ∷ [] in
     if empty k.answer
     then goes (record { box = heard_line k.box l; sent = n; answer = (happens k.box (received l)).box.core.answer })
-    else stops (differs k.sent n k.answer)
+    otherwise stops (differs k.sent n k.answer)
 
 -- the bytes behind `<` are the answer, without its newline. It differs at the line that was sent, at its own before any
 abbrev pub answer_read : Marking → ℕ → Text → Stepped
 answer_read k n x =
     if same k.answer (rest x ++ 10 ∷ [])
     then goes (record { box = k.box; sent = k.sent; answer = [] })
-    else stops (differs (if eqb k.sent 0 then n else k.sent) n k.answer)
+    otherwise stops (differs (if eqb k.sent 0 then n otherwise k.sent) n k.answer)
 
 unfoldable pub line_read : Marking → ℕ → Text → Stepped
 line_read k n x =
     if eqb (first x) (code ">") then line_sent k n x
-    else (if eqb (first x) (code "<") then answer_read k n x else stops (broken n))
+    otherwise (if eqb (first x) (code "<") then answer_read k n x otherwise stops (broken n))
 
 -- ---- all lines
 
@@ -61,7 +61,7 @@ next_line go (stops v) = v
 
 -- from the line with the number n on
 unfoldable pub marked : Marking → ℕ → List Text → Verdict
-marked k n [] = if empty k.answer then agree (pred n) else differs k.sent n k.answer
+marked k n [] = if empty k.answer then agree (pred n) otherwise differs k.sent n k.answer
 marked k n (l ∷ ls) = next_line (λ j. marked j (suc n) ls) (line_read k n (bare l))
 
 -- "from power-up", with a store of zeros
@@ -75,7 +75,7 @@ verdict_on session = marked (record { box = at_power_up; sent = 0; answer = [] }
 
 -- an answer as a session records it; none where there is none
 abbrev pub as_recorded : Text → List Text
-as_recorded a = if empty a then [] else (code "<" ∷ front a) ∷ []
+as_recorded a = if empty a then [] otherwise (code "<" ∷ front a) ∷ []
 
 abbrev pub answer_to : Box → Text → Text
 answer_to b x = (happens b (received (x ++ 10 ∷ []))).box.core.answer

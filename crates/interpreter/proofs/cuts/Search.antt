@@ -7,18 +7,18 @@ use native.Mathlib.Numerals.{add-one}
 use lib.Dec.{eqb}
 use lib.ListN.{length, get_or, drop, drop_of_length-le}
 use lib.Seq.{drop-cons}
-use Rattle.registers.specs.Text.{Text, if◌then◌else◌}
+use Rattle.registers.specs.Text.{Text, if◌then◌otherwise◌}
 use Rattle.interpreter.specs.Cuts.{is_quote, quote_next, separates}
 use Rattle.interpreter.specs.CutsParts.{place_open, OnWay}
 
 module _ (s : ℕ) (l : Text) (at i mark : ℕ) (w : OnWay s l at i mark) where
   module _ (h : i < length l) where
     pub way-stop : separates s mark (get_or l i 0) ≡ true → (i ≡ at + place_open s 0 (drop at l)) × (i ≤ length l)
-    unfolding place_open if◌then◌else◌
+    unfolding place_open if◌then◌otherwise◌
     way-stop e = let k : i + 0 ≡ at + place_open s 0 (drop at l) = rw (drop-cons l i 0 h, e) at w.is in (omega arith, w.within)
 
     pub way_on : separates s mark (get_or l i 0) ≡ false → OnWay s l at (i + 1) (quote_next mark (get_or l i 0))
-    unfolding place_open if◌then◌else◌
+    unfolding place_open if◌then◌otherwise◌
     way_on e =
         let k : i + suc (place_open s (quote_next mark (get_or l i 0)) (drop (suc i) l)) ≡ at + place_open s 0 (drop at l) =
         rw (drop-cons l i 0 h, e) at w.is in
@@ -31,7 +31,7 @@ module _ (s : ℕ) (l : Text) (at i mark : ℕ) (w : OnWay s l at i mark) where
 -- outside quotes, a byte that is neither the separator nor a quote
 pub way-plain : (s : ℕ) (l : Text) (at i : ℕ) → OnWay s l at i 0 → i < length l → (eqb (get_or l i 0) s || is_quote (get_or l i 0)) ≡ false
     → OnWay s l at (i + 1) 0
-unfolding quote_next if◌then◌else◌
+unfolding quote_next if◌then◌otherwise◌
 way-plain s l at i w h e = go (eqb (get_or l i 0) s) (is_quote (get_or l i 0)) refl refl e
   where
     go : (t q : Bool) → eqb (get_or l i 0) s ≡ t → is_quote (get_or l i 0) ≡ q → (t || q) ≡ false → OnWay s l at (i + 1) 0

@@ -6,7 +6,7 @@ use Prim.Native.Nat.{ℕ, ◌+◌, ◌-◌, ◌/◌, ◌%◌, ◌≤◌, ◌<◌
 use native.Mathlib.Omega.{arith}
 use borrow.Author.Tests.{le-leb, leb-false, ltb-true}
 use Rattle.registers.proofs.Tests.{and_both}
-use Rattle.registers.specs.Text.{if◌then◌else◌}
+use Rattle.registers.specs.Text.{if◌then◌otherwise◌}
 use Rattle.registers.specs.Settings.{count, table_count, table, slots}
 use Rattle.interpreter.specs.Rows.{setting_rows, other_rows, monitor, brightness}
 use Rattle.interpreter.specs.DeedParts.{row_count, place_count, nowhere, no_channel, place_of, role_at, set_at, role_of_set, common_rows, set_rows}
@@ -19,25 +19,25 @@ role-setting i h = agree count Setting role_at refl i h
 
 -- the rows of the register sets, by their place after the others
 pub role-of-sets : (i : ℕ) → count + common_rows + i < place_count → role_of_set (set_at (i / set_rows)) (i % set_rows) ≡ role_at (count + common_rows + i)
-unfolding listed role_at setting_rows other_rows slots table if◌then◌else◌
+unfolding listed role_at setting_rows other_rows slots table if◌then◌otherwise◌
 role-of-sets i h =
     agree (place_count - count - common_rows) (λ k. role_of_set (set_at (k / set_rows)) (k % set_rows)) (λ k. role_at (count + common_rows + k)) refl i (omega arith)
 
 -- a header without a row has one place, whatever its suffix is
 pub place-nowhere : (row x y : ℕ) → row_count ≤ row → place_of row x ≡ place_of row y
-unfolding place_of if◌then◌else◌
+unfolding place_of if◌then◌otherwise◌
 place-nowhere row x y h = rw (le-leb row_count row h)
 
 -- ---- a place is one of those that there are, and belongs to a row if it has a role
 
 pub place-most : (row x : ℕ) → row ≤ row_count → place_of row x ≤ no_channel
-unfolding place_of if◌then◌else◌
+unfolding place_of if◌then◌otherwise◌
 place-most row x h =
     go (leb row_count row) refl (ltb x 2) (ltb row table_count) refl (eqb x 2 && ltb row monitor) refl (eqb x 2 && (ltb monitor row && ltb row brightness)) refl
   where
     go : (a : Bool) → leb row_count row ≡ a → (b c : Bool) → ltb row table_count ≡ c → (d : Bool) → (eqb x 2 && ltb row monitor) ≡ d
         → (e : Bool) → (eqb x 2 && (ltb monitor row && ltb row brightness)) ≡ e
-        → (if a then nowhere else (if b then (if c then row else row + (count - table_count)) else (if d then row + table_count else (if e then row + (table_count - 1) else no_channel)))) ≤ no_channel
+        → (if a then nowhere otherwise (if b then (if c then row otherwise row + (count - table_count)) otherwise (if d then row + table_count otherwise (if e then row + (table_count - 1) otherwise no_channel)))) ≤ no_channel
     go true p b c q d s e r = omega arith
     go false p true true q d s e r = let k = ltb-true row table_count q in omega arith
     go false p true false q d s e r = let k = leb-false row_count row p in omega arith
@@ -47,11 +47,11 @@ place-most row x h =
     go false p false c q false s false r = omega arith
 
 pub place-row : (row x : ℕ) → place_of row x < place_count → row < row_count
-unfolding place_of if◌then◌else◌
+unfolding place_of if◌then◌otherwise◌
 place-row row x h = go (leb row_count row) refl h
   where
     go : (a : Bool) → leb row_count row ≡ a
-        → (if a then nowhere else (if ltb x 2 then (if ltb row table_count then row else row + (count - table_count)) else (if eqb x 2 && ltb row monitor then row + table_count else (if eqb x 2 && (ltb monitor row && ltb row brightness) then row + (table_count - 1) else no_channel)))) < place_count
+        → (if a then nowhere otherwise (if ltb x 2 then (if ltb row table_count then row otherwise row + (count - table_count)) otherwise (if eqb x 2 && ltb row monitor then row + table_count otherwise (if eqb x 2 && (ltb monitor row && ltb row brightness) then row + (table_count - 1) otherwise no_channel)))) < place_count
         → row < row_count
     go true p k = absurd (omega arith)
     go false p k = leb-false row_count row p

@@ -8,7 +8,7 @@ use native.Mathlib.Omega.{arith}
 use lib.Dec.{leb, ltb, eqb}
 use lib.ListN.{length, take, length-append, length-take}
 use borrow.Author.Tests.{eqb-true, eqb-false, ltb-true, ltb-false, lt-ltb, ne_eqb}
-use Rattle.registers.specs.Text.{Text, if◌then◌else◌, every, empty, rest}
+use Rattle.registers.specs.Text.{Text, if◌then◌otherwise◌, every, empty, rest}
 use Rattle.registers.specs.Check.{Checked, refused, passed, ◌>>=◌, ◌>>◌}
 use Rattle.registers.specs.Error.{overflow}
 use Rattle.registers.specs.Queue.{most, last_place, may_be_queued, queueable}
@@ -38,7 +38,7 @@ use Rattle.interpreter.proofs.demands.calls.AsHistory.{calls-are-a-history}
 
 -- what an act leaves of a queue
 abbrev acted : Act → List ℕ → List ℕ
-acted (raises n) q = if ltb (length q) most then q ++ n ∷ [] else take last_place q ++ overflow ∷ []
+acted (raises n) q = if ltb (length q) most then q ++ n ∷ [] otherwise take last_place q ++ overflow ∷ []
 acted reads q = rest q
 acted starts q = []
 acted leaves q = q
@@ -143,7 +143,7 @@ overruns-chain : (b : Box) → Chain (queue b) (overruns b ∷ []) (queue (raise
 unfolding act_of
 overruns-chain b = (refl, (λ e. omega arith), raised-queue 363 b.trouble)
 
-discards-chain : (b : Box) → Chain (queue b) (if empty b.core.answer then [] else discards b ∷ []) (queue (at_newline b))
+discards-chain : (b : Box) → Chain (queue b) (if empty b.core.answer then [] otherwise discards b ∷ []) (queue (at_newline b))
 unfolding interrupted act_of
 discards-chain b =
     if₂ (λ (ss : List Step) (c : Box). Chain (queue b) ss (queue c)) (empty b.core.answer) refl (refl, (λ e. omega arith), raised-queue 410 b.trouble)
@@ -153,7 +153,7 @@ unfolding finished
 finished-queue b = if-elim (λ (c : Box). queue c ≡ queue b) (empty b.core.answer) (λ _. refl) (λ _. refl)
 
 line-chain : (line : Text) (overlong : Bool) (b : Box) → Chain (queue b) (line_steps line overlong b) (queue (run_line line overlong b))
-unfolding line_steps run_line if◌then◌else◌
+unfolding line_steps run_line if◌then◌otherwise◌
 line-chain line true b = overruns-chain b
 line-chain line false b =
     subst (λ (q : List ℕ). Chain (queue b) (unit_steps (units_of line) [] b) q) (sym (finished-queue (run_units (units_of line) [] b))) (units-chain (units_of line) [] b)
@@ -161,7 +161,7 @@ line-chain line false b =
 end-chain : (b : Box) → Chain (queue b) (end_steps b) (queue (end_line b))
 unfolding end_steps end_line
 end-chain b =
-    chain-then (if empty b.core.answer then [] else discards b ∷ []) (own_steps b) (queue b) (queue (at_newline b)) _
+    chain-then (if empty b.core.answer then [] otherwise discards b ∷ []) (own_steps b) (queue b) (queue (at_newline b)) _
     (discards-chain b) (line-chain b.core.line b.core.overlong (at_newline b))
 
 byte-chain : (b : Box) (x : ℕ) → Chain (queue b) (byte_steps b x) (queue (byte b x))
@@ -193,28 +193,28 @@ history-chain b (e ∷ es) = chain-then (event_steps b e) (steps (happens b e).b
 -- ---- one act keeps the account
 
 struck-append : (xs ys : List ℕ) → struck (xs ++ ys) ≡ struck xs ++ struck ys
-unfolding if◌then◌else◌
+unfolding if◌then◌otherwise◌
 struck-append [] ys = refl
 struck-append (x ∷ xs) ys = go (not (eqb x overflow)) (struck-append xs ys)
   where
     go : (t : Bool) → struck (xs ++ ys) ≡ struck xs ++ struck ys
-        → (if t then x ∷ struck (xs ++ ys) else struck (xs ++ ys)) ≡ (if t then x ∷ struck xs else struck xs) ++ struck ys
+        → (if t then x ∷ struck (xs ++ ys) otherwise struck (xs ++ ys)) ≡ (if t then x ∷ struck xs otherwise struck xs) ++ struck ys
     go true ih = ap (λ (l : List ℕ). x ∷ l) ih
     go false ih = ih
 
 struck-one : (n : ℕ) → (n ≡ overflow → ⊥) → struck (n ∷ []) ≡ n ∷ []
-unfolding if◌then◌else◌
+unfolding if◌then◌otherwise◌
 struck-one n h = rw (ne_eqb n overflow h)
 
 front-snoc : (xs : List ℕ) (x : ℕ) → front (xs ++ x ∷ []) ≡ xs
-unfolding if◌then◌else◌
+unfolding if◌then◌otherwise◌
 front-snoc [] x = refl
 front-snoc (y ∷ []) x = refl
 front-snoc (y ∷ z ∷ xs) x = ap (λ (l : List ℕ). y ∷ l) (front-snoc (z ∷ xs) x)
 
 -- all but the last, and the last
 snoc : (n : ℕ) (q : List ℕ) → length q ≡ suc n → q ≡ take n q ++ last q ∷ []
-unfolding if◌then◌else◌
+unfolding if◌then◌otherwise◌
 snoc n [] h = absurd (omega arith)
 snoc zero (x ∷ []) h = refl
 snoc zero (x ∷ y ∷ q) h = absurd (omega arith)
@@ -234,22 +234,22 @@ module _ (ks rs q : List ℕ) (is : ks ≡ struck rs ++ struck q) where
       let s = last-kept h other in
       s ∙ ap (λ (l : List ℕ). l ++ last q ∷ []) (sym (ap front s ∙ front-snoc (struck rs ++ struck (take last_place q)) (last q)))
 
-  full-kept : length q ≡ most → (if eqb (last q) overflow then ks else front ks) ≡ struck rs ++ struck (take last_place q ++ overflow ∷ [])
-  unfolding if◌then◌else◌
+  full-kept : length q ≡ most → (if eqb (last q) overflow then ks otherwise front ks) ≡ struck rs ++ struck (take last_place q ++ overflow ∷ [])
+  unfolding if◌then◌otherwise◌
   full-kept h = go (eqb (last q) overflow) refl
     where
-      go : (t : Bool) → eqb (last q) overflow ≡ t → (if t then ks else front ks) ≡ struck rs ++ struck (take last_place q ++ overflow ∷ [])
+      go : (t : Bool) → eqb (last q) overflow ≡ t → (if t then ks otherwise front ks) ≡ struck rs ++ struck (take last_place q ++ overflow ∷ [])
       go true e = is ∙ ap (λ (l : List ℕ). struck rs ++ struck l) (snoc last_place q h ∙ ap (λ (x : ℕ). take last_place q ++ x ∷ []) (eqb-true (last q) overflow e))
       go false e =
           ap front (last-kept h (eqb-false (last q) overflow e)) ∙ front-snoc (struck rs ++ struck (take last_place q)) (last q)
           ∙ ap (λ (l : List ℕ). struck rs ++ l) (sym (append-nil (struck (take last_place q))) ∙ sym (struck-append (take last_place q) (overflow ∷ [])))
 
   raise-kept : length q ≤ most → (n : ℕ) → (n ≡ overflow → ⊥) → kept_by (raises n) q ks ≡ struck rs ++ struck (acted (raises n) q)
-  unfolding if◌then◌else◌
+  unfolding if◌then◌otherwise◌
   raise-kept fits n other = go (ltb (length q) most) refl
     where
       go : (t : Bool) → ltb (length q) most ≡ t
-          → (if t then ks ++ n ∷ [] else (if eqb (last q) overflow then ks else front ks)) ≡ struck rs ++ struck (if t then q ++ n ∷ [] else take last_place q ++ overflow ∷ [])
+          → (if t then ks ++ n ∷ [] otherwise (if eqb (last q) overflow then ks otherwise front ks)) ≡ struck rs ++ struck (if t then q ++ n ∷ [] otherwise take last_place q ++ overflow ∷ [])
       go true e = ap (λ (l : List ℕ). l ++ n ∷ []) is ∙ append_assoc (struck rs) (struck q) (n ∷ [])
           ∙ ap (λ (l : List ℕ). struck rs ++ l) (ap (λ (l : List ℕ). struck q ++ l) (sym (struck-one n other)) ∙ sym (struck-append q (n ∷ [])))
       go false e = let h = ltb-false (length q) most e in full-kept (omega arith)
@@ -297,7 +297,7 @@ moment-kept (s ∷ ss) later ks rs q r is fits c =
 -- ---- the lost ones by what comes after them
 
 last_snoc : (q : List ℕ) (n : ℕ) → last (q ++ n ∷ []) ≡ n
-unfolding if◌then◌else◌
+unfolding if◌then◌otherwise◌
 last_snoc [] n = refl
 last_snoc (x ∷ []) n = refl
 last_snoc (x ∷ y ∷ q) n = last_snoc (y ∷ q) n
@@ -321,19 +321,19 @@ not_full (s ∷ ss) q r h c = go (act_of s) c.0 c.2 (λ p e d. not_full ss p r e
 
 -- of the errors kept so far the last is lost where the next error finds the queue full, unless a -350 stands last there
 abbrev trimmed : List ℕ → List ℕ → Bool → List ℕ
-trimmed q ks next = if next then (if eqb (last q) overflow then ks else front ks) else ks
+trimmed q ks next = if next then (if eqb (last q) overflow then ks otherwise front ks) otherwise ks
 
 module _ (ks q : List ℕ) (later : List ℕ) where
   -- an error that has room
   room-unlost : (n : ℕ) → (n ≡ overflow → ⊥) → (next : Bool)
-      → trimmed (q ++ n ∷ []) (ks ++ n ∷ []) next ++ later ≡ ks ++ (if next then later else n ∷ later)
-  unfolding if◌then◌else◌
+      → trimmed (q ++ n ∷ []) (ks ++ n ∷ []) next ++ later ≡ ks ++ (if next then later otherwise n ∷ later)
+  unfolding if◌then◌otherwise◌
   room-unlost n other true = rw (last_snoc q n, ne_eqb n overflow other, front-snoc ks n)
   room-unlost n other false = append_assoc ks (n ∷ []) later
 
 lost-unlost : (ss : List Step) (ks q r : List ℕ) → length q ≤ most → every (λ s. goes_on (act_of s)) ss ≡ true → Chain q ss r
     → kept ks ss ≡ trimmed q ks (full_at_next ss) ++ unlost ss
-unfolding kept unlost full_at_next if◌then◌else◌
+unfolding kept unlost full_at_next if◌then◌otherwise◌
 lost-unlost [] ks q r fits on c = sym (append-nil ks)
 lost-unlost (s ∷ ss) ks q r fits on c =
     let p = and_both (goes_on (act_of s)) (every (λ s. goes_on (act_of s)) ss) on in
@@ -355,14 +355,14 @@ lost-unlost (s ∷ ss) ks q r fits on c =
     go (raises n) o e f d more = rw e (by-room (ltb (length q) most) refl)
       where
         by-room : (t : Bool) → ltb (length q) most ≡ t
-            → kept (if t then ks ++ n ∷ [] else (if eqb (last q) overflow then ks else front ks)) ss
-            ≡ trimmed q ks (not t) ++ (if not t || full_at_next ss then unlost ss else n ∷ unlost ss)
+            → kept (if t then ks ++ n ∷ [] otherwise (if eqb (last q) overflow then ks otherwise front ks)) ss
+            ≡ trimmed q ks (not t) ++ (if not t || full_at_next ss then unlost ss otherwise n ∷ unlost ss)
         by-room true u =
             more (ks ++ n ∷ []) (q ++ n ∷ []) (rw u at (act-fits (raises n) q fits)) (rw u at d) ∙ room-unlost ks q (unlost ss) n f (full_at_next ss)
         by-room false u =
-            let js = if eqb (last q) overflow then ks else front ks in
+            let js = if eqb (last q) overflow then ks otherwise front ks in
             more js (take last_place q ++ overflow ∷ []) (rw u at (act-fits (raises n) q fits)) (rw u at d)
-            ∙ ap (λ (l : List ℕ). l ++ unlost ss) (if-same (full_at_next ss) (if eqb (last (take last_place q ++ overflow ∷ [])) overflow then js else front js) js (rw (last_snoc (take last_place q) overflow)))
+            ∙ ap (λ (l : List ℕ). l ++ unlost ss) (if-same (full_at_next ss) (if eqb (last (take last_place q ++ overflow ∷ [])) overflow then js otherwise front js) js (rw (last_snoc (take last_place q) overflow)))
 
 -- the queue as the moment comes
 chain_first : (since later : List Step) (q r : List ℕ) → Chain q (since ++ later) r → (o : List ℕ) × Chain q since o
@@ -370,7 +370,7 @@ chain_first [] later q r c = (q, refl)
 chain_first (s ∷ ss) later q r c = let d = chain_first ss later _ r c.2 in (d.0, (c.0, c.1, d.1))
 
 from-none : (since later : List Step) (r : List ℕ) → every (λ s. goes_on (act_of s)) since ≡ true → Chain [] (since ++ later) r → kept [] since ≡ unlost since
-unfolding if◌then◌else◌
+unfolding if◌then◌otherwise◌
 from-none since later r on c =
     let d = chain_first since later [] r c in
     lost-unlost since [] [] d.0 zero-le on d.1 ∙ ap (λ (l : List ℕ). l ++ unlost since) (none (full_at_next since))

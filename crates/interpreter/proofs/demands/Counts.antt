@@ -3,7 +3,7 @@ use mathlib.Core.Path.{◌≡◌, refl, sym, ◌∙◌, ap}
 use mathlib.Core.List.{List, [], ◌∷◌, ◌++◌, append_assoc}
 use lib.ListN as L
 use lib.Seq.{take_at, drop_at}
-use Rattle.registers.specs.Text.{if◌then◌else◌}
+use Rattle.registers.specs.Text.{if◌then◌otherwise◌}
 use Rattle.interpreter.specs.Box.{Box}
 use Rattle.interpreter.specs.Line.{piece}
 use Rattle.interpreter.specs.Events.{Event, started, received, take, condition, look, altered, mislent, Result, happens, after}
@@ -15,7 +15,7 @@ use Rattle.interpreter.proofs.demands.histories.ResultCounts.{results-length}
 use Rattle.interpreter.proofs.demands.calls.OfCalls.{chosen_is}
 
 counts-are : CountsAre
-unfolding pieces_of results_of happens if◌then◌else◌
+unfolding pieces_of results_of happens if◌then◌otherwise◌
 counts-are b [] = refl
 counts-are b (started ∷ es) = counts-are _ es
 counts-are b (received xs ∷ es) = ap (λ (rs : List Result). own_count xs ∷ rs) (counts-are (piece b xs) es)

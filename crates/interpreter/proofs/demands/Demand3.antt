@@ -9,7 +9,7 @@ use native.Mathlib.Nat.{sub-zero, le_trans}
 use native.Mathlib.Omega.{arith}
 use lib.ListN.{length, take, drop}
 use lib.Seq.{take-nil, drop_at}
-use Rattle.registers.specs.Text.{Text, if◌then◌else◌}
+use Rattle.registers.specs.Text.{Text, if◌then◌otherwise◌}
 use Rattle.interpreter.specs.Box.{Memory, Box, box, with_line, power_up, most_line}
 use Rattle.interpreter.specs.Line.{end_line}
 use Rattle.interpreter.specs.Events.{Event, received, Result, after}
@@ -80,7 +80,7 @@ module _ (m : Memory) (before during : List Event) (line : ALine m before during
   module _ (p : Event → Bool) (silent : (xs : Text) → p (received xs) ≡ false) where
     -- a newline adds no result
     newline-silent : (es : List Event) → results_of p (power_up m) (es ++ newline ∷ []) ≡ results_of p (power_up m) es
-    unfolding results_of if◌then◌else◌
+    unfolding results_of if◌then◌otherwise◌
     newline-silent es = results-append p (power_up m) es (newline ∷ []) ∙ rw (silent (10 ∷ [])) (append-nil (results_of p (power_up m) es))
 
     same-results : results_of p (power_up m) sent ≡ results_of p (power_up m) short-sent
@@ -133,7 +133,7 @@ after-first-at m h first onward n e k =
 -- the newline, and bytes that are cut, count for nothing
 others-line : (before during meanwhile : List Event) (d : List Event) → others d ≡ others during
     → others (before ++ d ++ newline ∷ [] ++ meanwhile) ≡ others (before ++ during ++ meanwhile)
-unfolding how_many if◌then◌else◌
+unfolding how_many if◌then◌otherwise◌
 others-line before during meanwhile d e =
     simp (others-append, e) (omega arith)
 

@@ -7,7 +7,7 @@ use native.Mathlib.Omega.{arith}
 use lib.IntN.{ℤ, pos}
 use lib.Signed.{le_z}
 use borrow.Author.Tests.{not-true}
-use Rattle.registers.specs.Text.{Text, if◌then◌else◌, every, first}
+use Rattle.registers.specs.Text.{Text, if◌then◌otherwise◌, every, first}
 use Rattle.registers.specs.Check.{Checked, refused, passed, ◌>>=◌, ◌>>◌, check}
 use Rattle.registers.specs.Settings.{Kind, bool, words, number, table, kind_of, range, range2, exam, wide_range, narrow, highest, within, accepted}
 use Rattle.registers.specs.Label.{text_in}
@@ -47,14 +47,14 @@ check-law n false x x' e = refl
 -- the same of what a deed is read from
 exam_deed : Checked Deed → Checked Deed
 exam_deed (refused n) = refused n
-exam_deed (passed d) = if off_step d then refused 222 else passed d
+exam_deed (passed d) = if off_step d then refused 222 otherwise passed d
 
 deed-bind : (m : Checked Deed) (f : Deed → Read) → ((d : Deed) → (f d).deed ≡ d) → (exam_deed m >>= λ d. passed (f d)) ≡ in_exam (m >>= λ d. passed (f d))
-unfolding ◌>>=◌ in_exam exam_deed if◌then◌else◌
+unfolding ◌>>=◌ in_exam exam_deed if◌then◌otherwise◌
 deed-bind (refused n) f k = refl
 deed-bind (passed d) f k = go (off_step d) (ap off_step (k d))
   where
-    go : (t : Bool) → off_step (f d).deed ≡ t → ((if t then refused 222 else passed d) >>= λ d. passed (f d)) ≡ (if off_step (f d).deed then refused 222 else passed (f d))
+    go : (t : Bool) → off_step (f d).deed ≡ t → ((if t then refused 222 otherwise passed d) >>= λ d. passed (f d)) ≡ (if off_step (f d).deed then refused 222 otherwise passed (f d))
     go true e = rw e
     go false e = rw e
 
@@ -145,7 +145,7 @@ module _ (s s' : Settings) (w : Switched s s') where
   -- ---- the deeds
 
   side-law : (i : ℕ) (v : ℤ) (x : Side) → (check 222 (accepted s' x) >> passed (Change (Put i v x))) ≡ exam_deed (check 222 (accepted s x) >> passed (Change (Put i v x)))
-  unfolding accepted check ◌>>◌ exam_deed if◌then◌else◌
+  unfolding accepted check ◌>>◌ exam_deed if◌then◌otherwise◌
   side-law i v On = refl
   side-law i v Below = rw (w.on, w.off)
   side-law i v Above = rw (w.on, w.off)
@@ -159,27 +159,27 @@ module _ (s s' : Settings) (w : Switched s s') where
       steady-bind _ _ _ (λ g. rw (← value_same i (kind_of i) g) (put-law i (value_given s i (kind_of i) g) (side_given (kind_of i) g)))
 
   limit-law : (i : ℕ) (t : Text) → limit_deed s' i t ≡ exam_deed (limit_deed s i t)
-  unfolding limit_deed exam_deed if◌then◌else◌
+  unfolding limit_deed exam_deed if◌then◌otherwise◌
   limit-law i t = steady-bind _ _ _ (λ g. rw (given-same i g))
 
   -- ---- the others don't look at the settings
 
   register-law : (r : Register) (t : Text) → register_deed r t ≡ exam_deed (register_deed r t)
-  unfolding register_deed store_given exam_deed if◌then◌else◌
+  unfolding register_deed store_given exam_deed if◌then◌otherwise◌
   register-law r t = steady-bind _ _ _ (λ g. steady-check 222 _ _ _ refl)
 
   saving-law : (x : savings.Saving) (t : Text) → saving_deed x t ≡ exam_deed (saving_deed x t)
-  unfolding saving_deed place_given exam_deed if◌then◌else◌
+  unfolding saving_deed place_given exam_deed if◌then◌otherwise◌
   saving-law x t = steady-bind _ _ _ (λ g. steady-check 222 _ _ _ refl)
 
   label-law : (t : Text) → label_deed t ≡ exam_deed (label_deed t)
-  unfolding label_deed exam_deed if◌then◌else◌
+  unfolding label_deed exam_deed if◌then◌otherwise◌
   label-law t =
       if-elim (λ (m : Checked Deed). m ≡ exam_deed m) (is_quote (first t))
       (λ _. steady-check 151 _ _ _ (steady-check 150 _ _ _ (steady-check 223 _ _ _ refl))) (λ _. refl)
 
   deed-law : (r : Role) (asked : Bool) (ps : List Text) → steady r ≡ true → deed_of s' r asked ps ≡ exam_deed (deed_of s r asked ps)
-  unfolding deed_of exam_deed steady if◌then◌else◌
+  unfolding deed_of exam_deed steady if◌then◌otherwise◌
   deed-law (setting i) true [] e = refl
   deed-law (setting i) true (t ∷ ts) e = limit-law i t
   deed-law (setting i) false [] e = refl

@@ -7,7 +7,7 @@ use lib.Dec.{eqb}
 use lib.IntN.{ℤ, pos, negsuc}
 use lib.Signed.{le_z}
 use borrow.Author.Tests.{leb-true, lt-leb, eqb-true}
-use Rattle.registers.specs.Text.{if◌then◌else◌}
+use Rattle.registers.specs.Text.{if◌then◌otherwise◌}
 use Rattle.registers.specs.Settings.{count, range, range2, conflict, twelve_volts, wide_range, lowest, value_at, within}
 use Rattle.registers.specs.declared.settings.Settings.{Settings}
 use Rattle.registers.proofs.Tests.{and_both, and-fails, lt_z-not}
@@ -32,7 +32,7 @@ text-within b own es =
 -- a channel's voltage in the lower range
 pub narrow-voltage : {volts wide : ℕ} → Channel volts wide → volts < count → (s : Settings) → Good s → wide_range s wide ≡ false
     → le_z (value_at s volts) twelve_volts ≡ true
-unfolding within if◌then◌else◌
+unfolding within if◌then◌otherwise◌
 narrow-voltage {volts} {wide} k h s g e =
     rw (k.top s, e) at (and_both (le_z (lowest volts) (value_at s volts)) _ (g volts h)).1
 

@@ -1,7 +1,7 @@
 -- The laws of a history's steps: part by part, in other pieces, and over calls.
 use mathlib.Core.Path.{◌≡◌, refl, sym, ◌∙◌, ap, ap₂}
 use mathlib.Core.List.{List, [], ◌∷◌, ◌++◌, map, append-nil, append_assoc}
-use Rattle.registers.specs.Text.{Text, if◌then◌else◌}
+use Rattle.registers.specs.Text.{Text, if◌then◌otherwise◌}
 use Rattle.interpreter.specs.Box.{Box, power_up}
 use Rattle.interpreter.specs.Line.{end_line, byte, piece}
 use Rattle.interpreter.specs.Events.{Event, started, received, take, condition, look, altered, mislent, happens, after}
@@ -20,7 +20,7 @@ steps-append b (e ∷ es) fs =
 
 -- a newline, and a power-up, begin what comes after them
 pub newline-steps : (b : Box) (h : List Event) → steps b (newline ∷ h) ≡ end_steps b ++ steps (end_line b) h
-unfolding steps event_steps piece_steps byte_steps happens piece byte if◌then◌else◌
+unfolding steps event_steps piece_steps byte_steps happens piece byte if◌then◌otherwise◌
 newline-steps b h = ap (λ (l : List Step). l ++ steps (end_line b) h) (append-nil (end_steps b))
 
 pub started-steps : (b : Box) (h : List Event) → steps b (started ∷ h) ≡ powers_up b ∷ steps (power_up b.core.memory) h

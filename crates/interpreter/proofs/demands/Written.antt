@@ -9,7 +9,7 @@ use lib.Dec.{eqb}
 use lib.ListN.{length, take, replicate, length-replicate}
 use lib.Seq.{take-append_seam}
 use borrow.Author.Tests.{not-true}
-use Rattle.registers.specs.Text.{Text, if◌then◌else◌, every}
+use Rattle.registers.specs.Text.{Text, if◌then◌otherwise◌, every}
 use Rattle.registers.specs.Settings.{AsLong}
 use Rattle.registers.proofs.Tests.{and_both, and-true}
 use Rattle.interpreter.specs.Cuts.{join_first}
@@ -46,15 +46,15 @@ joined-answers b x (l ∷ ls) e = refl
 
 answers-on : (xs ys : Text) (b : Box) → b.core.answer ≡ []
     → answers_to b (lines_of (xs ++ ys)) ≡ answers_to b (lines_of xs) ++ answers_to (heard b (lines_of xs)) (lines_of ys)
-unfolding lines_of heard answers_to if◌then◌else◌
+unfolding lines_of heard answers_to if◌then◌otherwise◌
 answers-on [] ys b e = refl
 answers-on (x ∷ xs) ys b e = go (eqb x 10) refl (λ c k. answers-on xs ys c k)
   where
     go : (t : Bool) → eqb x 10 ≡ t
         → ((c : Box) → c.core.answer ≡ [] → answers_to c (lines_of (xs ++ ys)) ≡ answers_to c (lines_of xs) ++ answers_to (heard c (lines_of xs)) (lines_of ys))
-        → answers_to b (if t then (x ∷ []) ∷ lines_of (xs ++ ys) else join_first x (lines_of (xs ++ ys)))
-        ≡ answers_to b (if t then (x ∷ []) ∷ lines_of xs else join_first x (lines_of xs))
-        ++ answers_to (heard b (if t then (x ∷ []) ∷ lines_of xs else join_first x (lines_of xs))) (lines_of ys)
+        → answers_to b (if t then (x ∷ []) ∷ lines_of (xs ++ ys) otherwise join_first x (lines_of (xs ++ ys)))
+        ≡ answers_to b (if t then (x ∷ []) ∷ lines_of xs otherwise join_first x (lines_of xs))
+        ++ answers_to (heard b (if t then (x ∷ []) ∷ lines_of xs otherwise join_first x (lines_of xs))) (lines_of ys)
     go true q more =
         let said = (happens b (received (x ∷ []))).box.core.answer in
         ap (λ (t : Text). said ++ t) (more (heard_line b (x ∷ [])) refl) ∙ sym (append_assoc said _ _)
@@ -95,7 +95,7 @@ unfolding power_up
 started-quiet m = refl
 
 pub lines-begin-heard : LinesBeginHeard
-unfolding power_up lines_of heard happens piece byte if◌then◌else◌
+unfolding power_up lines_of heard happens piece byte if◌then◌otherwise◌
 lines-begin-heard m = (
   (refl, refl),
   λ before.
@@ -105,7 +105,7 @@ lines-begin-heard m = (
 -- ---- one line
 
 ends-line : (b : Box) (l : Text) → piece b (l ++ 10 ∷ []) ≡ end_line (piece b l)
-unfolding piece byte if◌then◌else◌
+unfolding piece byte if◌then◌otherwise◌
 ends-line b l = (demand2.parts b l (10 ∷ [])).0
 
 abbrev Plain : Text → Type 0
@@ -129,7 +129,7 @@ plain-take (suc k) [] t = refl
 plain-take (suc k) (x ∷ l) t = let p = plain_more x l t in plain-from x (take k l) p.0 (plain-take k l p.1)
 
 one-line : (l : Text) → Plain l → lines_of (l ++ 10 ∷ []) ≡ (l ++ 10 ∷ []) ∷ []
-unfolding lines_of if◌then◌else◌
+unfolding lines_of if◌then◌otherwise◌
 one-line [] t = refl
 one-line (x ∷ l) t = let p = plain_more x l t in rw (p.0, one-line l p.1)
 

@@ -12,7 +12,7 @@ use lib.ListN.{length, take, drop, get_or, length-take, length-drop, length-appe
 use lib.Seq.{take_all, take-add, take-suc, take-nil, length-take-le, paste, take-paste}
 use borrow.Author.Tests.{lt-ltb, le-ltb, eqb-true, ltb-true, ltb-false}
 use Rattle.registers.specs.Text.{index_of, index_after}
-use Rattle.registers.specs.Text.{Text, if◌then◌else◌}
+use Rattle.registers.specs.Text.{Text, if◌then◌otherwise◌}
 use Rattle.interpreter.specs.Box.{Memory, memory, store_size, Core, Box, box, with_line, most_line}
 use Rattle.interpreter.specs.Line.{held, byte, piece, newlines}
 use Rattle.interpreter.specs.FlowParts.{flow_box, FlowFits, first_line, FlowFed}
@@ -22,7 +22,7 @@ use Rattle.interpreter.proofs.line.Pieces.{piece-append, newlines-append}
 -- ---- the first newline
 
 none_before : (l : Text) → newlines (take (index_of 10 l) l) ≡ 0
-unfolding newlines index_of index_after if◌then◌else◌
+unfolding newlines index_of index_after if◌then◌otherwise◌
 none_before [] = refl
 none_before (x ∷ l) = go (eqb x 10) refl (none_before l)
   where
@@ -91,7 +91,7 @@ filled c part = with_line (c.line ++ take (most_line - length c.line) part) (c.o
 
 -- one more, where there is room and where there is none
 held_more : (c : Core) (x : ℕ) (xs : Text) → length c.line ≤ most_line → filled (held x c) xs ≡ filled c (x ∷ xs)
-unfolding held if◌then◌else◌
+unfolding held if◌then◌otherwise◌
 held_more c x xs h = go (ltb (length c.line) most_line) refl
   where
     go : (t : Bool) → ltb (length c.line) most_line ≡ t → filled (held x c) xs ≡ filled c (x ∷ xs)
@@ -106,7 +106,7 @@ held_more c x xs h = go (ltb (length c.line) most_line) refl
         rw (e, r, lt-ltb 0 (suc (length xs)) (omega arith), or-true c.overlong)
 
 held-within : (c : Core) (x : ℕ) → length c.line ≤ most_line → length (held x c).line ≤ most_line
-unfolding held if◌then◌else◌
+unfolding held if◌then◌otherwise◌
 held-within c x h = go (ltb (length c.line) most_line) refl
   where
     go : (t : Bool) → ltb (length c.line) most_line ≡ t → length (held x c).line ≤ most_line
@@ -115,7 +115,7 @@ held-within c x h = go (ltb (length c.line) most_line) refl
 
 pub piece-held : (part : Text) (b : Box) → newlines part ≡ 0 → length b.core.line ≤ most_line
     → piece b part ≡ box (filled b.core part) b.trouble
-unfolding piece byte newlines if◌then◌else◌
+unfolding piece byte newlines if◌then◌otherwise◌
 piece-held [] b z h =
     rw (take-nil (most_line - length b.core.line), append-nil b.core.line, le-ltb (most_line - length b.core.line) 0 (omega arith), or-false b.core.overlong)
 piece-held (x ∷ xs) b z h = go (eqb x 10) refl (λ c k l. piece-held xs c k l)

@@ -8,7 +8,7 @@ use Prim.Native.Char.{code}
 use native.Mathlib.Omega.{arith}
 use lib.Dec.{ltb, eqb}
 use borrow.Author.Tests.{eqb-true, ne_eqb, le-leb, lt-leb, ltb-true, ltb-false}
-use Rattle.registers.specs.Text.{Text, if◌then◌else◌, white, printable, digit, small, letter, word_byte, every, first, rest, below}
+use Rattle.registers.specs.Text.{Text, if◌then◌otherwise◌, white, printable, digit, small, letter, word_byte, every, first, rest, below}
 use Rattle.registers.specs.Check.{Checked, refused, passed, check, ◌>>◌}
 use Rattle.registers.proofs.Tests.{and_both, and-true, below_at}
 use Rattle.interpreter.specs.Cuts.{join_first, cut_at, is_quote}
@@ -76,11 +76,11 @@ join-bytes p b (u ∷ us) h =
 
 cut-bytes : (p q : ℕ → Bool) (s : ℕ) → q s ≡ true → ((b : ℕ) → p b ≡ true → q b ≡ true)
     → (t : Text) → every (every p) (cut_at s t) ≡ true → every q t ≡ true
-unfolding cut_at if◌then◌else◌
+unfolding cut_at if◌then◌otherwise◌
 cut-bytes p q s e f [] h = refl
 cut-bytes p q s e f (b ∷ bs) h = go (eqb b s) refl h (λ k. cut-bytes p q s e f bs k)
   where
-    go : (t : Bool) → eqb b s ≡ t → every (every p) (if t then [] ∷ cut_at s bs else join_first b (cut_at s bs)) ≡ true
+    go : (t : Bool) → eqb b s ≡ t → every (every p) (if t then [] ∷ cut_at s bs otherwise join_first b (cut_at s bs)) ≡ true
         → (every (every p) (cut_at s bs) ≡ true → every q bs ≡ true) → every q (b ∷ bs) ≡ true
     go true r k ih = and-true (ap q (eqb-true b s r) ∙ e) (ih k)
     go false r k ih = let j = join-bytes p b (cut_at s bs) k in and-true (f b j.0) (ih j.1)
@@ -142,13 +142,13 @@ body-solid t x e =
 
 -- and so of a header that is no query
 pub header-is-solid : (h : Text) (x : Header) → header h ≡ passed x → x.query ≡ false → every solid h ≡ true
-unfolding body_of if◌then◌else◌
+unfolding body_of if◌then◌otherwise◌
 header-is-solid h x e set =
     let r = body-solid h x e in
     rw (r.1 ∙ set) at r.0
 
 pub header-is-unquoted : (h : Text) (x : Header) → header h ≡ passed x → x.query ≡ false → every unquoted h ≡ true
-unfolding header body_of if◌then◌else◌
+unfolding header body_of if◌then◌otherwise◌
 header-is-unquoted h x e set =
     let r = first-bytes (body_of h) (asks h) x e in
     rw (r.1 ∙ set) at (every_map header_byte unquoted header-unquoted (body_of h) r.0)

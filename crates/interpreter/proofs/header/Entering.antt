@@ -10,7 +10,7 @@ use native.Mathlib.Omega.{arith}
 use lib.ListN.{length, take, drop, set, length-append, length-take}
 use lib.Seq.{take_all, take-suc-set, take-append_seam, drop-drop}
 use borrow.Author.Tests.{ne_eqb}
-use Rattle.registers.specs.Text.{Text, if◌then◌else◌, visible, letter, small, digit, word_byte, every, empty, first, rest, start, after}
+use Rattle.registers.specs.Text.{Text, if◌then◌otherwise◌, visible, letter, small, digit, word_byte, every, empty, first, rest, start, after}
 use Rattle.registers.proofs.Tests.{is_true, and-true}
 use Rattle.registers.proofs.text.Laws.{rest_at, drop-start, start-passes}
 use Rattle.interpreter.specs.Header.{name}
@@ -45,21 +45,21 @@ module _ (keys : List ℕ) (count key : ℕ) (long : length keys ≡ most_names)
 -- ---- the name that a text starts with
 
 start-after : (p : ℕ → Bool) (u : Text) → u ≡ start p u ++ after p u
-unfolding if◌then◌else◌
+unfolding if◌then◌otherwise◌
 start-after p [] = refl
 start-after p (b ∷ t) = go (p b) (start-after p t)
   where
-    go : (e : Bool) → t ≡ start p t ++ after p t → b ∷ t ≡ (if e then b ∷ start p t else []) ++ (if e then after p t else b ∷ t)
+    go : (e : Bool) → t ≡ start p t ++ after p t → b ∷ t ≡ (if e then b ∷ start p t otherwise []) ++ (if e then after p t otherwise b ∷ t)
     go true ih = ap (λ (l : Text). b ∷ l) ih
     go false ih = refl
 
 -- the byte after a longest start doesn't pass
 after_first : (p : ℕ → Bool) → p 0 ≡ false → (u : Text) → p (first (after p u)) ≡ false
-unfolding if◌then◌else◌
+unfolding if◌then◌otherwise◌
 after_first p z [] = z
 after_first p z (b ∷ t) = go (p b) refl (after_first p z t)
   where
-    go : (e : Bool) → p b ≡ e → p (first (after p t)) ≡ false → p (first (if e then after p t else b ∷ t)) ≡ false
+    go : (e : Bool) → p b ≡ e → p (first (after p t)) ≡ false → p (first (if e then after p t otherwise b ∷ t)) ≡ false
     go true q ih = ih
     go false q ih = q
 
@@ -72,36 +72,36 @@ not-digit b e = go (digit b) refl
     go false q = q
 
 some_key : (b : ℕ) (t : Text) → letter b ≡ true → 0 < key_of (b ∷ t)
-unfolding key_of word_key with_code if◌then◌else◌
+unfolding key_of word_key with_code if◌then◌otherwise◌
 some_key b t e = let s = code-some b (letter-stem b e) in rw (not-digit b e) (omega arith)
 
 module _ (u : Text) where
   -- a number that is 0 is that of no name
   pub unnamed : key_of (name_in u) ≡ 0 → letter (first u) ≡ false
-  unfolding name_in letter small if◌then◌else◌
+  unfolding name_in letter small if◌then◌otherwise◌
   unnamed e = go u (letter (first u)) refl e
     where
-      go : (t : Text) (l : Bool) → letter (first t) ≡ l → key_of (if l then start word_byte t else []) ≡ 0 → l ≡ false
+      go : (t : Text) (l : Bool) → letter (first t) ≡ l → key_of (if l then start word_byte t otherwise []) ≡ 0 → l ≡ false
       go t false q k = refl
       go [] true q k = absurd (false≢true q)
       go (b ∷ t) true q k = absurd (let s = some_key b (start word_byte t) q in let z : key_of (b ∷ start word_byte t) ≡ 0 = rw (letter-word b q) at k in omega arith)
 
   pub named : (key_of (name_in u) ≡ 0 → ⊥) → letter (first u) ≡ true
-  unfolding name_in key_of word_key class_of if◌then◌else◌
+  unfolding name_in key_of word_key class_of if◌then◌otherwise◌
   named ne = go (letter (first u)) refl ne
     where
-      go : (l : Bool) → letter (first u) ≡ l → (key_of (if l then start word_byte u else []) ≡ 0 → ⊥) → l ≡ true
+      go : (l : Bool) → letter (first u) ≡ l → (key_of (if l then start word_byte u otherwise []) ≡ 0 → ⊥) → l ≡ true
       go true q n = refl
       go false q n = absurd (n refl)
 
   module _ (e : letter (first u) ≡ true) where
     name-is : name_in u ≡ start word_byte u
-    unfolding name_in if◌then◌else◌
+    unfolding name_in if◌then◌otherwise◌
     name-is = rw e
 
     -- it is the longest start of bytes that a name has
     pub is_name : name (name_in u) ≡ true
-    unfolding name letter small if◌then◌else◌
+    unfolding name letter small if◌then◌otherwise◌
     is_name = rw name-is (go u e)
       where
         go : (t : Text) → letter (first t) ≡ true → (letter (first (start word_byte t)) && every word_byte (start word_byte t)) ≡ true

@@ -8,7 +8,7 @@ use lib.Dec.{eqb}
 use lib.ListN.{length, take, drop}
 use borrow.Author.Tests.{eqb-true}
 use mir.Val.{bool_byte}
-use Rattle.registers.specs.Text.{Text, if◌then◌else◌, white, visible, letter, small, every, first, start}
+use Rattle.registers.specs.Text.{Text, if◌then◌otherwise◌, white, visible, letter, small, every, first, start}
 use Rattle.registers.specs.Check.{refused, passed, check, ◌>>◌}
 use Rattle.registers.proofs.Tests.{and_both}
 use Rattle.interpreter.specs.Cuts.{cut_at}
@@ -30,7 +30,7 @@ use Rattle.interpreter.proofs.deed.Laws.{place-row}
 
 -- an empty text is no header
 pub header-none : header [] ≡ refused 102
-unfolding body_of by_first header placed name cut_at letter small if◌then◌else◌ ◌>>◌ check
+unfolding body_of by_first header placed name cut_at letter small if◌then◌otherwise◌ ◌>>◌ check
 header-none = refl
 
 abbrev place_of : Bool → Bool → Place
@@ -46,19 +46,19 @@ pub record Led (t : Text) (s r : Bool) : Type 0 where
   pub long : length (start visible t) ≡ bool_byte (s || r) + length (start visible (drop (bool_byte (s || r)) t))
 
 led-star : (u : Text) → Led ((code "*") ∷ u) true false
-unfolding header by_first names_in white if◌then◌else◌
+unfolding header by_first names_in white if◌then◌otherwise◌
 led-star u =
     let h = start visible u in
     record { one = λ e. refl; is = rw (body-cons (code "*") h refl, asks-cons (code "*") h refl); long = omega arith }
 
 led-root : (u : Text) → Led ((code ":") ∷ u) false true
-unfolding header by_first names_in white if◌then◌else◌
+unfolding header by_first names_in white if◌then◌otherwise◌
 led-root u =
     let h = start visible u in
     record { one = λ e. absurd (false≢true e); is = rw (body-cons (code ":") h refl, asks-cons (code ":") h refl); long = omega arith }
 
 led-here : (t : Text) → eqb (first t) (code "*") ≡ false → eqb (first t) (code ":") ≡ false → Led t false false
-unfolding header by_first names_in if◌then◌else◌
+unfolding header by_first names_in if◌then◌otherwise◌
 led-here t e f =
     let a = body-first (λ b. eqb b (code "*")) refl t e in
     let b = body-first (λ b. eqb b (code ":")) refl t f in
@@ -116,7 +116,7 @@ module _ (t : Text) {s r : Bool} (l : Led t s r) where
 module _ (t : Text) (before : List ℕ) (used : ℕ) (room : used < most_names) (was : length before ≡ most_names)
     (keys : List ℕ) (long : length keys ≡ most_names) (x : Names) where
   first-at : (s r : Bool) → Led t s r → NamesGood (not s) t (bool_byte (s || r)) (take (or_zero (not r) used) before) x keys → or_zero s used ≤ x.count
-  unfolding names_in if◌then◌else◌
+  unfolding names_in if◌then◌otherwise◌
   first-at false r l g = omega arith
   first-at true true l g = absurd (false≢true (sym (l.one refl)))
   first-at true false l g =
@@ -133,7 +133,7 @@ module _ (t : Text) (path : List Text) (before : List ℕ) (used : ℕ) (p : Hol
       → NamesGood (not s) t (bool_byte (s || r)) (take (or_zero (not r) used) before) x keys
       → row ≡ deeds.place_of (row_of_keys s (drop (or_zero s used) (take x.count keys)) x.asked) (class_in (drop (or_zero s used) (take x.count keys)))
       → LookedUp path t (At (record { place = row; asked = x.asked }) (x.count - 1) x.end) keys
-  unfolding names_in if◌then◌else◌
+  unfolding names_in if◌then◌otherwise◌
   look_at true false l good g f =
       let name_of = body_of (start visible (drop 1 t)) in
       let e = (and_both (name name_of) true good).0 in

@@ -6,7 +6,7 @@ use mathlib.Core.List.{List, [], ◌∷◌, map}
 use Prim.Native.Nat.{ℕ, suc, ◌≤◌, ◌<◌}
 use native.Mathlib.Omega.{arith}
 use lib.ListN.{length, get_or}
-use Rattle.registers.specs.Text.{Text, if◌then◌else◌}
+use Rattle.registers.specs.Text.{Text, if◌then◌otherwise◌}
 use Rattle.registers.specs.Check.{refused, passed}
 use Rattle.interpreter.specs.Rows.{Row, rows, fits_row, find_row}
 use Rattle.interpreter.specs.DeedParts.{row_count, row_role}
@@ -24,24 +24,24 @@ module _ (star : Bool) (names : List Text) (asked : Bool) where
   role_of r = r.role
 
   none_in : (l : List Row) → length l ≤ first_fit fits l → find_row star names asked l ≡ refused 113
-  unfolding find_row first_fit if◌then◌else◌
+  unfolding find_row first_fit if◌then◌otherwise◌
   none_in [] h = refl
   none_in (r ∷ l) h = go (fits r) (none_in l) h
     where
       go : (b : Bool) → (length l ≤ first_fit fits l → find_row star names asked l ≡ refused 113)
-          → suc (length l) ≤ (if b then 0 else suc (first_fit fits l))
-          → (if b then passed r.role else find_row star names asked l) ≡ refused 113
+          → suc (length l) ≤ (if b then 0 otherwise suc (first_fit fits l))
+          → (if b then passed r.role otherwise find_row star names asked l) ≡ refused 113
       go true ih k = absurd (omega arith)
       go false ih k = ih (omega arith)
 
   found_in : (l : List Row) (d : Role) → first_fit fits l < length l → find_row star names asked l ≡ passed (get_or (map role_of l) (first_fit fits l) d)
-  unfolding find_row first_fit if◌then◌else◌
+  unfolding find_row first_fit if◌then◌otherwise◌
   found_in [] d h = absurd (omega arith)
   found_in (r ∷ l) d h = go (fits r) (found_in l d) h
     where
       go : (b : Bool) → (first_fit fits l < length l → find_row star names asked l ≡ passed (get_or (map role_of l) (first_fit fits l) d))
-          → (if b then 0 else suc (first_fit fits l)) < suc (length l)
-          → (if b then passed r.role else find_row star names asked l) ≡ passed (get_or (map role_of (r ∷ l)) (if b then 0 else suc (first_fit fits l)) d)
+          → (if b then 0 otherwise suc (first_fit fits l)) < suc (length l)
+          → (if b then passed r.role otherwise find_row star names asked l) ≡ passed (get_or (map role_of (r ∷ l)) (if b then 0 otherwise suc (first_fit fits l)) d)
       go true ih k = refl
       go false ih k = ih (omega arith)
 

@@ -9,7 +9,7 @@ use lib.Dec.{ltb}
 use lib.ListN.{length, take, drop, length-append, length-take, length-map}
 use borrow.Author.Tests.{ltb-true, ltb-false}
 use lib.Seq.{length-take-le, take_all, take-take, take-append_seam, drop-append_seam}
-use Rattle.registers.specs.Text.{Text, if◌then◌else◌, every}
+use Rattle.registers.specs.Text.{Text, if◌then◌otherwise◌, every}
 use Rattle.registers.proofs.Tests.{and_both, and-true, every_append}
 use Rattle.interpreter.specs.Cuts.{front}
 use Rattle.interpreter.specs.Header.{name, suffix_in}
@@ -23,13 +23,13 @@ use Rattle.interpreter.proofs.rows.Suffixes.{class-names}
 use Rattle.interpreter.proofs.deed.Laws.{place-nowhere}
 
 every_front {ℓ} : {A : Type ℓ} (p : A → Bool) (l : List A) → every p l ≡ true → every p (front l) ≡ true
-unfolding if◌then◌else◌
+unfolding if◌then◌otherwise◌
 every_front p [] e = refl
 every_front p (x ∷ []) e = refl
 every_front p (x ∷ y ∷ l) e = let q = and_both (p x) (every p (y ∷ l)) e in and-true q.0 (every_front p (y ∷ l) q.1)
 
 front-keys : (l : List Text) → map key_of (front l) ≡ take (length l - 1) (map key_of l)
-unfolding if◌then◌else◌
+unfolding if◌then◌otherwise◌
 front-keys [] = refl
 front-keys (x ∷ []) = refl
 front-keys (x ∷ y ∷ l) =

@@ -9,7 +9,7 @@ use lib.Dec.{eqb, leb}
 use lib.ListN.{length, length-append}
 use borrow.Author.Tests.{eqb-true, ne_eqb, leb-true, lt-leb}
 use mir.Val.{bool_byte}
-use Rattle.registers.specs.Text.{Text, if◌then◌else◌, white, visible, letter, small, digit, word_byte, every, empty, first, start}
+use Rattle.registers.specs.Text.{Text, if◌then◌otherwise◌, white, visible, letter, small, digit, word_byte, every, empty, first, start}
 use Rattle.registers.proofs.Tests.{and_both, and_assoc, and-fails}
 use Rattle.interpreter.specs.Cuts.{front, join_first, cut_at}
 use Rattle.interpreter.specs.Header.{name, asks, body_of}
@@ -45,38 +45,38 @@ word-visible b e = go (leb b 32) refl
 -- ---- the `?` at the end
 
 pub asks-cons : (x : ℕ) (r : Text) → eqb x (code "?") ≡ false → asks (x ∷ r) ≡ asks r
-unfolding if◌then◌else◌
+unfolding if◌then◌otherwise◌
 asks-cons x [] e = e
 asks-cons x (y ∷ r) e = refl
 
 body_more : (x y : ℕ) (r : Text) → body_of (x ∷ y ∷ r) ≡ x ∷ body_of (y ∷ r)
-unfolding body_of if◌then◌else◌
+unfolding body_of if◌then◌otherwise◌
 body_more x y r = go (asks (y ∷ r))
   where
-    go : (q : Bool) → (if q then x ∷ front (y ∷ r) else x ∷ y ∷ r) ≡ x ∷ (if q then front (y ∷ r) else y ∷ r)
+    go : (q : Bool) → (if q then x ∷ front (y ∷ r) otherwise x ∷ y ∷ r) ≡ x ∷ (if q then front (y ∷ r) otherwise y ∷ r)
     go true = refl
     go false = refl
 
 pub body-cons : (x : ℕ) (r : Text) → eqb x (code "?") ≡ false → body_of (x ∷ r) ≡ x ∷ body_of r
-unfolding body_of if◌then◌else◌
+unfolding body_of if◌then◌otherwise◌
 body-cons x [] e = rw e
 body-cons x (y ∷ r) e = body_more x y r
 
 body-none : body_of [] ≡ []
-unfolding body_of if◌then◌else◌
+unfolding body_of if◌then◌otherwise◌
 body-none = refl
 
 body-mark : body_of ((code "?") ∷ []) ≡ []
-unfolding body_of if◌then◌else◌
+unfolding body_of if◌then◌otherwise◌
 body-mark = refl
 
 -- a header's body starts as the text does, or is empty
 pub body-first : (p : ℕ → Bool) → p 0 ≡ false → (u : Text) → p (first u) ≡ false → p (first (body_of (start visible u))) ≡ false
-unfolding if◌then◌else◌
+unfolding if◌then◌otherwise◌
 body-first p z [] e = rw body-none z
 body-first p z (b ∷ t) e = go (visible b) (start visible t)
   where
-    go : (d : Bool) (r : Text) → p (first (body_of (if d then b ∷ r else []))) ≡ false
+    go : (d : Bool) (r : Text) → p (first (body_of (if d then b ∷ r otherwise []))) ≡ false
     go false r = rw body-none z
     go true (y ∷ r) = rw (body_more b y r) e
     go true [] = one (eqb b (code "?")) refl
@@ -119,17 +119,17 @@ unfolding name letter small
 nameless = refl
 
 cut-other : (u : Text) → letter (first u) ≡ false → every name (cut_at (code ":") u) ≡ false
-unfolding cut_at if◌then◌else◌
+unfolding cut_at if◌then◌otherwise◌
 cut-other [] e = rw nameless
 cut-other (b ∷ t) e = go (eqb b (code ":"))
   where
-    go : (q : Bool) → every name (if q then [] ∷ cut_at (code ":") t else join_first b (cut_at (code ":") t)) ≡ false
+    go : (q : Bool) → every name (if q then [] ∷ cut_at (code ":") t otherwise join_first b (cut_at (code ":") t)) ≡ false
     go true = rw nameless
     go false = join-other b (cut_at (code ":") t) e
 
 module _ (x : ℕ) (r : Text) (f : word_byte x ≡ false) where
   cut-word-bad : eqb x (code ":") ≡ false → (w : Text) → every word_byte w ≡ true → first_word (cut_at (code ":") (w ++ x ∷ r)) ≡ false
-  unfolding cut_at if◌then◌else◌
+  unfolding cut_at if◌then◌otherwise◌
   cut-word-bad n [] e = rw n (join-word x (cut_at (code ":") r) ∙ rw f)
   cut-word-bad n (b ∷ w) e =
       let p = and_both (word_byte b) (every word_byte w) e in
@@ -137,7 +137,7 @@ module _ (x : ℕ) (r : Text) (f : word_byte x ≡ false) where
       (join-word b (cut_at (code ":") (w ++ x ∷ r)) ∙ and-fails (word_byte b) (first_word (cut_at (code ":") (w ++ x ∷ r))) (cut-word-bad n w p.1))
 
   cut-bad : eqb x (code ":") ≡ false → (w : Text) → name w ≡ true → every name (cut_at (code ":") (w ++ x ∷ r)) ≡ false
-  unfolding cut_at name if◌then◌else◌
+  unfolding cut_at name if◌then◌otherwise◌
   cut-bad n [] e = absurd (false≢true (sym nameless ∙ e))
   cut-bad n (b ∷ w) e =
       let p = and_both (word_byte b) (every word_byte w) (and_both (letter b) (word_byte b && every word_byte w) e).1 in
@@ -155,7 +155,7 @@ module _ (x : ℕ) (r : Text) (f : word_byte x ≡ false) where
 
 module _ (z : Text) where
   visible-word : (w : Text) → every word_byte w ≡ true → start visible (w ++ z) ≡ w ++ start visible z
-  unfolding if◌then◌else◌
+  unfolding if◌then◌otherwise◌
   visible-word [] e = refl
   visible-word (b ∷ w) e =
       let p = and_both (word_byte b) (every word_byte w) e in
@@ -184,7 +184,7 @@ append-none (b ∷ w) = ap (λ (u : Text). b ∷ u) (append-none w)
 
 -- no letter starts a text
 pub scan-none : (joined : Bool) (u : Text) → letter (first u) ≡ false → every name (names_in joined u) ≡ false
-unfolding names_in name letter small if◌then◌else◌
+unfolding names_in name letter small if◌then◌otherwise◌
 scan-none true u e = cut-other (body_of (start visible u)) (body-first letter refl u e)
 scan-none false u e = let f = body-first letter refl u e in rw f
 
@@ -196,11 +196,11 @@ module _ (w : Text) (good : name w ≡ true) where
   -- a colon joins another name
   module _ (r : Text) where
     joined-visible : start visible (w ++ (code ":") ∷ r) ≡ w ++ (code ":") ∷ start visible r
-    unfolding white if◌then◌else◌
+    unfolding white if◌then◌otherwise◌
     joined-visible = visible-word ((code ":") ∷ r) w words
 
     pub scan-on : names_in true (w ++ (code ":") ∷ r) ≡ w ∷ names_in true r
-    unfolding names_in if◌then◌else◌
+    unfolding names_in if◌then◌otherwise◌
     scan-on =
         rw (joined-visible, body-word ((code ":") ∷ start visible r) w words, body-cons (code ":") (start visible r) refl)
         (cut-more (code ":") w (body_of (start visible r)) (word-free w words))
@@ -222,19 +222,19 @@ module _ (w : Text) (good : name w ≡ true) where
       Left l q = (body_of l ≡ []) × (asks l ≡ q) × (length l ≡ bool_byte q)
 
       left : Left (start visible z) asked
-      unfolding unasked if◌then◌else◌ white
+      unfolding unasked if◌then◌otherwise◌ white
       left = go z refl
         where
           go : (t : Text) → z ≡ t → Left (start visible z) asked
           go [] e = rw e (body-none, refl, refl)
           go (x ∷ t) e = rw e (one (eqb x (code "?")) refl (rw e at closed))
             where
-              one : (q : Bool) → eqb x (code "?") ≡ q → empty (start visible (if q then t else x ∷ t)) ≡ true → Left (start visible (x ∷ t)) q
+              one : (q : Bool) → eqb x (code "?") ≡ q → empty (start visible (if q then t otherwise x ∷ t)) ≡ true → Left (start visible (x ∷ t)) q
               one true q k = rw (eqb-true x (code "?") q, is-empty (start visible t) k) (body-mark, refl, refl)
               one false q k = rw (is-empty (start visible (x ∷ t)) k) (body-none, refl, refl)
 
       pub scan-last : (joined : Bool) → names_in joined (w ++ z) ≡ w ∷ []
-      unfolding names_in if◌then◌else◌
+      unfolding names_in if◌then◌otherwise◌
       scan-last true = rw (visible-word z w words, body-word (start visible z) w words, left.0, append-none w) (cut-one (code ":") w (word-free w words))
       scan-last false = rw (visible-word z w words, body-word (start visible z) w words, left.0, append-none w)
 
@@ -250,15 +250,15 @@ module _ (w : Text) (good : name w ≡ true) where
       Goes l = (r : Text) × (body_of l ≡ first z ∷ r)
 
       goes : Goes (start visible z)
-      unfolding unasked white if◌then◌else◌
+      unfolding unasked white if◌then◌otherwise◌
       goes = go z refl
         where
           go : (t : Text) → z ≡ t → Goes (start visible z)
           go [] e = absurd (false≢true (sym (rw e at goes-on)))
           go (x ∷ t) e = rw e (one (eqb x (code "?")) refl (visible x) refl (rw e at goes-on))
             where
-              one : (q : Bool) → eqb x (code "?") ≡ q → (d : Bool) → visible x ≡ d → empty (start visible (if q then t else x ∷ t)) ≡ false
-                  → (r : Text) × (body_of (if d then x ∷ start visible t else []) ≡ x ∷ r)
+              one : (q : Bool) → eqb x (code "?") ≡ q → (d : Bool) → visible x ≡ d → empty (start visible (if q then t otherwise x ∷ t)) ≡ false
+                  → (r : Text) × (body_of (if d then x ∷ start visible t otherwise []) ≡ x ∷ r)
               one false q true k o = (body_of (start visible t), body-cons x (start visible t) q)
               one false q false k o = absurd (false≢true (sym (rw k at o)))
               one true q true k o = two (start visible t) o
@@ -269,7 +269,7 @@ module _ (w : Text) (good : name w ≡ true) where
               one true q false k o = absurd (false≢true (sym (rw (eqb-true x (code "?") q) at k)))
 
       pub scan-bad : (joined : Bool) → (joined ≡ true → eqb (first z) (code ":") ≡ false) → every name (names_in joined (w ++ z)) ≡ false
-      unfolding names_in if◌then◌else◌
+      unfolding names_in if◌then◌otherwise◌
       scan-bad true n =
           rw (visible-word z w words, body-word (start visible z) w words, goes.1) (cut-bad (first z) goes.0 other (n refl) w good)
       scan-bad false n =

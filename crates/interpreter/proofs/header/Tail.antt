@@ -8,7 +8,7 @@ use lib.Dec.{eqb}
 use lib.ListN.{length, get_or, drop}
 use borrow.Author.Tests.{eq-eqb, eqb-true, not-false}
 use mir.Val.{bool_byte}
-use Rattle.registers.specs.Text.{Text, if◌then◌else◌, white, visible, empty, first, rest, start}
+use Rattle.registers.specs.Text.{Text, if◌then◌otherwise◌, white, visible, empty, first, rest, start}
 use Rattle.registers.proofs.text.Laws.{rest_at, first-within, start-more, start-stop, start-end}
 use Prim.Native.Char.{code}
 use Rattle.interpreter.specs.HeaderParts.{unasked, TailRead}
@@ -39,10 +39,10 @@ module _ (t : Text) (at b : ℕ) (is : b ≡ first (drop at t)) where
       go false q = omega arith
 
   after-mark : drop (at + bool_byte (eqb b (code "?"))) t ≡ unasked (drop at t)
-  unfolding unasked if◌then◌else◌
+  unfolding unasked if◌then◌otherwise◌
   after-mark = rw (sym is) (go (eqb b (code "?")))
     where
-      go : (q : Bool) → drop (at + bool_byte q) t ≡ (if q then rest (drop at t) else drop at t)
+      go : (q : Bool) → drop (at + bool_byte q) t ≡ (if q then rest (drop at t) otherwise drop at t)
       go true = sym (rest_at t at)
       go false = let z : at + 0 ≡ at = omega arith in rw z
 

@@ -10,7 +10,7 @@ use lib.Dec.{eqb, eqb-suc-suc}
 use lib.ListN.{length, take, set}
 use lib.Seq.{take-suc-set}
 use borrow.Author.Tests.{eq-eqb, ne_eqb}
-use Rattle.registers.specs.Text.{Text, if◌then◌else◌, start, white, every}
+use Rattle.registers.specs.Text.{Text, if◌then◌otherwise◌, start, white, every}
 use Rattle.registers.specs.declared.error.Error.TheVariants.{InputBufferOverrun}
 use Rattle.interpreter.specs.Box.{Memory, most_answer}
 use Rattle.interpreter.specs.Line.{run_units, finished, units_of, run_line, end_line}
@@ -26,7 +26,7 @@ use Rattle.interpreter.proofs.present.Laws.{raised-box}
 
 -- the white space at its start is all of it exactly where every byte is white
 whole-start : (p : ℕ → Bool) (l : Text) → eqb (length (start p l)) (length l) ≡ every p l
-unfolding if◌then◌else◌
+unfolding if◌then◌otherwise◌
 whole-start p [] = refl
 whole-start p (x ∷ l) = go (p x) refl (whole-start p l)
   where
@@ -46,21 +46,21 @@ module _ (l : Text) (n : ℕ) (is : n ≡ 0 + length (start white l)) where
 
 module _ (p : Present) (line : Text) (o : Bool) (m : Memory) where
   pub line-overlong : length p.status.errors ≡ most → o ≡ true → box_in (raised_with InputBufferOverrun p) [] m ≡ run_line line o (box_in p [] m)
-  unfolding run_line if◌then◌else◌
+  unfolding run_line if◌then◌otherwise◌
   line-overlong long e = rw e (raised-box InputBufferOverrun p m long [])
 
   pub line-blank : o ≡ false → every white line ≡ true → box_in p [] m ≡ run_line line o (box_in p [] m)
-  unfolding run_line units_of finished run_units if◌then◌else◌
+  unfolding run_line units_of finished run_units if◌then◌otherwise◌
   line-blank e b = rw (e, b)
 
   module _ (e : o ≡ false) (visible : every white line ≡ false) (r : Present) (out : Text) (m' : Memory) (ran : UnitsRan p line m r out m') where
     pub line-none : r.answered ≡ 0 → box_at r out m' ≡ run_line line o (box_in p [] m)
-    unfolding run_line units_of finished if◌then◌else◌
+    unfolding run_line units_of finished if◌then◌otherwise◌
     line-none z = rw (e, visible, ← ran.box, z)
 
     pub line-some : (r.answered ≡ 0 → ⊥) → length out ≡ most_answer
         → box_in r (take (r.answered + 1) (set out r.answered 10)) m' ≡ run_line line o (box_in p [] m)
-    unfolding run_line units_of finished if◌then◌else◌
+    unfolding run_line units_of finished if◌then◌otherwise◌
     line-some h long =
         let room = ran.room in
         rw (e, visible, ← ran.box, front-empty out r.answered (omega arith) ∙ ne_eqb r.answered 0 h, add-one r.answered, take-suc-set out r.answered 10 (omega arith))

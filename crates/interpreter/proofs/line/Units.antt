@@ -11,7 +11,7 @@ use lib.Dec.{ltb, leb-suc-suc}
 use lib.ListN.{length, take, drop, length-drop}
 use lib.Seq.{drop-drop}
 use borrow.Author.Tests.{ltb-true, ltb-false, lt-ltb, le-ltb}
-use Rattle.registers.specs.Text.{Text, if◌then◌else◌}
+use Rattle.registers.specs.Text.{Text, if◌then◌otherwise◌}
 use Rattle.registers.specs.Check.{refused, passed}
 use Rattle.registers.proofs.Tests.{and_both}
 use Rattle.interpreter.specs.Cuts.{quote_next, separates, cut_open}
@@ -32,10 +32,10 @@ use Rattle.interpreter.proofs.header.Path.{holds-none}
 -- the units after the first
 unfoldable others : ℕ → Text → List Text
 others mark l =
-    if ltb (place_open (code ";") mark l) (length l) then cut_open (code ";") 0 (drop (place_open (code ";") mark l + 1) l) else []
+    if ltb (place_open (code ";") mark l) (length l) then cut_open (code ";") 0 (drop (place_open (code ";") mark l + 1) l) otherwise []
 
 first-unit : (mark : ℕ) (l : Text) → cut_open (code ";") mark l ≡ take (place_open (code ";") mark l) l ∷ others mark l
-unfolding cut_open others place_open if◌then◌else◌
+unfolding cut_open others place_open if◌then◌otherwise◌
 first-unit mark [] = refl
 first-unit mark (x ∷ l) = go (separates (code ";") mark x) refl (first-unit (quote_next mark x) l)
   where
@@ -48,11 +48,11 @@ first-unit mark (x ∷ l) = go (separates (code ";") mark x) refl (first-unit (q
     go false e ih = rw (e, ih, leb-suc-suc (suc n) (length l), add-one (suc n), add-one n)
 
 others-more : (l : Text) → place_open (code ";") 0 l < length l → others 0 l ≡ cut_open (code ";") 0 (drop (place_open (code ";") 0 l + 1) l)
-unfolding others if◌then◌else◌
+unfolding others if◌then◌otherwise◌
 others-more l h = rw (lt-ltb (place_open (code ";") 0 l) (length l) h)
 
 others-none : (l : Text) → length l ≤ place_open (code ";") 0 l → others 0 l ≡ []
-unfolding others if◌then◌else◌
+unfolding others if◌then◌otherwise◌
 others-none l h = rw (le-ltb (place_open (code ";") 0 l) (length l) h)
 
 -- ---- units run one by one

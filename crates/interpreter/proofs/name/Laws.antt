@@ -9,7 +9,7 @@ use native.Mathlib.Omega.{arith}
 use lib.Dec.{eqb}
 use borrow.Author.Tests.{ne_eqb}
 use lib.ListN.{length, get_or, drop}
-use Rattle.registers.specs.Text.{Text, if◌then◌else◌, bytes, same, letter, small, digit, word_byte, every, first, start, after}
+use Rattle.registers.specs.Text.{Text, if◌then◌otherwise◌, bytes, same, letter, small, digit, word_byte, every, first, start, after}
 use Rattle.registers.proofs.text.Laws.{first-at, first-within, start-more, start-stop, start-end, end-drop, OnWay, way_on, way-stop, way_end}
 use Rattle.registers.proofs.Tests.{and_assoc}
 use Rattle.interpreter.specs.Header.{stem, suffix}
@@ -74,24 +74,24 @@ pub counting-none : (t : Text) (at : ℕ) → Counting t at true at
 counting-none t at = record { on = refl; way = refl; from = omega arith }
 
 class-is : (u : Text) → class_of (start word_byte u) ≡ class_by (first u) (length (start word_byte u)) (every digit (start word_byte u))
-unfolding class_of class_by same bytes if◌then◌else◌
+unfolding class_of class_by same bytes if◌then◌otherwise◌
 class-is [] = refl
 class-is (b ∷ u) = go (word_byte b) (start word_byte u)
   where
-    go : (w : Bool) (s : Text) → class_of (if w then b ∷ s else []) ≡ class_by b (length (if w then b ∷ s else [])) (every digit (if w then b ∷ s else []))
+    go : (w : Bool) (s : Text) → class_of (if w then b ∷ s otherwise []) ≡ class_by b (length (if w then b ∷ s otherwise [])) (every digit (if w then b ∷ s otherwise []))
     go false s = refl
     go true [] = one (eqb b 49) (eqb b 50)
       where
-        one : (x y : Bool) → ◌≡◌ {A = ℕ} (if x && true then 1 else (if y && true then 2 else (if digit b && true then 3 else 4)))
-            (if x then 1 else (if y then 2 else (if digit b && true then 3 else 4)))
+        one : (x y : Bool) → ◌≡◌ {A = ℕ} (if x && true then 1 otherwise (if y && true then 2 otherwise (if digit b && true then 3 otherwise 4)))
+            (if x then 1 otherwise (if y then 2 otherwise (if digit b && true then 3 otherwise 4)))
         one true y = refl
         one false true = refl
         one false false = refl
     go true (c ∷ s) =
         rw (ne_eqb (suc (suc (length s))) 0 (λ e. omega arith), ne_eqb (suc (suc (length s))) 1 (λ e. omega arith)) (two (eqb b 49) (eqb b 50))
       where
-        two : (x y : Bool) → ◌≡◌ {A = ℕ} (if x && false then 1 else (if y && false then 2 else (if digit b && (digit c && every digit s) then 3 else 4)))
-            (if digit b && (digit c && every digit s) then 3 else 4)
+        two : (x y : Bool) → ◌≡◌ {A = ℕ} (if x && false then 1 otherwise (if y && false then 2 otherwise (if digit b && (digit c && every digit s) then 3 otherwise 4)))
+            (if digit b && (digit c && every digit s) then 3 otherwise 4)
         two true true = refl
         two true false = refl
         two false true = refl
@@ -136,55 +136,55 @@ suffix-most t at r p = rw p.key (class-most (start word_byte (drop at t)))
 -- ---- a name is its stem and its suffix
 
 stem-start : (u : Text) → stem (start word_byte u) ≡ start stem_byte u
-unfolding if◌then◌else◌
+unfolding if◌then◌otherwise◌
 stem-start [] = refl
 stem-start (b ∷ u) = rw (stem-is b) (go (word_byte b) (digit b) refl (stem-start u))
   where
     go : (w d : Bool) → digit b ≡ d → stem (start word_byte u) ≡ start stem_byte u
-        → stem (if w then b ∷ start word_byte u else []) ≡ (if w && not d then b ∷ start stem_byte u else [])
+        → stem (if w then b ∷ start word_byte u otherwise []) ≡ (if w && not d then b ∷ start stem_byte u otherwise [])
     go false d q ih = refl
     go true true q ih = rw q
     go true false q ih = rw (q, ih)
 
 suffix-start : (u : Text) → suffix (start word_byte u) ≡ start word_byte (after stem_byte u)
-unfolding if◌then◌else◌
+unfolding if◌then◌otherwise◌
 suffix-start [] = refl
 suffix-start (b ∷ u) = rw (stem-is b) (go (word_byte b) refl (digit b) refl (suffix-start u))
   where
     go : (w : Bool) → word_byte b ≡ w → (d : Bool) → digit b ≡ d → suffix (start word_byte u) ≡ start word_byte (after stem_byte u)
-        → suffix (if w then b ∷ start word_byte u else []) ≡ start word_byte (if w && not d then after stem_byte u else b ∷ u)
+        → suffix (if w then b ∷ start word_byte u otherwise []) ≡ start word_byte (if w && not d then after stem_byte u otherwise b ∷ u)
     go false p d q ih = rw p
     go true p true q ih = rw (p, q)
     go true p false q ih = rw (q, ih)
 
 parts-length : (u : Text) → length (start word_byte u) ≡ length (start stem_byte u) + length (start word_byte (after stem_byte u))
-unfolding if◌then◌else◌
+unfolding if◌then◌otherwise◌
 parts-length [] = refl
 parts-length (b ∷ u) = rw (stem-is b) (go (word_byte b) refl (digit b) (parts-length u))
   where
     go : (w : Bool) → word_byte b ≡ w → (d : Bool) → length (start word_byte u) ≡ length (start stem_byte u) + length (start word_byte (after stem_byte u))
-        → length (if w then b ∷ start word_byte u else [])
-        ≡ length (if w && not d then b ∷ start stem_byte u else []) + length (start word_byte (if w && not d then after stem_byte u else b ∷ u))
+        → length (if w then b ∷ start word_byte u otherwise [])
+        ≡ length (if w && not d then b ∷ start stem_byte u otherwise []) + length (start word_byte (if w && not d then after stem_byte u otherwise b ∷ u))
     go false p d ih = rw p
     go true p true ih = rw p (omega arith)
     go true p false ih = omega arith
 
 -- what follows a stem is no byte of one
 after-stem : (u : Text) → stem_byte (first (after stem_byte u)) ≡ false
-unfolding letter small if◌then◌else◌
+unfolding letter small if◌then◌otherwise◌
 after-stem [] = refl
 after-stem (b ∷ u) = go (stem_byte b) refl (after-stem u)
   where
-    go : (s : Bool) → stem_byte b ≡ s → stem_byte (first (after stem_byte u)) ≡ false → stem_byte (first (if s then after stem_byte u else b ∷ u)) ≡ false
+    go : (s : Bool) → stem_byte b ≡ s → stem_byte (first (after stem_byte u)) ≡ false → stem_byte (first (if s then after stem_byte u otherwise b ∷ u)) ≡ false
     go true q ih = ih
     go false q ih = q
 
 no_word : (u : Text) → stem_byte (first u) ≡ false → digit (first u) ≡ false → start word_byte u ≡ []
-unfolding if◌then◌else◌
+unfolding if◌then◌otherwise◌
 no_word [] s d = refl
 no_word (b ∷ u) s d = go (word_byte b) refl
   where
-    go : (w : Bool) → word_byte b ≡ w → (if w then b ∷ start word_byte u else []) ≡ []
+    go : (w : Bool) → word_byte b ≡ w → (if w then b ∷ start word_byte u otherwise []) ≡ []
     go true q = absurd (false≢true (sym s ∙ stem-is b ∙ rw (q, d)))
     go false q = refl
 
@@ -192,7 +192,7 @@ no_word (b ∷ u) s d = go (word_byte b) refl
 
 module _ (t : Text) (at lead : ℕ) (is : lead ≡ first (drop at t)) where
   pub no_name : letter lead ≡ false → NameRead t at (record { key = 0; end = at })
-  unfolding name_in key_of word_key class_of if◌then◌else◌
+  unfolding name_in key_of word_key class_of if◌then◌otherwise◌
   no_name e = let z : at ≡ at + 0 = omega arith in record { key = rw (sym is, e); end = rw (sym is, e) z }
 
   module _ (e : letter lead ≡ true) where
@@ -201,7 +201,7 @@ module _ (t : Text) (at lead : ℕ) (is : lead ≡ first (drop at t)) where
     name-within = first-within letter t at refl (ap letter (sym is) ∙ e)
 
     name-is : name_in (drop at t) ≡ start word_byte (drop at t)
-    unfolding name_in if◌then◌else◌
+    unfolding name_in if◌then◌otherwise◌
     name-is = rw (sym is, e)
 
     stem-of : start stem_byte (drop at t) ≡ lead ∷ start stem_byte (drop (at + 1) t)
@@ -232,7 +232,7 @@ module _ (t : Text) (at lead : ℕ) (is : lead ≡ first (drop at t)) where
       none_left d = rw after_is (no_word (after stem_byte (drop at t)) (after-stem (drop at t)) (rw after_is at d))
 
       pub plain-name : digit (first (drop r.end t)) ≡ false → NameRead t at (record { key = with_code r.key (code_of lead); end = r.end })
-      unfolding class_of if◌then◌else◌
+      unfolding class_of if◌then◌otherwise◌
       plain-name d =
           let z : r.end ≡ r.end + 0 = omega arith in
           let n = whole-name (record { key = 0; end = r.end }) (record { key = rw (none_left d); end = rw (none_left d) z }) in

@@ -12,7 +12,7 @@ use mir.Val.{bool_byte}
 use types.Run.{OneOf, miss}
 use denote.Enum.Declared.{tag_of}
 use borrow.Author.Tests.{leb-true, ltb-true, ltb-false}
-use Rattle.registers.specs.Text.{if◌then◌else◌}
+use Rattle.registers.specs.Text.{if◌then◌otherwise◌}
 use Rattle.registers.specs.Rounding.{switched_on, rounded, side_in}
 use Rattle.registers.specs.Settings.{count, Kind, bool, words, number, table, setting_at, kind_of, sort_of, meant_values, highest, slots}
 use Rattle.registers.specs.declared.number.Decimal.{Decimal}
@@ -45,7 +45,7 @@ kinds-agree f g e b i = go (ltb i count) refl
 
 -- ten steps of step 0.1 make one
 abbrev pub figure_in : Decimal → Values → ℤ
-figure_in d BoolValue = if switched_on d then pos 1 else pos 0
+figure_in d BoolValue = if switched_on d then pos 1 otherwise pos 0
 figure_in d WordValue = pos 0
 figure_in d Tenths = rounded 10 d
 figure_in d Whole = rounded 1 d
@@ -53,7 +53,7 @@ figure_in d Whole = rounded 1 d
 -- where the code has been told the sort
 pub figure-in : (i : ℕ) {v told : Values} → told ≡ v → meant_values told ≡ sort_of (kind_of i) → (s : Settings) (d : Decimal)
     → figure_in d v ≡ value_given s i (kind_of i) (Figure d)
-unfolding listed setting_at slots table if◌then◌else◌ value_given
+unfolding listed setting_at slots table if◌then◌otherwise◌ value_given
 figure-in i is of s d =
     ap (figure_in d) (sym is ∙ values-is _ (kind_of i) of) ∙ kinds-agree (λ k. figure_in d (values_in k)) (λ k. value_given s i k (Figure d)) refl refl i
 
@@ -65,7 +65,7 @@ side_of d Tenths = side_in 10 d
 side_of d Whole = side_in 1 d
 
 pub side-of : (i : ℕ) {v told : Values} → told ≡ v → meant_values told ≡ sort_of (kind_of i) → (d : Decimal) → side_of d v ≡ side_given (kind_of i) (Figure d)
-unfolding listed setting_at slots table if◌then◌else◌
+unfolding listed setting_at slots table if◌then◌otherwise◌
 side-of i is of d = ap (side_of d) (sym is ∙ values-is _ (kind_of i) of) ∙ kinds-agree (λ k. side_of d (values_in k)) (λ k. side_given k (Figure d)) refl refl i
 
 abbrev pub number_in : Values → Bool
@@ -75,10 +75,10 @@ number_in Tenths = true
 number_in Whole = true
 
 pub number-in : (k : Kind) {v told : Values} → told ≡ v → meant_values told ≡ sort_of k → is_number k ≡ number_in v
-unfolding if◌then◌else◌
+unfolding if◌then◌otherwise◌
 number-in k is of = go k ∙ ap number_in (sym (values-is _ k of) ∙ is)
   where
-    sort : (t : Bool) → true ≡ number_in (if t then Tenths else Whole)
+    sort : (t : Bool) → true ≡ number_in (if t then Tenths otherwise Whole)
     sort true = refl
     sort false = refl
 
@@ -99,10 +99,10 @@ module _ (k : Kind) (told : Values) (is : meant_values told ≡ sort_of k) where
       go (number n low high) h = refl
 
   pub told-other : OneOf (0 ∷ 1 ∷ []) (tag_of values.the_type told) → false ≡ is_number k
-  unfolding if◌then◌else◌
+  unfolding if◌then◌otherwise◌
   told-other h = go k (rw (values-is told k is) at h)
     where
-      none : (t : Bool) → OneOf (0 ∷ 1 ∷ []) (tag_of values.the_type (if t then Tenths else Whole)) → ⊥
+      none : (t : Bool) → OneOf (0 ∷ 1 ∷ []) (tag_of values.the_type (if t then Tenths otherwise Whole)) → ⊥
       none true h = miss (0 ∷ 1 ∷ []) 2 tt h
       none false h = miss (0 ∷ 1 ∷ []) 3 tt h
 
@@ -143,20 +143,20 @@ words-few i h = leb-true (length (words_of (kind_of i))) word_count (below_at co
 
 -- ---- check 4: a number's query may have one parameter; what sets takes as many as it may have, and a query does without
 
-pub setting-most : (k : Kind) (asked : Bool) → bool_byte (not asked || is_number k) ≡ (if asked then asks_limits k else 1)
-unfolding if◌then◌else◌
+pub setting-most : (k : Kind) (asked : Bool) → bool_byte (not asked || is_number k) ≡ (if asked then asks_limits k otherwise 1)
+unfolding if◌then◌otherwise◌
 setting-most k false = refl
 setting-most bool true = refl
 setting-most (words ws) true = refl
 setting-most (number n low high) true = refl
 
-pub register-most : (asked : Bool) → bool_byte (not asked) ≡ (if asked then 0 else 1)
-unfolding if◌then◌else◌
+pub register-most : (asked : Bool) → bool_byte (not asked) ≡ (if asked then 0 otherwise 1)
+unfolding if◌then◌otherwise◌
 register-most true = refl
 register-most false = refl
 
 least-asked : (r : Role) → 0 ≡ least r true
-unfolding least if◌then◌else◌
+unfolding least if◌then◌otherwise◌
 least-asked (Setting i) = refl
 least-asked (Register r) = refl
 least-asked (Only d) = refl
@@ -164,7 +164,7 @@ least-asked (Saving x) = refl
 least-asked Label = refl
 
 least-set : (r : Role) → greatest r false ≡ least r false
-unfolding least greatest if◌then◌else◌
+unfolding least greatest if◌then◌otherwise◌
 least-set (Setting i) = refl
 least-set (Register r) = refl
 least-set (Only d) = refl
@@ -188,7 +188,7 @@ limits-one (words ws) = omega arith
 limits-one (number n low high) = omega arith
 
 pub greatest-one : (r : Role) (asked : Bool) → greatest r asked ≤ 1
-unfolding greatest if◌then◌else◌
+unfolding greatest if◌then◌otherwise◌
 greatest-one (Setting i) true = limits-one (kind_of i)
 greatest-one (Setting i) false = omega arith
 greatest-one (Register x) true = omega arith

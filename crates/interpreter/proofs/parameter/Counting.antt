@@ -8,7 +8,7 @@ use native.Mathlib.Omega.{arith}
 use native.Mathlib.Numerals.{add-one}
 use lib.ListN.{length, get_or, drop, length-map, drop_of_length-le}
 use lib.Seq.{drop-cons}
-use Rattle.registers.specs.Text.{Text, if◌then◌else◌, white, every, empty}
+use Rattle.registers.specs.Text.{Text, if◌then◌otherwise◌, white, every, empty}
 use Rattle.interpreter.specs.Cuts.{join_first, quote_next, separates, cut_open, trim}
 use Rattle.interpreter.specs.Parameter.{parameters}
 use Rattle.interpreter.specs.ParameterParts.{CountedIn}
@@ -120,6 +120,6 @@ counting-end {t} {parts} {full} {visible} {mark} {i} w some h =
     }
 
 pub counting-none : (t : Text) → length t ≡ 0 → CountedIn t (record { parts = 0; full = true })
-unfolding parameters if◌then◌else◌
+unfolding parameters if◌then◌otherwise◌
 counting-none [] h = record { parts = refl; full = refl }
 counting-none (b ∷ bs) h = absurd (omega arith)

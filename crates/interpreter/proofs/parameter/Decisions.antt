@@ -13,7 +13,7 @@ use mir.Val.{Fits, of_z, to_z, bool_byte}
 use mir.Facts.{to_z-of_z, to_z_pos}
 use lib.ListN.{length}
 use borrow.Author.Tests.{leb-true}
-use Rattle.registers.specs.Text.{Text, if◌then◌else◌}
+use Rattle.registers.specs.Text.{Text, if◌then◌otherwise◌}
 use Rattle.registers.specs.Check.{Checked, refused, passed, ◌>>=◌, ◌>>◌, check}
 use Rattle.registers.specs.Error.{number_of}
 use Rattle.registers.specs.Rounding.{rounded, fitted, side_in, meant_fit, RoundedIn}
@@ -48,8 +48,8 @@ pub back : (z : ℤ) → mag z < 2147483648 → to_z w32 (of_z w32 z) ≡ z
 back z h = to_z-of_z {w = w32} (record { sfits = h })
 
 -- on and off as a number
-pub switched-byte : (b : Bool) → to_z w32 (bool_byte b) ≡ (if b then pos 1 else pos 0)
-unfolding if◌then◌else◌
+pub switched-byte : (b : Bool) → to_z w32 (bool_byte b) ≡ (if b then pos 1 otherwise pos 0)
+unfolding if◌then◌otherwise◌
 switched-byte true = refl
 switched-byte false = refl
 
@@ -73,16 +73,16 @@ unfolding fit_in within
 rounded-in k s i d l h p = let q = rw (l, h) at p in λ j. record { fit = fit_is q j; side = side-is q j }
 
 pub fit-within : (s : Settings) (i : ℕ) (v : ℤ) → within s i v ≡ true → Within v ≡ fit_in s i v
-unfolding fit_in if◌then◌else◌
+unfolding fit_in if◌then◌otherwise◌
 fit-within s i v e = rw e
 
 fit-put : (s : Settings) (i : ℕ) (v : ℤ) (x : Side)
     → (check 222 (within s i v) >> check 222 (accepted s x) >> passed (Change (Put i v x))) ≡ put_fit s i false (fit_in s i v) x
-unfolding fit_in put_fit if◌then◌else◌ check ◌>>◌
+unfolding fit_in put_fit if◌then◌otherwise◌ check ◌>>◌
 fit-put s i v x = go (within s i v)
   where
     go : (w : Bool)
-        → (check 222 w >> check 222 (accepted s x) >> passed (Change (Put i v x))) ≡ put_fit s i false (if w then Within v else Outside) x
+        → (check 222 w >> check 222 (accepted s x) >> passed (Change (Put i v x))) ≡ put_fit s i false (if w then Within v otherwise Outside) x
     go true = refl
     go false = refl
 
@@ -153,7 +153,7 @@ module _ (x : savings.Saving) (t : Text) where
 -- a parameter is there where check 4 asked for one; a query of *SAV or *RCL has no row
 pub saving-is : (s : Settings) (x : savings.Saving) (asked : Bool) (t : Text) → least (saving x) asked ≤ length (parts_of t)
     → length (parts_of t) ≤ greatest (saving x) asked → saving_to x asked t ≡ deed_of s (saving x) asked (parts_of t)
-unfolding saving_to deed_of least greatest if◌then◌else◌
+unfolding saving_to deed_of least greatest if◌then◌otherwise◌
 saving-is s x true [] h k = refl
 saving-is s x true (b ∷ t) h k = absurd (omega arith)
 saving-is s x false [] h k = absurd (omega arith)
@@ -163,7 +163,7 @@ saving-is s x false (b ∷ t) h k = refl
 
 -- without a parameter, where none is needed
 pub value-asked : (s : Settings) (i : ℕ) (asked : Bool) → least (Setting i) asked ≤ 0 → passed (Query (Value i)) ≡ deed_of s (Setting i) asked []
-unfolding deed_of least if◌then◌else◌
+unfolding deed_of least if◌then◌otherwise◌
 value-asked s i true h = refl
 value-asked s i false h = absurd (omega arith)
 
@@ -172,7 +172,7 @@ pub setting-is : (s : Settings) (i : ℕ) → i < count → (asked : Bool) (t : 
     → deed_of s (Setting i) asked (t ∷ [])
     ≡ (parameter (words_of (kind_of i)) (takes_numbers (kind_of i) && not asked) (quantity_of i) t >>= λ g.
     put_fit s i asked (fit_in s i (value_given s i (kind_of i) g)) (side_given (kind_of i) g))
-unfolding deed_of greatest if◌then◌else◌ setting_deed limit_deed value_given put_fit ◌>>=◌
+unfolding deed_of greatest if◌then◌otherwise◌ setting_deed limit_deed value_given put_fit ◌>>=◌
 setting-is s i h false t one =
     rw (and-true (takes_numbers (kind_of i))) (go (parameter (words_of (kind_of i)) (takes_numbers (kind_of i)) (quantity_of i) t))
   where
@@ -213,13 +213,13 @@ module _ (x : Register) (t : Text) where
 -- a parameter is there where check 4 asked for one
 pub register-is : (s : Settings) (x : Register) (asked : Bool) (t : Text) → least (register x) asked ≤ length (parts_of t)
     → register_to x asked t ≡ deed_of s (register x) asked (parts_of t)
-unfolding register_to deed_of least if◌then◌else◌
+unfolding register_to deed_of least if◌then◌otherwise◌
 register-is s x true t h = refl
 register-is s x false [] h = absurd (omega arith)
 register-is s x false (b ∷ t) h = refl
 
 pub label_is : (s : Settings) (asked : Bool) (t : Text) → least label asked ≤ length (parts_of t) → label_to asked t ≡ deed_of s label asked (parts_of t)
-unfolding label_to deed_of least if◌then◌else◌
+unfolding label_to deed_of least if◌then◌otherwise◌
 label_is s true t h = refl
 label_is s false [] h = absurd (omega arith)
 label_is s false (b ∷ t) h = refl

@@ -8,7 +8,7 @@ use lib.ListN.{length}
 use lib.IntN.{ℤ, pos, negsuc}
 use lib.Signed.{le_z}
 use borrow.Author.Tests.{eqb-true, le-leb}
-use Rattle.registers.specs.Text.{if◌then◌else◌}
+use Rattle.registers.specs.Text.{if◌then◌otherwise◌}
 use Rattle.registers.specs.Rounding.{switched_on}
 use Rattle.registers.specs.Settings.{count, Kind, bool, words, number, table, setting_at, kind_of, lowest_of, highest_of, lowest, highest, within, voltage, voltage2, range, range2, wide_range, twelve_volts, slots, narrow}
 use Rattle.registers.specs.declared.number.Decimal.{Decimal}
@@ -22,21 +22,21 @@ same-le (negsuc n) = le-leb n n (omega arith)
 
 -- the ranges move the highest value of the voltages alone, which are numbers
 plain-highest : (s : Settings) (i : ℕ) → is_number (kind_of i) ≡ false → highest_of (kind_of i) ≡ highest s i
-unfolding highest narrow if◌then◌else◌ setting_at slots table
+unfolding highest narrow if◌then◌otherwise◌ setting_at slots table
 plain-highest s i h = go (eqb i voltage) refl (eqb i voltage2) refl
   where
     go : (t : Bool) → eqb i voltage ≡ t → (u : Bool) → eqb i voltage2 ≡ u
-        → highest_of (kind_of i) ≡ (if (t && not (wide_range s range)) || (u && not (wide_range s range2)) then twelve_volts else highest_of (kind_of i))
+        → highest_of (kind_of i) ≡ (if (t && not (wide_range s range)) || (u && not (wide_range s range2)) then twelve_volts otherwise highest_of (kind_of i))
     go true e u f = absurd (false≢true (sym (rw (eqb-true i voltage e) at h)))
     go false e true f = absurd (false≢true (sym (rw (eqb-true i voltage2 f) at h)))
     go false e false f = refl
 
 low-high : (s : Settings) (i : ℕ) → i < count → le_z (lowest i) (highest s i) ≡ true
-unfolding lowest highest narrow if◌then◌else◌ setting_at slots table
+unfolding lowest highest narrow if◌then◌otherwise◌ setting_at slots table
 low-high s i h = go (wide_range s range) (wide_range s range2)
   where
     least : Bool → Bool → ℕ → Bool
-    least w x k = le_z (lowest_of (kind_of k)) (if (eqb k voltage && not w) || (eqb k voltage2 && not x) then twelve_volts else highest_of (kind_of k))
+    least w x k = le_z (lowest_of (kind_of k)) (if (eqb k voltage && not w) || (eqb k voltage2 && not x) then twelve_volts otherwise highest_of (kind_of k))
 
     go : (w x : Bool) → least w x i ≡ true
     go true true = below_at count (least true true) refl i h
@@ -56,8 +56,8 @@ module _ (s : Settings) (i : ℕ) where
       go (number m low high) h l = absurd (false≢true (sym h))
 
   -- on and off of a bool; a row of words counts as off
-  switched-within : (on : Bool) → kind_of i ≡ bool → within s i (if on then pos 1 else pos 0) ≡ true
-  unfolding if◌then◌else◌
+  switched-within : (on : Bool) → kind_of i ≡ bool → within s i (if on then pos 1 otherwise pos 0) ≡ true
+  unfolding if◌then◌otherwise◌
   switched-within true e = place-within (rw e) 1 (rw e (omega arith))
   switched-within false e = place-within (rw e) 0 (rw e (omega arith))
 

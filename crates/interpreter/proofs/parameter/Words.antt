@@ -11,7 +11,7 @@ use lib.ListN.{length, take, drop, length-take, length-drop, drop_of_length-le}
 use lib.Seq.{drop-cons, get_or-drop, get_or-take}
 use lib.Dec.{eqb}
 use borrow.Author.Tests.{eqb-true}
-use Rattle.registers.specs.Text.{Text, if◌then◌else◌, bytes, between, small, letter, digit, word_byte, capital, every, first, same}
+use Rattle.registers.specs.Text.{Text, if◌then◌otherwise◌, bytes, between, small, letter, digit, word_byte, capital, every, first, same}
 use Rattle.registers.specs.Check.{Checked, refused, passed, ◌>>=◌, ◌>>◌, check}
 use Rattle.registers.specs.Words.{short_form, long_form, matches}
 use Rattle.registers.specs.Number.{number, sign, point}
@@ -37,14 +37,14 @@ abbrev plain : String → Bool
 plain w = every word_byte (short_form w) && every word_byte (long_form w)
 
 all_plain : every plain word_list ≡ true
-unfolding word_list short_form long_form bytes small capital letter digit word_byte if◌then◌else◌
+unfolding word_list short_form long_form bytes small capital letter digit word_byte if◌then◌otherwise◌
 all_plain = refl
 
 capital-in : (b : ℕ) → word_byte (capital b) ≡ true → word_byte b ≡ true
-unfolding capital word_byte letter if◌then◌else◌
+unfolding capital word_byte letter if◌then◌otherwise◌
 capital-in b h = go (small b) refl h
   where
-    go : (s : Bool) → small b ≡ s → word_byte (if s then b - 32 else b) ≡ true → word_byte b ≡ true
+    go : (s : Bool) → small b ≡ s → word_byte (if s then b - 32 otherwise b) ≡ true → word_byte b ≡ true
     go true e h = rw (e, or-true (between 65 90 b))
     go false e h = h
 
@@ -85,13 +85,13 @@ module _ {at count : ℕ} {t : Text} {n : ℕ} (w : Searching at count t n) wher
       rw (drop-cons (from at count) n "" l, add-one n, get_or-take, get_or-drop)
 
   pub search-hit : n < count → matches (word_at (at + n)) t ≡ true → passed (Word n) ≡ read_word (from at count) t
-  unfolding find_word read_word check ◌>>◌ if◌then◌else◌
+  unfolding find_word read_word check ◌>>◌ if◌then◌otherwise◌
   search-hit h e =
       let room = w.room in
       rw (word_bytes (at + n) t (omega arith) e) (rw (next h, e) at w.left)
 
   pub search-miss : n < count → matches (word_at (at + n)) t ≡ false → Searching at count t (n + 1)
-  unfolding find_word if◌then◌else◌
+  unfolding find_word if◌then◌otherwise◌
   search-miss h e = record { room = w.room; left = rw (add-one n) (rw (next h, e, add-one n) at w.left) }
 
   pub search-end : count ≤ n → refused 141 ≡ read_word (from at count) t
@@ -111,19 +111,19 @@ module _ (ws : List String) (numbers : Bool) (q : Quantity) (t : Text) where
   starts = digit (first t) || sign (first t) || point (first t)
 
   pub starts-word : letter (first t) ≡ true → read_word ws t ≡ parameter ws numbers q t
-  unfolding parameter read_word if◌then◌else◌
+  unfolding parameter read_word if◌then◌otherwise◌
   starts-word l = rw l
 
   pub starts-figure : letter (first t) ≡ false → (numbers && starts) ≡ true → read_figure q t ≡ parameter ws numbers q t
-  unfolding parameter read_figure check ◌>>◌ if◌then◌else◌
+  unfolding parameter read_figure check ◌>>◌ if◌then◌otherwise◌
   starts-figure l e = let p = and_both numbers starts e in rw (l, p.0, p.1)
 
   pub starts-neither : letter (first t) ≡ false → (numbers && starts) ≡ false → refused 104 ≡ parameter ws numbers q t
-  unfolding parameter check ◌>>◌ if◌then◌else◌
+  unfolding parameter check ◌>>◌ if◌then◌otherwise◌
   starts-neither l e = rw l (go numbers starts e)
     where
       go : (n d : Bool) → (n && d) ≡ false
-          → refused 104 ≡ (if d then (check 104 n >> read_figure q t) else refused 104)
+          → refused 104 ≡ (if d then (check 104 n >> read_figure q t) otherwise refused 104)
       go true true e = absurd (false≢true (sym e))
       go true false e = refl
       go false true e = refl
@@ -132,12 +132,12 @@ module _ (ws : List String) (numbers : Bool) (q : Quantity) (t : Text) where
 -- ---- what a search finds has a place in the list
 
 found_below : (i : ℕ) (ws : List String) (t : Text) (n : ℕ) → find_word i ws t ≡ passed (Word n) → n < i + length ws
-unfolding find_word if◌then◌else◌
+unfolding find_word if◌then◌otherwise◌
 found_below i [] t n e = absurd (apart _ _ e)
 found_below i (w ∷ ws) t n e = go (matches w t) (found_below (suc i) ws t n) e
   where
     go : (b : Bool) → (find_word (suc i) ws t ≡ passed (Word n) → n < suc i + length ws)
-        → (if b then passed (Word i) else find_word (suc i) ws t) ≡ passed (Word n) → n < i + suc (length ws)
+        → (if b then passed (Word i) otherwise find_word (suc i) ws t) ≡ passed (Word n) → n < i + suc (length ws)
     go true ih e = let z : n ≡ i = cc in omega arith
     go false ih e = omega (arith, ih e)
 
@@ -151,11 +151,11 @@ no_word q t n e = go (number q t) e
     go (passed d) e = let z : ◌≡◌ {A = ℕ} 0 1 = cc in omega arith
 
 pub word-placed : (ws : List String) (numbers : Bool) (q : Quantity) (t : Text) (n : ℕ) → parameter ws numbers q t ≡ passed (Word n) → n < length ws
-unfolding parameter read_word check ◌>>◌ if◌then◌else◌
+unfolding parameter read_word check ◌>>◌ if◌then◌otherwise◌
 word-placed ws numbers q t n e = go (letter (first t)) (every word_byte t) (digit (first t) || sign (first t) || point (first t)) numbers e
   where
     go : (l w d b : Bool)
-        → (if l then (check 141 w >> find_word 0 ws t) else (if d then (check 104 b >> read_figure q t) else refused 104)) ≡ passed (Word n)
+        → (if l then (check 141 w >> find_word 0 ws t) otherwise (if d then (check 104 b >> read_figure q t) otherwise refused 104)) ≡ passed (Word n)
         → n < length ws
     go true true d b e = omega (arith, found_below 0 ws t n e)
     go true false d b e = absurd (apart _ _ e)
@@ -165,20 +165,20 @@ word-placed ws numbers q t n e = go (letter (first t)) (every word_byte t) (digi
 
 -- a word is no number, and a query takes none
 no-figure : (i : ℕ) (ws : List String) (t : Text) (d : Decimal) → find_word i ws t ≡ passed (Figure d) → ⊥
-unfolding find_word if◌then◌else◌
+unfolding find_word if◌then◌otherwise◌
 no-figure i [] t d e = apart _ _ e
 no-figure i (w ∷ ws) t d e = go (matches w t) (no-figure (suc i) ws t d) e
   where
-    go : (b : Bool) → (find_word (suc i) ws t ≡ passed (Figure d) → ⊥) → (if b then passed (Word i) else find_word (suc i) ws t) ≡ passed (Figure d) → ⊥
+    go : (b : Bool) → (find_word (suc i) ws t ≡ passed (Figure d) → ⊥) → (if b then passed (Word i) otherwise find_word (suc i) ws t) ≡ passed (Figure d) → ⊥
     go true ih e = let z : ◌≡◌ {A = ℕ} 0 1 = cc in omega arith
     go false ih e = ih e
 
 pub asked-word : (ws : List String) (q : Quantity) (t : Text) (d : Decimal) → parameter ws false q t ≡ passed (Figure d) → ⊥
-unfolding parameter read_word check ◌>>◌ if◌then◌else◌
+unfolding parameter read_word check ◌>>◌ if◌then◌otherwise◌
 asked-word ws q t d e = go (letter (first t)) (every word_byte t) (digit (first t) || sign (first t) || point (first t)) e
   where
     go : (l w b : Bool)
-        → (if l then (check 141 w >> find_word 0 ws t) else (if b then (check 104 false >> read_figure q t) else refused 104)) ≡ passed (Figure d)
+        → (if l then (check 141 w >> find_word 0 ws t) otherwise (if b then (check 104 false >> read_figure q t) otherwise refused 104)) ≡ passed (Figure d)
         → ⊥
     go true true b e = no-figure 0 ws t d e
     go true false b e = apart _ _ e

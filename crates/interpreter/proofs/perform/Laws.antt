@@ -8,7 +8,7 @@ use lib.Dec.{leb}
 use types.Run.{OneOf, miss}
 use denote.Enum.Declared.{tag_of}
 use borrow.Author.Tests.{leb-true, leb-false}
-use Rattle.registers.specs.Text.{Text, if◌then◌else◌, every}
+use Rattle.registers.specs.Text.{Text, if◌then◌otherwise◌, every}
 use Rattle.registers.specs.Label.{most_text, may_stand, padded}
 use Rattle.registers.specs.Settings.{with_text, text_stored}
 use Rattle.registers.proofs.label.Record.{padded-possible}
@@ -50,7 +50,7 @@ no-change (Saving x p) h t s = refl
 -- ---- a text that is within its limits is stored
 
 pub label-stored : (s : Settings) (t bytes : Text) → every may_stand t ≡ true → bytes ≡ padded most_text t → text_stored bytes s ≡ with_text t s
-unfolding text_stored if◌then◌else◌
+unfolding text_stored if◌then◌otherwise◌
 label-stored s t bytes a e = rw (e, padded-possible most_text t a)
 
 -- ---- what leaves the status alone

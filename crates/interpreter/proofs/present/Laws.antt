@@ -4,7 +4,7 @@ use mathlib.Core.List.{[]}
 use Prim.Native.Nat.{◌≤◌, ◌<◌}
 use lib.ListN.{length, take}
 use borrow.Author.Tests.{eq-eqb, ne_eqb}
-use Rattle.registers.specs.Text.{Text, if◌then◌else◌}
+use Rattle.registers.specs.Text.{Text, if◌then◌otherwise◌}
 use Rattle.registers.specs.Error.{number_of}
 use Rattle.registers.specs.declared.error.Error.{Error}
 use Rattle.registers.specs.declared.error.Error.TheVariants.{QueryInterrupted}
@@ -28,21 +28,21 @@ module _ (e : Error) (p : Present) (m : Memory) (long : length p.status.errors �
 
   -- check 9's error drops the answer, any other leaves it
   pub refused-dropped : number_of e ≡ 430 → (a out : Text) → box_in (raised_with e p) (take 0 out) m ≡ refuse (number_of e) (box_in p a m)
-  unfolding refuse if◌then◌else◌
+  unfolding refuse if◌then◌otherwise◌
   refused-dropped h a out = rw (raised-box [], eq-eqb (number_of e) 430 h)
 
   pub refused-kept : (number_of e ≡ 430 → ⊥) → (a : Text) → box_in (raised_with e p) a m ≡ refuse (number_of e) (box_in p a m)
-  unfolding refuse if◌then◌else◌
+  unfolding refuse if◌then◌otherwise◌
   refused-kept h a = rw (raised-box a, ne_eqb (number_of e) 430 h)
 
 -- ---- an answer that waits
 
 module _ (p : Present) (out : Text) (m : Memory) where
   pub none-waits : p.answered ≡ 0 → box_in p [] m ≡ interrupted (box_at p out m)
-  unfolding interrupted if◌then◌else◌
+  unfolding interrupted if◌then◌otherwise◌
   none-waits e = rw e
 
   pub one-waits : length p.status.errors ≡ most → 0 < length out → (p.answered ≡ 0 → ⊥)
       → box_in (raised_with QueryInterrupted p) [] m ≡ interrupted (box_at p out m)
-  unfolding interrupted if◌then◌else◌
+  unfolding interrupted if◌then◌otherwise◌
   one-waits long room ne = rw (front-empty out p.answered room, ne_eqb p.answered 0 ne, raised-box QueryInterrupted p m long [])

@@ -16,7 +16,7 @@ use denote.Enum.Declared.{tag_of}
 use mir.Val.{bool_byte}
 use borrow.Author.Tests.{ne_eqb}
 use borrow.Rule.Slice.PartMut.{mid_of, put_mid}
-use Rattle.registers.specs.Text.{Text, if◌then◌else◌}
+use Rattle.registers.specs.Text.{Text, if◌then◌otherwise◌}
 use Rattle.registers.specs.Answer.{Laid}
 use Rattle.registers.proofs.answer.Laws.{over-start, over-length}
 use Rattle.interpreter.specs.Box.{most_answer}
@@ -40,12 +40,12 @@ start-room zero h = omega arith
 start-room (suc n) h = rw (start-more n) (omega arith)
 
 joined_length : (a t : Text) → length (joined a t) ≡ start (length a) + length t
-unfolding joined if◌then◌else◌
+unfolding joined if◌then◌otherwise◌
 joined_length [] t = sym (zero-add (length t))
 joined_length (x ∷ a) t = rw (start-more (length a)) (simp length-append (omega arith))
 
 joined-more : (a t : Text) → 0 < length a → joined a t ≡ a ++ code ";" ∷ t
-unfolding joined if◌then◌else◌
+unfolding joined if◌then◌otherwise◌
 joined-more [] t h = absurd (omega arith)
 joined-more (x ∷ a) t h = refl
 
@@ -60,7 +60,7 @@ module _ (out tail t : Text) (k : ℕ) (bytes : take (length t) tail ≡ t) (lon
 
   -- the separator is written first: the text of the first answer stands over it
   stands : (n : ℕ) → n < length out → take (start n + length t) (put_mid (start n) k (set out n (code ";")) tail) ≡ joined (take n out) t
-  unfolding joined if◌then◌else◌
+  unfolding joined if◌then◌otherwise◌
   stands zero h = after_front [] (drop k (set out 0 (code ";"))) 0 refl
   stands (suc n) h =
       let p : Text = take (suc n) out ++ code ";" ∷ [] in
@@ -87,7 +87,7 @@ module _ (label out : Text) {answered : ℕ} (room : answered < most_answer) (si
   so_far = take answered out
 
   pub given-none : GivenTo label Nothing answered out answered out
-  unfolding answered_with if◌then◌else◌
+  unfolding answered_with if◌then◌otherwise◌
   given-none =
       let l : length so_far < most_answer = rw length-take (omega arith) in
       record { stands = λ _. (l, refl); falls = λ h. absurd (omega arith) }
@@ -98,7 +98,7 @@ module _ (label out : Text) {answered : ℕ} (room : answered < most_answer) (si
     left = put_mid (start answered) (length (set out answered (code ";")) - start answered) (set out answered (code ";")) tail
 
     long : length (answered_with label reply so_far) ≡ start answered + n
-    unfolding answered_with if◌then◌else◌
+    unfolding answered_with if◌then◌otherwise◌
     long =
         let taken : length so_far ≡ answered = rw length-take (omega arith) in
         rw (some, joined_length, taken, laid.long)
@@ -118,7 +118,7 @@ module _ (label out : Text) {answered : ℕ} (room : answered < most_answer) (si
       end-room h = let e = whole in omega arith
 
       pub given-whole : n < m - start answered → GivenTo label reply answered out (start answered + n) left
-      unfolding answered_with if◌then◌else◌
+      unfolding answered_with if◌then◌otherwise◌
       given-whole h =
           let e = whole in
           let fits = end-room h in

@@ -8,7 +8,7 @@ use native.Mathlib.Omega.{arith}
 use lib.Dec.{eqb}
 use lib.ListN.{length, take, length-take}
 use borrow.Author.Tests.{lt-ltb, le-ltb}
-use Rattle.registers.specs.Text.{Text, if◌then◌else◌, empty}
+use Rattle.registers.specs.Text.{Text, if◌then◌otherwise◌, empty}
 use Rattle.registers.specs.Check.{refused, passed, ◌>>=◌, ◌>>◌, check}
 use Rattle.registers.specs.Settings.{displayed}
 use Rattle.registers.specs.Status.{Registers, registers_of, trouble_of}
@@ -65,7 +65,7 @@ apart label_asked = record { unseen = λ s r a m. refl; left = λ s r a m. refl 
 
 module _ (l : Text) (r : Reply) (c : Core) (some : said r ≡ true) where
   joined_is : answered_with l r c.answer ≡ joined c.answer (text_of l r)
-  unfolding answered_with if◌then◌else◌
+  unfolding answered_with if◌then◌otherwise◌
   joined_is = rw some
 
   reply-given : length (answered_with l r c.answer) < most_answer → reply (text_of l r) c ≡ passed (with_answer (answered_with l r c.answer) c)
@@ -82,7 +82,7 @@ module _ (l : Text) (r : Reply) (c : Core) (some : said r ≡ true) where
 
 -- nothing that is said always has room
 silent : (l : Text) (r : Reply) (a : Text) → r ≡ Nothing → length a < most_answer → most_answer ≤ length (answered_with l r a) → ⊥
-unfolding answered_with if◌then◌else◌
+unfolding answered_with if◌then◌otherwise◌
 silent l r a e k h = let short = rw e at h in omega arith
 
 -- ---- a deed that answers with reply r
@@ -100,7 +100,7 @@ module _ (p : Present) (x a : Text) (m : Memory) (r : Reply) where
 
   given : (d : Deed) → ordinary d ≡ true → ReplyTo d p (not (empty a)) r → length (answered_with l r a) < most_answer
       → perform d x (box_in p a m) ≡ passed (left d (answered_with l r a))
-  unfolding perform answered_with if◌then◌else◌ ◌>>=◌
+  unfolding perform answered_with if◌then◌otherwise◌ ◌>>=◌
   given (Change y) o e h = rw e (ap (λ (c : Core). passed (box c (trouble_of p.status))) (changed-is y x p.settings (registers_of p.status) a m))
   given Complete o e h = rw e
   given Clear o e h = rw e
@@ -139,7 +139,7 @@ module _ (d : Deed) (x : Text) (p : Present) {r : Reply} {out left-of : Text} {e
 
   -- check 9 drops the whole answer, so that it doesn't matter what was written
   pub told-refused : most_answer ≤ end → Answered d x p out (Refused QueryDeadlocked) left-of
-  unfolding refuse if◌then◌else◌
+  unfolding refuse if◌then◌otherwise◌
   told-refused h =
       let short : length so_far < most_answer = rw length-take (omega arith) in
       λ m. (dropped p x so_far m r d o replies short (answers.falls h), refl)

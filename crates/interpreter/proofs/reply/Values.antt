@@ -13,7 +13,7 @@ use mir.Syntax.{w32}
 use mir.Val.{SFits, to_z, of_z}
 use mir.Facts.{to_z-of_z}
 use borrow.Author.Tests.{ltb-true, ltb-false}
-use Rattle.registers.specs.Text.{Text, if◌then◌else◌}
+use Rattle.registers.specs.Text.{Text, if◌then◌otherwise◌}
 use Rattle.registers.specs.Answer.{decimal, tenths, signed_text}
 use Rattle.registers.specs.Settings.{count, Kind, bool, words, number, kind_of, answer_of, word_text}
 use Rattle.registers.specs.declared.settings.Values.{Values}
@@ -38,12 +38,12 @@ answer_as Tenths ws v = signed_text tenths v
 answer_as Whole ws v = signed_text decimal v
 
 answer-is : (k : Kind) (v : ℤ) → answer_of k v ≡ answer_as (values_in k) (words_of k) v
-unfolding answer_of if◌then◌else◌
+unfolding answer_of if◌then◌otherwise◌
 answer-is bool v = refl
 answer-is (words ws) v = refl
 answer-is (number k low high) v = go (eqb k 10)
   where
-    go : (t : Bool) → signed_text (if t then tenths else decimal) v ≡ answer_as (if t then Tenths else Whole) limit_words v
+    go : (t : Bool) → signed_text (if t then tenths otherwise decimal) v ≡ answer_as (if t then Tenths otherwise Whole) limit_words v
     go true = refl
     go false = refl
 

@@ -6,7 +6,7 @@ use mathlib.Core.Bool.{Bool, true, false, not, ◌&&◌, ◌||◌, or-false}
 use mathlib.Core.List.{List, [], ◌∷◌, map}
 use Prim.Native.String.{String}
 use borrow.Author.Tests.{not-true}
-use Rattle.registers.specs.Text.{Text, if◌then◌else◌, letter, digit, word_byte, every, empty, same, bytes, capital, small, first}
+use Rattle.registers.specs.Text.{Text, if◌then◌otherwise◌, letter, digit, word_byte, every, empty, same, bytes, capital, small, first}
 use Rattle.registers.specs.Words.{short_form, long_form, matches, Node, must, may}
 use Rattle.registers.specs.Settings.{table}
 use Rattle.registers.proofs.Tests.{and_both}
@@ -44,7 +44,7 @@ clear (may w ∷ nodes) = in_capitals w && (not (numbered w) && (all_apart w nod
 
 -- the one test over the table
 pub rows-clear : every (λ (r : Row). clear r.nodes) rows ≡ true
-unfolding rows setting_rows other_rows table numbered clear all_apart apart short_form long_form same bytes capital small if◌then◌else◌
+unfolding rows setting_rows other_rows table numbered clear all_apart apart short_form long_form same bytes capital small if◌then◌otherwise◌
 rows-clear = refl
 
 -- ---- the law
@@ -75,13 +75,13 @@ upper-forms w n c h = go (same (map capital n) (short_form w)) refl h
     go false q k = upper-whole n (rw (same-eq (map capital n) (long_form w) k) (and_both (every upper (long_form w)) _ p.1).0)
 
 none_both : (v w : String) (n : Text) → in_capitals v ≡ true → apart v w ≡ true → matches v n ≡ true → node_matches w n ≡ false
-unfolding node_matches if◌then◌else◌
+unfolding node_matches if◌then◌otherwise◌
 none_both v w n c a h = go (numbered w)
   where
     none : matches w n ≡ false
     none = not-both v w n a h
 
-    go : (b : Bool) → (if b then matches w (stem n) && every digit (suffix n) else matches w n) ≡ false
+    go : (b : Bool) → (if b then matches w (stem n) && every digit (suffix n) otherwise matches w n) ≡ false
     go true = rw (stem-whole n (upper-forms v n c h), none)
     go false = none
 
@@ -99,7 +99,7 @@ spells-none w n c h names (may v ∷ nodes) a =
 
 -- an optional node takes no suffix
 plain-node : (w : String) (n : Text) → not (numbered w) ≡ true → node_matches w n ≡ matches w n
-unfolding node_matches if◌then◌else◌
+unfolding node_matches if◌then◌otherwise◌
 plain-node w n e = rw (not-true (numbered w) e)
 
 name-words : (n : Text) → name n ≡ true → every word_byte n ≡ true
@@ -108,7 +108,7 @@ name-words n e = (and_both (letter (first n)) (every word_byte n) e).1
 
 pub greedy-spells : (nodes : List Node) → clear nodes ≡ true → (names : List Text) → every name names ≡ true
     → greedy nodes (map key_of names) ≡ spells nodes names
-unfolding greedy spells clear if◌then◌else◌
+unfolding greedy spells clear if◌then◌otherwise◌
 greedy-spells [] c [] e = refl
 greedy-spells [] c (n ∷ names) e = refl
 greedy-spells (must w ∷ nodes) c [] e = refl
@@ -118,7 +118,7 @@ greedy-spells (must w ∷ nodes) c (n ∷ names) e =
     rw (key-matches w n (name-words n q.0) p.0) (go (node_matches w n) (greedy-spells nodes p.1 names q.1))
   where
     go : (m : Bool) → greedy nodes (map key_of names) ≡ spells nodes names
-        → (if m then greedy nodes (map key_of names) else false) ≡ (m && spells nodes names)
+        → (if m then greedy nodes (map key_of names) otherwise false) ≡ (m && spells nodes names)
     go true ih = ih
     go false ih = refl
 greedy-spells (may w ∷ nodes) c [] e =
@@ -135,7 +135,7 @@ greedy-spells (may w ∷ nodes) c (n ∷ names) e =
   where
     go : (m : Bool) → matches w n ≡ m → greedy nodes (map key_of names) ≡ spells nodes names
         → greedy nodes (key_of n ∷ map key_of names) ≡ spells nodes (n ∷ names) → all_apart w nodes ≡ true → in_capitals w ≡ true
-        → (if m then greedy nodes (map key_of names) else greedy nodes (key_of n ∷ map key_of names))
+        → (if m then greedy nodes (map key_of names) otherwise greedy nodes (key_of n ∷ map key_of names))
         ≡ (spells nodes (n ∷ names) || (m && spells nodes names))
     go true q taken left a c = rw (spells-none w n c q names nodes a) taken
     go false q taken left a c = left ∙ sym (or-false (spells nodes (n ∷ names)))

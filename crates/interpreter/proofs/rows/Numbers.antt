@@ -8,7 +8,7 @@ use lib.Dec.{leb}
 use lib.ListN.{length, take, length-take}
 use lib.Seq.{take_all}
 use borrow.Author.Tests.{leb-true, leb-false}
-use Rattle.registers.specs.Text.{Text, if◌then◌else◌, every, same_bool}
+use Rattle.registers.specs.Text.{Text, if◌then◌otherwise◌, every, same_bool}
 use Rattle.registers.specs.Words.{Node, must, may}
 use Rattle.registers.proofs.Tests.{and_both}
 use Rattle.interpreter.specs.Header.{name}
@@ -49,20 +49,20 @@ module _ (star : Bool) (names : List Text) (asked : Bool) (good : every name nam
 -- ---- a row has no more names than nodes
 
 greedy-short : (nodes : List Node) (keys : List ℕ) → greedy nodes keys ≡ true → length keys ≤ length nodes
-unfolding greedy if◌then◌else◌
+unfolding greedy if◌then◌otherwise◌
 greedy-short [] [] e = omega arith
 greedy-short [] (k ∷ keys) e = absurd (false≢true e)
 greedy-short (must w ∷ nodes) [] e = omega arith
 greedy-short (must w ∷ nodes) (k ∷ keys) e = go (key_matches w k) e (greedy-short nodes keys)
   where
-    go : (m : Bool) → (if m then greedy nodes keys else false) ≡ true → (greedy nodes keys ≡ true → length keys ≤ length nodes)
+    go : (m : Bool) → (if m then greedy nodes keys otherwise false) ≡ true → (greedy nodes keys ≡ true → length keys ≤ length nodes)
         → suc (length keys) ≤ suc (length nodes)
     go true q ih = let h = ih q in omega arith
     go false q ih = absurd (false≢true q)
 greedy-short (may w ∷ nodes) [] e = omega arith
 greedy-short (may w ∷ nodes) (k ∷ keys) e = go (key_matches w k) e (greedy-short nodes keys) (greedy-short nodes (k ∷ keys))
   where
-    go : (m : Bool) → (if m then greedy nodes keys else greedy nodes (k ∷ keys)) ≡ true → (greedy nodes keys ≡ true → length keys ≤ length nodes)
+    go : (m : Bool) → (if m then greedy nodes keys otherwise greedy nodes (k ∷ keys)) ≡ true → (greedy nodes keys ≡ true → length keys ≤ length nodes)
         → (greedy nodes (k ∷ keys) ≡ true → suc (length keys) ≤ length nodes) → suc (length keys) ≤ suc (length nodes)
     go true q ih jh = let h = ih q in omega arith
     go false q ih jh = let h = jh q in omega arith
@@ -78,14 +78,14 @@ module _ (star : Bool) (asked : Bool) where
       omega arith
 
   none-long : (keys : List ℕ) → most_nodes < length keys → (l : List Row) → every few l ≡ true → first_fit (fits_keys star keys asked) l ≡ length l
-  unfolding first_fit if◌then◌else◌
+  unfolding first_fit if◌then◌otherwise◌
   none-long keys h [] f = refl
   none-long keys h (r ∷ l) f =
       let p = and_both (few r) (every few l) f in
       go (fits_keys star keys asked r) refl p.0 (none-long keys h l p.1)
     where
       go : (b : Bool) → fits_keys star keys asked r ≡ b → few r ≡ true → first_fit (fits_keys star keys asked) l ≡ length l
-          → (if b then 0 else suc (first_fit (fits_keys star keys asked) l)) ≡ suc (length l)
+          → (if b then 0 otherwise suc (first_fit (fits_keys star keys asked) l)) ≡ suc (length l)
       go true q k ih = absurd (let s = fits-short keys r k q in omega arith)
       go false q k ih = ap suc ih
 

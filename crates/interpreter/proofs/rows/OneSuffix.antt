@@ -7,7 +7,7 @@ use Prim.Native.Nat.{ℕ, ◌+◌, ◌≤◌}
 use Prim.Native.String.{String}
 use native.Mathlib.Omega.{arith}
 use lib.Dec.{leb}
-use Rattle.registers.specs.Text.{Text, if◌then◌else◌, bytes, same, digit, every, empty}
+use Rattle.registers.specs.Text.{Text, if◌then◌otherwise◌, bytes, same, digit, every, empty}
 use Rattle.registers.specs.Words.{Node, must, may, matches}
 use Rattle.registers.specs.Settings.{table}
 use Rattle.registers.proofs.Tests.{and_both}
@@ -17,10 +17,10 @@ use Rattle.interpreter.proofs.rows.Greedy.{word_of, in_capitals, all_apart, clea
 
 -- how many nodes take a suffix, and how many names have one
 abbrev taking : String → ℕ
-taking w = if numbered w then 1 else 0
+taking w = if numbered w then 1 otherwise 0
 
 abbrev having : Text → ℕ
-having n = if empty (suffix n) then 0 else 1
+having n = if empty (suffix n) then 0 otherwise 1
 
 pub takers : List Node → ℕ
 takers [] = 0
@@ -32,14 +32,14 @@ suffixes (n ∷ names) = having n + suffixes names
 
 -- no row has two nodes that take one
 pub one-taker : every (λ (r : Row). leb (takers r.nodes) 1) rows ≡ true
-unfolding rows setting_rows other_rows table numbered takers bytes same if◌then◌else◌
+unfolding rows setting_rows other_rows table numbered takers bytes same if◌then◌otherwise◌
 one-taker = refl
 
 node-suffix : (w : String) (n : Text) → in_capitals w ≡ true → node_matches w n ≡ true → having n ≤ taking w
-unfolding node_matches if◌then◌else◌
+unfolding node_matches if◌then◌otherwise◌
 node-suffix w n c m = go (numbered w) (empty (suffix n)) refl m
   where
-    go : (a b : Bool) → empty (suffix n) ≡ b → (if a then matches w (stem n) && every digit (suffix n) else matches w n) ≡ true → (if b then 0 else 1) ≤ (if a then 1 else 0)
+    go : (a b : Bool) → empty (suffix n) ≡ b → (if a then matches w (stem n) && every digit (suffix n) otherwise matches w n) ≡ true → (if b then 0 otherwise 1) ≤ (if a then 1 otherwise 0)
     go true true e k = omega arith
     go true false e k = omega arith
     go false true e k = omega arith

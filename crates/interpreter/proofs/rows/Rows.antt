@@ -11,7 +11,7 @@ use lib.Dec.{ltb, leb, eqb}
 use lib.ListN.{length, get_or, drop, length-append, length-map, replicate, get_or-append}
 use lib.Seq.{drop-cons}
 use borrow.Author.Tests.{eq-eqb, ne_eqb, ltb-true, leb-true}
-use Rattle.registers.specs.Text.{Text, if◌then◌else◌, every, bytes, same, same_bool}
+use Rattle.registers.specs.Text.{Text, if◌then◌otherwise◌, every, bytes, same, same_bool}
 use Rattle.registers.specs.Words.{Node, must}
 use Rattle.registers.specs.Settings.{table}
 use Rattle.registers.proofs.Tests.{and_assoc}
@@ -54,16 +54,16 @@ unfolding rows setting_rows other_rows table
 rows_few = refl
 
 nodes-known : every all_known rows ≡ true
-unfolding rows setting_rows other_rows table node_byte word_in place_in node_list bytes same if◌then◌else◌
+unfolding rows setting_rows other_rows table node_byte word_in place_in node_list bytes same if◌then◌otherwise◌
 nodes-known = refl
 
 nodes-back : map (λ (r : Row). map back r.nodes) rows ≡ map (λ (r : Row). map itself r.nodes) rows
-unfolding rows setting_rows other_rows table node_byte node_of word_in place_in node_at node_list bytes same if◌then◌else◌
+unfolding rows setting_rows other_rows table node_byte node_of word_in place_in node_at node_list bytes same if◌then◌otherwise◌
 nodes-back = refl
 
 -- a row's form byte has the bit of each form that the row has
 forms-back : (star asked : Bool) → map (bit_set star asked) rows ≡ map (has star asked) rows
-unfolding rows setting_rows other_rows table form_byte form_bit if◌then◌else◌
+unfolding rows setting_rows other_rows table form_byte form_bit if◌then◌otherwise◌
 forms-back true true = refl
 forms-back true false = refl
 forms-back false true = refl

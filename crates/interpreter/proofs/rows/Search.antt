@@ -8,7 +8,7 @@ use native.Mathlib.Numerals.{add-one}
 use native.Mathlib.Omega.{arith}
 use lib.ListN.{length, drop, drop_of_length-le}
 use lib.Seq.{drop-cons}
-use Rattle.registers.specs.Text.{if◌then◌else◌}
+use Rattle.registers.specs.Text.{if◌then◌otherwise◌}
 use Rattle.registers.specs.Words.{Node}
 use Rattle.registers.proofs.Tests.{and-fails}
 use Rattle.interpreter.specs.Rows.{rows}
@@ -46,7 +46,7 @@ module _ {star : Bool} {keys : List ℕ} {asked : Bool} where
     within = let n = rows-many in omega arith
 
     skip : fits_keys star keys asked (row_at r) ≡ false → Seeking star keys asked (r + 1)
-    unfolding first_fit if◌then◌else◌
+    unfolding first_fit if◌then◌otherwise◌
     skip e =
         let k : suc (first_fit (fits_keys star keys asked) (drop (suc r) rows)) + r ≡ row_of_keys star keys asked =
         rw (drop-cons rows r none within, e) at s.left in
@@ -59,7 +59,7 @@ module _ {star : Bool} {keys : List ℕ} {asked : Bool} where
     skip-walk e = skip (fits-is r h star keys asked ∙ and-fails (formed r (form_bit star asked)) (greedy (row_at r).nodes keys) e)
 
     hit : formed r (form_bit star asked) ≡ true → greedy (row_at r).nodes keys ≡ true → r ≡ row_of_keys star keys asked
-    unfolding first_fit if◌then◌else◌
+    unfolding first_fit if◌then◌otherwise◌
     hit e f =
         let k : 0 + r ≡ row_of_keys star keys asked = rw (drop-cons rows r none within, fits-is r h star keys asked, e, f) at s.left in
         omega arith

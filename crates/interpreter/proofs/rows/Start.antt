@@ -12,7 +12,7 @@ use lib.ListN.{length, get_or, drop, drop_of_length-le}
 use lib.Seq.{drop-cons}
 use borrow.Author.Tests.{eq-eqb, eqb-true}
 use mir.Val.{bool_byte}
-use Rattle.registers.specs.Text.{if◌then◌else◌, letter, small, digit, word_byte, every, first, bytes, capital, same_bool}
+use Rattle.registers.specs.Text.{if◌then◌otherwise◌, letter, small, digit, word_byte, every, first, bytes, capital, same_bool}
 use Rattle.registers.specs.Words.{Node, must, may, short_form, long_form}
 use Rattle.registers.specs.Settings.{table}
 use Rattle.registers.proofs.Tests.{and_both}
@@ -38,15 +38,15 @@ led_row r = all_led r.nodes
 
 -- the one test over the table
 rows-led : every led_row rows ≡ true
-unfolding rows setting_rows other_rows table short_form long_form bytes small capital word_key key_from with_code code_of letter digit word_byte if◌then◌else◌
+unfolding rows setting_rows other_rows table short_form long_form bytes small capital word_key key_from with_code code_of letter digit word_byte if◌then◌otherwise◌
 rows-led = refl
 
 -- a suffix stands above the first letter
 shown-low : (takes : Bool) (k : ℕ) → shown_key takes k % code_count ≡ k % code_count
-unfolding shown_key if◌then◌else◌
+unfolding shown_key if◌then◌otherwise◌
 shown-low takes k = go (takes && ltb k no_number)
   where
-    go : (b : Bool) → (if b then k % suffix_place else k) % code_count ≡ k % code_count
+    go : (b : Bool) → (if b then k % suffix_place otherwise k) % code_count ≡ k % code_count
     go true = omega arith
     go false = refl
 
@@ -69,7 +69,7 @@ or_right true e = refl
 or_right false e = e
 
 can-mark : (nodes : List Node) → all_led nodes ≡ true → (keys : List ℕ) (m : ℕ) → greedy nodes keys ≡ true → can_mark (mark_from m keys) m nodes ≡ true
-unfolding greedy can_mark mark_from if◌then◌else◌
+unfolding greedy can_mark mark_from if◌then◌otherwise◌
 can-mark [] l [] m e = eq-eqb m m refl
 can-mark [] l (k ∷ keys) m e = absurd (false≢true e)
 can-mark (must w ∷ nodes) l [] m e = absurd (false≢true e)
@@ -77,7 +77,7 @@ can-mark (must w ∷ nodes) l (k ∷ keys) m e =
     let p = and_both (led w) (all_led nodes) l in
     go (key_matches w k) refl e p.0 (can-mark nodes p.1 keys (with_letter m (k % code_count)))
   where
-    go : (b : Bool) → key_matches w k ≡ b → (if b then greedy nodes keys else false) ≡ true → led w ≡ true
+    go : (b : Bool) → key_matches w k ≡ b → (if b then greedy nodes keys otherwise false) ≡ true → led w ≡ true
         → (greedy nodes keys ≡ true → can_mark (mark_from (with_letter m (k % code_count)) keys) (with_letter m (k % code_count)) nodes ≡ true)
         → can_mark (mark_from (with_letter m (k % code_count)) keys) (with_letter m (code_of (first (bytes w)))) nodes ≡ true
     go true q f h ih = ap (λ (c : ℕ). can_mark (mark_from (with_letter m (k % code_count)) keys) (with_letter m c) nodes) (sym (first-letter w k h q)) ∙ ih f
@@ -92,7 +92,7 @@ can-mark (may w ∷ nodes) l (k ∷ keys) m e =
     x : ℕ
     x = mark_from (with_letter m (k % code_count)) keys
 
-    go : (b : Bool) → key_matches w k ≡ b → (if b then greedy nodes keys else greedy nodes (k ∷ keys)) ≡ true → led w ≡ true
+    go : (b : Bool) → key_matches w k ≡ b → (if b then greedy nodes keys otherwise greedy nodes (k ∷ keys)) ≡ true → led w ≡ true
         → (greedy nodes keys ≡ true → can_mark x (with_letter m (k % code_count)) nodes ≡ true)
         → (greedy nodes (k ∷ keys) ≡ true → can_mark x m nodes ≡ true)
         → (can_mark x m nodes || can_mark x (with_letter m (code_of (first (bytes w)))) nodes) ≡ true
@@ -103,14 +103,14 @@ can-mark (may w ∷ nodes) l (k ∷ keys) m e =
 
 module _ (p q ok : Row → Bool) (weaker : (r : Row) → ok r ≡ true → p r ≡ true → q r ≡ true) where
   first-from : (l : List Row) → every ok l ≡ true → first_fit p (drop (first_fit q l) l) + first_fit q l ≡ first_fit p l
-  unfolding first_fit if◌then◌else◌
+  unfolding first_fit if◌then◌otherwise◌
   first-from [] e = refl
   first-from (r ∷ l) e =
       let t = and_both (ok r) (every ok l) e in
       go (q r) refl (p r) refl t.0 (first-from l t.1)
     where
       go : (a : Bool) → q r ≡ a → (b : Bool) → p r ≡ b → ok r ≡ true → first_fit p (drop (first_fit q l) l) + first_fit q l ≡ first_fit p l
-          → first_fit p (drop (if a then 0 else suc (first_fit q l)) (r ∷ l)) + (if a then 0 else suc (first_fit q l)) ≡ (if b then 0 else suc (first_fit p l))
+          → first_fit p (drop (if a then 0 otherwise suc (first_fit q l)) (r ∷ l)) + (if a then 0 otherwise suc (first_fit q l)) ≡ (if b then 0 otherwise suc (first_fit p l))
       go true i b j o ih = rw j (omega arith)
       go false i true j o ih = absurd (false≢true (sym i ∙ weaker r o j))
       go false i false j o ih = omega arith

@@ -8,7 +8,7 @@ use native.Mathlib.Omega.{arith}
 use lib.Dec.{ltb}
 use lib.ListN.{length, get_or, drop, drop_of_length-le}
 use lib.Seq.{drop-cons}
-use Rattle.registers.specs.Text.{if◌then◌else◌}
+use Rattle.registers.specs.Text.{if◌then◌otherwise◌}
 use Rattle.registers.specs.Words.{Node, must, may}
 use Rattle.interpreter.specs.TableParts.{node_at, optional}
 use Rattle.interpreter.specs.RowsParts.{key_matches, greedy, word_in, node_of, left_out, Walked}
@@ -20,10 +20,10 @@ module _ (node : ℕ) (keys : List ℕ) (at : ℕ) where
       → ((nodes : List Node) → greedy (must (node_at (word_in node)) ∷ nodes) (drop at keys) ≡ false)
       → ((nodes : List Node) → greedy (may (node_at (word_in node)) ∷ nodes) (drop at keys) ≡ greedy nodes (drop at keys))
       → Walked (node_of node) keys at (left_out node at)
-  unfolding node_of left_out if◌then◌else◌
+  unfolding node_of left_out if◌then◌otherwise◌
   left-out l m o = go (ltb node optional)
     where
-      go : (b : Bool) → Walked (if b then must (node_at (word_in node)) else may (node_at (word_in node))) keys at (if b then Missed else To at)
+      go : (b : Bool) → Walked (if b then must (node_at (word_in node)) otherwise may (node_at (word_in node))) keys at (if b then Missed otherwise To at)
       go true = m
       go false = (o, l)
 
@@ -34,15 +34,15 @@ module _ (node : ℕ) (keys : List ℕ) (at : ℕ) where
 
   module _ (h : at < length keys) where
     pub walk-past : key_matches (node_at (word_in node)) (get_or keys at 0) ≡ false → Walked (node_of node) keys at (left_out node at)
-    unfolding greedy if◌then◌else◌
+    unfolding greedy if◌then◌otherwise◌
     walk-past e = left-out (omega arith) (λ nodes. rw (drop-cons keys at 0 h, e)) (λ nodes. rw (drop-cons keys at 0 h, e))
 
     pub walk-on : key_matches (node_at (word_in node)) (get_or keys at 0) ≡ true → Walked (node_of node) keys at (To (at + 1))
-    unfolding node_of greedy if◌then◌else◌
+    unfolding node_of greedy if◌then◌otherwise◌
     walk-on e = (λ nodes. go (ltb node optional) nodes, omega arith)
       where
         go : (b : Bool) (nodes : List Node)
-            → greedy ((if b then must (node_at (word_in node)) else may (node_at (word_in node))) ∷ nodes) (drop at keys)
+            → greedy ((if b then must (node_at (word_in node)) otherwise may (node_at (word_in node))) ∷ nodes) (drop at keys)
             ≡ greedy nodes (drop (at + 1) keys)
         go true nodes = rw (drop-cons keys at 0 h, e, add-one at)
         go false nodes = rw (drop-cons keys at 0 h, e, add-one at)

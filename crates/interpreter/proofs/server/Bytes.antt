@@ -8,7 +8,7 @@ use native.Mathlib.Omega.{arith}
 use lib.Dec.{eqb}
 use lib.ListN.{length, take, drop, length-append, length-drop}
 use lib.Seq.{drop-drop, take_at, length-take-le}
-use Rattle.registers.specs.Text.{Text, if◌then◌else◌}
+use Rattle.registers.specs.Text.{Text, if◌then◌otherwise◌}
 use Rattle.interpreter.specs.Cuts.{join_first}
 use Rattle.interpreter.specs.FlowParts.{first_line}
 use Rattle.interpreter.specs.Server.{lines_of, WholeLines}
@@ -58,7 +58,7 @@ no_more [] ls e = refl
 no_more (k ∷ ks) ls e = absurd (nil≢cons e)
 
 lines-part : (t : Text) (done rest : List Text) → lines_of t ≡ done ++ rest → lines_of (take (total done) t) ≡ done
-unfolding lines_of if◌then◌else◌
+unfolding lines_of if◌then◌otherwise◌
 lines-part [] [] rest e = refl
 lines-part [] (d ∷ ds) rest e = absurd (nil≢cons e)
 lines-part (x ∷ xs) [] rest e = refl

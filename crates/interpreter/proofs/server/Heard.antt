@@ -11,7 +11,7 @@ use lib.ListN as L
 use lib.ListN.{length, drop}
 use lib.Seq.{take-append_seam}
 use borrow.Author.Tests.{leb-true, le-leb}
-use Rattle.registers.specs.Text.{Text, if◌then◌else◌, empty}
+use Rattle.registers.specs.Text.{Text, if◌then◌otherwise◌, empty}
 use Rattle.registers.specs.Settings.{AsLong}
 use Rattle.registers.proofs.Tests.{and-true}
 use Rattle.interpreter.specs.Cuts.{join_first}
@@ -41,7 +41,7 @@ Follows v es said = v.answers ++ copied (answers v.box es) ≡ said
 -- a take that has room for the answer
 taken-whole : (b : Box) (room : Text) → empty b.core.answer ≡ false → length b.core.answer ≤ length room
     → happens b (takes room) ≡ happened (result_of 0 (length b.core.answer) (b.core.answer ++ drop (length b.core.answer) room)) (answer_is [] b)
-unfolding happens taken if◌then◌else◌
+unfolding happens taken if◌then◌otherwise◌
 taken-whole b room e h = rw (e, le-leb (length b.core.answer) (length room) h)
 
 no-answer : (b : Box) → b.core.answer ≡ [] → answer_is [] b ≡ b
@@ -58,10 +58,10 @@ module _ (b : Box) (l room : Text) (f : Fit most_answer b) (long : most_answer �
   whole e = let few = (event-fit b (received l) f).core.answer in taken-whole come room e (omega arith)
 
   line-brings : (text : Text) (c : Box) (es : List Event) → Brings text (heard_line b l) c es → Brings (l ++ text) b c (received l ∷ taking_first come room es)
-  unfolding happens after results sent if◌then◌else◌
+  unfolding happens after results sent if◌then◌otherwise◌
   line-brings text c es m = go (empty come.core.answer) refl
     where
-      go : (t : Bool) → empty come.core.answer ≡ t → Brings (l ++ text) b c (received l ∷ (if t then es else takes room ∷ es))
+      go : (t : Bool) → empty come.core.answer ≡ t → Brings (l ++ text) b c (received l ∷ (if t then es otherwise takes room ∷ es))
       go true e =
           let n = subst (λ (y : Box). Brings text y c es) (no-answer come (is-empty come.core.answer e)) m in
           record { only = n.only; accepted = n.accepted; bytes = ap (λ (t : Text). l ++ t) n.bytes; box = n.box }
@@ -96,15 +96,15 @@ module _ (v : Service) (l : Text) (f : Fit most_answer v.box) (room : most_answe
 
   -- what the line's take copied comes after the answers before it
   line-answers : (es : List Event) (said : Text) → Follows (served_line v l) es said → Follows v (received l ∷ taking_first now v.rest es) said
-  unfolding served_line happens results_of copied if◌then◌else◌
+  unfolding served_line happens results_of copied if◌then◌otherwise◌
   line-answers es said = go (empty now.core.answer) refl
     where
       h : Happened
       h = happens now (takes v.rest)
 
       go : (t : Bool) → empty now.core.answer ≡ t
-          → Follows (if t then service now (v.read + length l) v.answers v.rest else took_after (v.read + length l) v.answers h) es said
-          → Follows v (received l ∷ (if t then es else takes v.rest ∷ es)) said
+          → Follows (if t then service now (v.read + length l) v.answers v.rest otherwise took_after (v.read + length l) v.answers h) es said
+          → Follows v (received l ∷ (if t then es otherwise takes v.rest ∷ es)) said
       go true e m = m
       go false e m =
           let n : h.result.number ≡ 0 = ap (λ (y : Happened). y.result.number) (whole v.box l v.rest f room e) in
@@ -137,7 +137,7 @@ none_left v ls =
     }
 
 goes : (v : Service) (ls : List Text) → Fit most_answer v.box → Goes v ls (events_of v ls) (serves v ls)
-unfolding serves events_of heard answers_to flatten if◌then◌else◌
+unfolding serves events_of heard answers_to flatten if◌then◌otherwise◌
 goes v [] f = none_left v []
 goes v (l ∷ ls) f = go (leb most_answer (length v.rest)) refl (goes (served_line v l) ls (line-fits v l f))
   where
@@ -148,7 +148,7 @@ goes v (l ∷ ls) f = go (leb most_answer (length v.rest)) refl (goes (served_li
     u = serves (served_line v l) ls
 
     go : (t : Bool) → leb most_answer (length v.rest) ≡ t → Goes (served_line v l) ls es u
-        → Goes v (l ∷ ls) (if t then received l ∷ taking_first (happens v.box (received l)).box v.rest es else []) (if t then u else v)
+        → Goes v (l ∷ ls) (if t then received l ∷ taking_first (happens v.box (received l)).box v.rest es otherwise []) (if t then u otherwise v)
     go false e m = none_left v (l ∷ ls)
     go true e m =
         let room = leb-true most_answer (length v.rest) e in
@@ -216,7 +216,7 @@ heard-history room long b (l ∷ ls) f =
 -- ---- however the bytes are cut: where no answer waits, chunks heard one after the other are heard as one
 
 pub plain-answer : (b : Box) (x : ℕ) → eqb x 10 ≡ false → (byte b x).core.answer ≡ b.core.answer
-unfolding byte held if◌then◌else◌
+unfolding byte held if◌then◌otherwise◌
 plain-answer b x e =
     rw e (if-elim (λ (c : Core). c.answer ≡ b.core.answer) (ltb (length b.core.line) most_line) (λ _. refl) (λ _. refl))
 
@@ -226,13 +226,13 @@ joined-heard b x [] e = no-answer (byte b x) e
 joined-heard b x (l ∷ ls) e = refl
 
 pub heard-on : (xs ys : Text) (b : Box) → b.core.answer ≡ [] → heard b (lines_of (xs ++ ys)) ≡ heard (heard b (lines_of xs)) (lines_of ys)
-unfolding lines_of heard if◌then◌else◌
+unfolding lines_of heard if◌then◌otherwise◌
 heard-on [] ys b e = refl
 heard-on (x ∷ xs) ys b e = go (eqb x 10) refl (λ c k. heard-on xs ys c k)
   where
     go : (t : Bool) → eqb x 10 ≡ t → ((c : Box) → c.core.answer ≡ [] → heard c (lines_of (xs ++ ys)) ≡ heard (heard c (lines_of xs)) (lines_of ys))
-        → heard b (if t then (x ∷ []) ∷ lines_of (xs ++ ys) else join_first x (lines_of (xs ++ ys)))
-        ≡ heard (heard b (if t then (x ∷ []) ∷ lines_of xs else join_first x (lines_of xs))) (lines_of ys)
+        → heard b (if t then (x ∷ []) ∷ lines_of (xs ++ ys) otherwise join_first x (lines_of (xs ++ ys)))
+        ≡ heard (heard b (if t then (x ∷ []) ∷ lines_of xs otherwise join_first x (lines_of xs))) (lines_of ys)
     go true q more = more (heard_line b (x ∷ [])) refl
     go false q more =
         let none = plain-answer b x q ∙ e in

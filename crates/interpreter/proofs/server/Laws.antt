@@ -11,7 +11,7 @@ use lib.ListN.{length, take, drop, length-take, length-drop, drop_of_length-le}
 use lib.Seq.{drop-drop, take_at, drop_at, paste, length-paste, take-paste, drop-paste}
 use borrow.Author.Tests.{eqb-true, le-leb, lt-leb, leb-true, ltb-true, ltb-false, leb-false}
 use Rattle.registers.specs.Text.{index_of, index_after}
-use Rattle.registers.specs.Text.{Text, if◌then◌else◌, empty}
+use Rattle.registers.specs.Text.{Text, if◌then◌otherwise◌, empty}
 use Rattle.interpreter.specs.Box.{Memory, memory, store_size, most_answer}
 use Rattle.interpreter.specs.Events.{happens, taken}
 use Rattle.interpreter.specs.FlowParts.{flow_box, FlowFits, first_line, FlowFed}
@@ -24,7 +24,7 @@ use Rattle.interpreter.proofs.flow.Laws.{first_some, first-within}
 -- ---- the first line
 
 pub lines-first : (l : Text) → 0 < length l → lines_of l ≡ first_line l ∷ lines_of (drop (length (first_line l)) l)
-unfolding first_line lines_of index_of index_after if◌then◌else◌
+unfolding first_line lines_of index_of index_after if◌then◌otherwise◌
 lines-first [] h = absurd (omega arith)
 lines-first (x ∷ xs) h = go (eqb x 10) refl xs refl (λ k. lines-first xs k)
   where
@@ -37,12 +37,12 @@ lines-first (x ∷ xs) h = go (eqb x 10) refl xs refl (λ k. lines-first xs k)
 -- ---- one line served
 
 serves-stop : (s : Service) (ls : List Text) → length s.rest < most_answer → serves s ls ≡ s
-unfolding serves if◌then◌else◌
+unfolding serves if◌then◌otherwise◌
 serves-stop s [] h = refl
 serves-stop s (l ∷ ls) h = rw (lt-leb most_answer (length s.rest) h)
 
 pub serves_on : (s : Service) (l : Text) (ls : List Text) → most_answer ≤ length s.rest → serves s (l ∷ ls) ≡ serves (served_line s l) ls
-unfolding serves if◌then◌else◌
+unfolding serves if◌then◌otherwise◌
 serves_on s l ls h = rw (le-leb most_answer (length s.rest) h)
 
 -- the answer is gone
@@ -53,7 +53,7 @@ module _ (f r : Flow) (line out : Text) (m : Memory) (bytes lines left : Text) (
   pub served-one : (read : ℕ) (answers rest : Text) → most_answer ≤ length rest
       → served_line (service (flow_box f line out m) read answers rest) bytes
       ≡ service (flow_box (taken_from r) lines left m') (read + length bytes) (answers ++ take r.present.answered left) (drop r.present.answered rest)
-  unfolding served_line happens taken if◌then◌else◌
+  unfolding served_line happens taken if◌then◌otherwise◌
   served-one read answers rest h = go (eqb r.present.answered 0) refl
     where
       n : length (take r.present.answered left) ≡ r.present.answered

@@ -8,7 +8,7 @@ use native.Mathlib.Omega.{arith}
 use lib.Dec.{eqb}
 use lib.ListN.{length, take, drop, length-take}
 use borrow.Author.Tests.{le-leb, lt-leb, eq-eqb, ne_eqb}
-use Rattle.registers.specs.Text.{Text, if◌then◌else◌}
+use Rattle.registers.specs.Text.{Text, if◌then◌otherwise◌}
 use Rattle.registers.specs.Group.{widest_group, possible_group}
 use Rattle.registers.specs.Settings.{at_reset}
 use Rattle.registers.specs.Status.{registers_of, trouble_of, raised_in, reported_in, status_byte, at_start, possible_status, possible_registers, possible_trouble}
@@ -93,20 +93,20 @@ module _ (s : State) (m : Memory) (room : 0 < length s.answer) where
 
   pub take_none : (buffer : Text) (t : Status) → length s.status.errors ≡ most → t ≡ raised_in 420 s.status → s.waiting ≡ 0
       → happened (result_of 2 0 buffer) (box_of (with_status t s) m) ≡ happens (box_of s m) (takes buffer)
-  unfolding happens taken if◌then◌else◌
+  unfolding happens taken if◌then◌otherwise◌
   take_none buffer t long is e =
       rw (front-empty s.answer s.waiting room, e, is, raised-trouble 420 s.status long, raised-registers 420 s.status long)
 
   pub take_short : (buffer : Text) → (s.waiting ≡ 0 → ⊥) → s.waiting ≤ length s.answer → length buffer < s.waiting
       → happened (result_of 1 s.waiting buffer) (box_of s m) ≡ happens (box_of s m) (takes buffer)
-  unfolding happens taken if◌then◌else◌
+  unfolding happens taken if◌then◌otherwise◌
   take_short buffer ne w h =
       let n : length (take s.waiting s.answer) ≡ s.waiting = rw length-take (omega arith) in
       rw (front-empty s.answer s.waiting room, ne_eqb s.waiting 0 ne, n, lt-leb s.waiting (length buffer) h)
 
   pub take_all : (buffer : Text) → (s.waiting ≡ 0 → ⊥) → s.waiting ≤ length s.answer → s.waiting ≤ length buffer
       → happened (result_of 0 s.waiting (take s.waiting s.answer ++ drop s.waiting buffer)) (box_of (without_answer s) m) ≡ happens (box_of s m) (takes buffer)
-  unfolding happens taken if◌then◌else◌
+  unfolding happens taken if◌then◌otherwise◌
   take_all buffer ne w h =
       let n : length (take s.waiting s.answer) ≡ s.waiting = rw length-take (omega arith) in
       rw (front-empty s.answer s.waiting room, ne_eqb s.waiting 0 ne, n, le-leb s.waiting (length buffer) h)
@@ -122,12 +122,12 @@ module _ (s : State) (m : Memory) (room : 0 < length s.answer) where
 
 module _ (s : State) (m : Memory) (x : RegisterSet) (v : ℕ) where
   pub condition-wide : widest_group < v → happened (result_of 3 0 []) (box_of s m) ≡ happens (box_of s m) (condition x v)
-  unfolding happens reported if◌then◌else◌
+  unfolding happens reported if◌then◌otherwise◌
   condition-wide h = rw (lt-leb v widest_group h)
 
   pub condition-on : (t : Status) → t ≡ reported_in x v s.status → v ≤ widest_group
       → happened (result_of 0 0 []) (box_of (with_status t s) m) ≡ happens (box_of s m) (condition x v)
-  unfolding happens reported if◌then◌else◌
+  unfolding happens reported if◌then◌otherwise◌
   condition-on t is h = rw (le-leb v widest_group h, is, reported-yes s.status v x h)
 
   pub condition-short : (t : Status) → t ≡ reported_in x v s.status → v ≤ widest_group → Short s → Short (with_status t s)

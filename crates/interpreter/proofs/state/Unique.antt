@@ -7,7 +7,7 @@ use native.Mathlib.Omega.{arith}
 use lib.Dec.{eqb}
 use lib.ListN.{length, take}
 use lib.Seq.{length-take-le}
-use Rattle.registers.specs.Text.{if◌then◌else◌}
+use Rattle.registers.specs.Text.{if◌then◌otherwise◌}
 use Rattle.registers.specs.Queue.{most}
 use Rattle.interpreter.specs.Box.{Memory, Box, most_line, most_answer}
 use Rattle.interpreter.specs.Events.{Event, Result, Happened}
@@ -21,13 +21,13 @@ use Rattle.interpreter.proofs.state.Records.{short-from}
 outcome_of : ℕ → Outcome
 outcome_of n =
     if eqb n 0 then Done
-    else (if eqb n 1 then BufferTooShort
-    else (if eqb n 2 then NoAnswer
-    else (if eqb n 3 then ConditionTooWide
-    else (if eqb n 4 then ImpossibleState else WrongStore))))
+    otherwise (if eqb n 1 then BufferTooShort
+    otherwise (if eqb n 2 then NoAnswer
+    otherwise (if eqb n 3 then ConditionTooWide
+    otherwise (if eqb n 4 then ImpossibleState otherwise WrongStore))))
 
 outcome-back : (o : Outcome) → outcome_of (number_of o) ≡ o
-unfolding outcome_of if◌then◌else◌
+unfolding outcome_of if◌then◌otherwise◌
 outcome-back Done = refl
 outcome-back BufferTooShort = refl
 outcome-back NoAnswer = refl

@@ -6,7 +6,7 @@ use Prim.Native.Nat.{ℕ, zero, suc, ◌+◌, ◌*◌, ◌<◌, ◌≤◌}
 use native.Mathlib.Omega.{arith}
 use lib.ListN.{length, get_or, drop, get_or-append}
 use lib.Seq.{drop-append-le, drop-append-add, drop-drop, get_or-append-add, get_or-drop}
-use Rattle.registers.specs.Text.{Text, if◌then◌else◌}
+use Rattle.registers.specs.Text.{Text, if◌then◌otherwise◌}
 use Rattle.registers.specs.Words.{short_form, long_form}
 use Rattle.interpreter.specs.NameParts.{code_of, word_key}
 use Rattle.interpreter.specs.WordsParts.{word_bytes, word_count, word_table, word_cell, word_size}
@@ -118,7 +118,7 @@ module _ (w : ℕ) (h : w < node_count) where
       keys_from (w * keys_size) (omega arith) ∙ rw (table_at key_row keys_size key_table_of refl (λ x xs. refl) node_list keys-wide w "" (omega arith))
 
   pub key-read : (i : ℕ) → i < 2 → eight_at command_table (first_key + w * keys_size + i * 8) ≡ key_cell w i
-  unfolding key_cell if◌then◌else◌
+  unfolding key_cell if◌then◌otherwise◌
   key-read zero k =
       let e : first_key + w * keys_size + 0 * 8 ≡ first_key + w * keys_size = omega arith in
       rw e (from-drop command_table (first_key + w * keys_size) ∙ rw word-keys (eight_is (word_key (short_form (node_at w))) (eight (word_key (long_form (node_at w))) ++ more)))

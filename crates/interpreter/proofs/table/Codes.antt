@@ -7,7 +7,7 @@ use native.Mathlib.Omega.{arith}
 use Prim.Native.Char.{code}
 use lib.Dec.{leb, eqb}
 use borrow.Author.Tests.{leb-true, le-leb, eqb-true}
-use Rattle.registers.specs.Text.{if◌then◌else◌, between, letter, small, digit, word_byte, capital}
+use Rattle.registers.specs.Text.{if◌then◌otherwise◌, between, letter, small, digit, word_byte, capital}
 use Rattle.registers.proofs.Tests.{and_both}
 use Rattle.interpreter.specs.NameParts.{code_of, code_count, stem_byte}
 
@@ -27,11 +27,11 @@ small-bounds b e = bounds 97 122 b e
 -- ---- by the kind of byte
 
 code-letter : (b : ℕ) → letter b ≡ true → code_of b ≡ b % code_count
-unfolding code_of if◌then◌else◌
+unfolding code_of if◌then◌otherwise◌
 code-letter b e = rw e
 
 code_other : (b : ℕ) → letter b ≡ false → eqb b (code "_") ≡ true → code_of b ≡ code_count - 1
-unfolding code_of if◌then◌else◌
+unfolding code_of if◌then◌otherwise◌
 code_other b e f = rw (e, f)
 
 pub letter-word : (b : ℕ) → letter b ≡ true → word_byte b ≡ true
@@ -42,20 +42,20 @@ pub letter-stem : (b : ℕ) → letter b ≡ true → stem_byte b ≡ true
 letter-stem b e = rw e
 
 pub code-none : (b : ℕ) → stem_byte b ≡ false → code_of b ≡ 0
-unfolding code_of if◌then◌else◌
+unfolding code_of if◌then◌otherwise◌
 code-none b e = go (letter b) (eqb b (code "_")) e
   where
-    go : (l u : Bool) → (l || u) ≡ false → (if l then b % code_count else (if u then code_count - 1 else 0)) ≡ 0
+    go : (l u : Bool) → (l || u) ≡ false → (if l then b % code_count otherwise (if u then code_count - 1 otherwise 0)) ≡ 0
     go true u q = absurd (false≢true (sym q))
     go false true q = absurd (false≢true (sym q))
     go false false q = refl
 
 -- a letter's code by its capital
 capital-code : (b : ℕ) → letter b ≡ true → capital b ≡ code_of b + 64
-unfolding letter capital if◌then◌else◌
+unfolding letter capital if◌then◌otherwise◌
 capital-code b e = rw (code-letter b e) (go (small b) refl e)
   where
-    go : (s : Bool) → small b ≡ s → (between 65 90 b || s) ≡ true → (if s then b - 32 else b) ≡ b % code_count + 64
+    go : (s : Bool) → small b ≡ s → (between 65 90 b || s) ≡ true → (if s then b - 32 otherwise b) ≡ b % code_count + 64
     go true q k = let h = small-bounds b q in omega arith
     go false q k = up (upper b) refl k
       where
@@ -73,10 +73,10 @@ upper-code x e = let h = bounds 65 90 x e in rw (code-letter x (upper-letter x e
 -- ---- every code
 
 pub code-small : (b : ℕ) → code_of b < code_count
-unfolding code_of if◌then◌else◌
+unfolding code_of if◌then◌otherwise◌
 code-small b = go (letter b) (eqb b (code "_"))
   where
-    go : (l w : Bool) → (if l then b % code_count else (if w then code_count - 1 else 0)) < code_count
+    go : (l w : Bool) → (if l then b % code_count otherwise (if w then code_count - 1 otherwise 0)) < code_count
     go true w = omega arith
     go false true = omega arith
     go false false = omega arith
@@ -107,10 +107,10 @@ same-letter b x e q = go (letter b) refl
         other false r = let h = bounds 65 90 x e in let c = upper-code x e in let z = code-none b (rw (k, r)) in omega arith
 
 pub capital-same : (b : ℕ) → code_of (capital b) ≡ code_of b
-unfolding capital letter if◌then◌else◌
+unfolding capital letter if◌then◌otherwise◌
 capital-same b = go (small b) refl
   where
-    go : (s : Bool) → small b ≡ s → code_of (if s then b - 32 else b) ≡ code_of b
+    go : (s : Bool) → small b ≡ s → code_of (if s then b - 32 otherwise b) ≡ code_of b
     go true q =
         let h = small-bounds b q in
         let u : upper (b - 32) ≡ true = rw (le-leb 65 (b - 32) (omega arith), le-leb (b - 32) 90 (omega arith)) in

@@ -11,7 +11,7 @@ use native.Mathlib.Omega.{arith}
 use lib.Dec.{eqb, leb, ltb}
 use lib.ListN.{length, length-map, length-reverse_aux}
 use borrow.Author.Tests.{eqb-true, eqb-false, ne_eqb, leb-true, le-leb, ltb-true, ltb-false, lt-ltb, le-ltb}
-use Rattle.registers.specs.Text.{Text, if◌then◌else◌, bytes, every, empty, same, digit, letter, small, word_byte, capital}
+use Rattle.registers.specs.Text.{Text, if◌then◌otherwise◌, bytes, every, empty, same, digit, letter, small, word_byte, capital}
 use Rattle.registers.specs.Words.{short_form, long_form, matches}
 use Rattle.registers.proofs.Tests.{and_both, and-true, and-fails}
 use Rattle.interpreter.specs.Header.{numbered, stem, suffix, node_matches}
@@ -217,10 +217,10 @@ key-small t e = rw (key-turned t) (wrapped-small (turned t) (turned-codes t e))
 -- ---- a suffix by its number
 
 pub class-most : (t : Text) → class_of t ≤ 4
-unfolding class_of if◌then◌else◌
+unfolding class_of if◌then◌otherwise◌
 class-most t = go (empty t) (same t _) (same t _) (every digit t)
   where
-    go : (a b c d : Bool) → (if a then 0 else (if b then 1 else (if c then 2 else (if d then 3 else 4)))) ≤ 4
+    go : (a b c d : Bool) → (if a then 0 otherwise (if b then 1 otherwise (if c then 2 otherwise (if d then 3 otherwise 4)))) ≤ 4
     go true b c d = omega arith
     go false true c d = omega arith
     go false false true d = omega arith
@@ -229,11 +229,11 @@ class-most t = go (empty t) (same t _) (same t _) (every digit t)
 
 -- it is less than 4 where all are digits
 class-digits : (t : Text) → ltb (class_of t) 4 ≡ every digit t
-unfolding class_of if◌then◌else◌ bytes digit
+unfolding class_of if◌then◌otherwise◌ bytes digit
 class-digits t = go (empty t) refl (same t (bytes "1")) refl (same t (bytes "2")) refl (every digit t) refl
   where
     go : (a : Bool) → empty t ≡ a → (b : Bool) → same t (bytes "1") ≡ b → (c : Bool) → same t (bytes "2") ≡ c → (d : Bool) → every digit t ≡ d
-        → ltb (if a then 0 else (if b then 1 else (if c then 2 else (if d then 3 else 4)))) 4 ≡ d
+        → ltb (if a then 0 otherwise (if b then 1 otherwise (if c then 2 otherwise (if d then 3 otherwise 4)))) 4 ≡ d
     go true p b q c r d s = sym (ap (every digit) (is-empty t p)) ∙ s
     go false p true q c r d s = sym (ap (every digit) (same-eq t (bytes "1") q)) ∙ s
     go false p false q true r d s = sym (ap (every digit) (same-eq t (bytes "2") r)) ∙ s
@@ -242,11 +242,11 @@ class-digits t = go (empty t) refl (same t (bytes "1")) refl (same t (bytes "2")
 
 -- it is 0 where there is none
 pub class-none : (t : Text) → eqb (class_of t) 0 ≡ empty t
-unfolding class_of if◌then◌else◌
+unfolding class_of if◌then◌otherwise◌
 class-none [] = refl
 class-none (x ∷ t) = go (same (x ∷ t) _) (same (x ∷ t) _) (every digit (x ∷ t))
   where
-    go : (b c d : Bool) → eqb (if b then 1 else (if c then 2 else (if d then 3 else 4))) 0 ≡ false
+    go : (b c d : Bool) → eqb (if b then 1 otherwise (if c then 2 otherwise (if d then 3 otherwise 4))) 0 ≡ false
     go true c d = refl
     go false true d = refl
     go false false true = refl
@@ -255,14 +255,14 @@ class-none (x ∷ t) = go (same (x ∷ t) _) (same (x ∷ t) _) (every digit (x 
 -- ---- a name's number: its stem's, and its suffix's above that
 
 stem-bytes : (t : Text) → every word_byte t ≡ true → every stem_byte (stem t) ≡ true
-unfolding if◌then◌else◌
+unfolding if◌then◌otherwise◌
 stem-bytes [] e = refl
 stem-bytes (b ∷ bs) e =
     let p = and_both (word_byte b) (every word_byte bs) e in
     go (digit b) refl p.0 (stem-bytes bs p.1)
   where
     go : (d : Bool) → digit b ≡ d → word_byte b ≡ true → every stem_byte (stem bs) ≡ true
-        → every stem_byte (if not d then b ∷ stem bs else []) ≡ true
+        → every stem_byte (if not d then b ∷ stem bs otherwise []) ≡ true
     go true q w ih = refl
     go false q w ih = and-true (stem-is b ∙ rw (w, q)) ih
 
@@ -306,31 +306,31 @@ whole-key t e = let c = eqb-true (class_of (suffix t)) 0 (class-none (suffix t) 
 
 -- a name without a suffix is its stem
 pub stem-whole : (t : Text) → empty (suffix t) ≡ true → stem t ≡ t
-unfolding if◌then◌else◌
+unfolding if◌then◌otherwise◌
 stem-whole [] e = refl
 stem-whole (b ∷ bs) e = go (digit b) e (stem-whole bs)
   where
-    go : (d : Bool) → empty (if not d then suffix bs else b ∷ bs) ≡ true → (empty (suffix bs) ≡ true → stem bs ≡ bs)
-        → (if not d then b ∷ stem bs else []) ≡ b ∷ bs
+    go : (d : Bool) → empty (if not d then suffix bs otherwise b ∷ bs) ≡ true → (empty (suffix bs) ≡ true → stem bs ≡ bs)
+        → (if not d then b ∷ stem bs otherwise []) ≡ b ∷ bs
     go true q ih = absurd (false≢true q)
     go false q ih = ap (λ (l : Text). b ∷ l) (ih q)
 
 -- capitals have no suffix
 upper-digit : (b : ℕ) → upper (capital b) ≡ true → digit b ≡ false
-unfolding capital letter if◌then◌else◌
+unfolding capital letter if◌then◌otherwise◌
 upper-digit b e = go (digit b) refl
   where
     go : (d : Bool) → digit b ≡ d → digit b ≡ false
     go false q = q
     go true q = absurd (two (upper b) refl (small b) refl (digit-alone b q).0 e)
       where
-        two : (u : Bool) → upper b ≡ u → (s : Bool) → small b ≡ s → (u || s) ≡ false → upper (if s then b - 32 else b) ≡ true → ⊥
+        two : (u : Bool) → upper b ≡ u → (s : Bool) → small b ≡ s → (u || s) ≡ false → upper (if s then b - 32 otherwise b) ≡ true → ⊥
         two true p s r k x = false≢true (sym k)
         two false p true r k x = false≢true (sym k)
         two false p false r k x = false≢true (sym p ∙ x)
 
 pub upper-whole : (t : Text) → every upper (map capital t) ≡ true → empty (suffix t) ≡ true
-unfolding if◌then◌else◌
+unfolding if◌then◌otherwise◌
 upper-whole [] e = refl
 upper-whole (b ∷ bs) e =
     let p = and_both (upper (capital b)) (every upper (map capital bs)) e in
@@ -362,8 +362,8 @@ module _ (w : String) (t : Text) (e : every word_byte t ≡ true) (x : (capitals
       rw (key-stem t e, form-key (stem t) (short_form w) (stem-bytes t e) p.0, form-key (stem t) (long_form w) (stem-bytes t e) p.1)
 
   takes-number : (b : Bool) → every digit (suffix t) ≡ b
-      → (let k = if b then key_of t % suffix_place else key_of t in eqb k (word_key (short_form w)) || eqb k (word_key (long_form w))) ≡ (matches w (stem t) && b)
-  unfolding if◌then◌else◌
+      → (let k = if b then key_of t % suffix_place otherwise key_of t in eqb k (word_key (short_form w)) || eqb k (word_key (long_form w))) ≡ (matches w (stem t) && b)
+  unfolding if◌then◌otherwise◌
   takes-number true q = stem-matches ∙ sym (and_right (matches w (stem t)))
     where
       and_right : (m : Bool) → (m && true) ≡ m
@@ -388,10 +388,10 @@ module _ (w : String) (t : Text) (e : every word_byte t ≡ true) (x : (capitals
       plain-key t q s = whole-key t q ∙ ap word_key s
 
   pub key-matches : key_matches w (key_of t) ≡ node_matches w t
-  unfolding key_matches shown_key node_matches if◌then◌else◌
+  unfolding key_matches shown_key node_matches if◌then◌otherwise◌
   key-matches = go (numbered w)
     where
-      go : (b : Bool) → (let k = if b && ltb (key_of t) no_number then key_of t % suffix_place else key_of t in eqb k (word_key (short_form w)) || eqb k (word_key (long_form w)))
-          ≡ (if b then matches w (stem t) && every digit (suffix t) else matches w t)
+      go : (b : Bool) → (let k = if b && ltb (key_of t) no_number then key_of t % suffix_place otherwise key_of t in eqb k (word_key (short_form w)) || eqb k (word_key (long_form w)))
+          ≡ (if b then matches w (stem t) && every digit (suffix t) otherwise matches w t)
       go true = rw (key-digits t e) (takes-number (every digit (suffix t)) refl)
       go false = takes_none (empty (suffix t)) refl

@@ -8,7 +8,7 @@ use Prim.Native.String.{String}
 use native.Mathlib.Omega.{arith}
 use lib.Dec.{eqb}
 use lib.ListN.{length, length-append}
-use Rattle.registers.specs.Text.{Text, if◌then◌else◌, bytes, small, capital, every}
+use Rattle.registers.specs.Text.{Text, if◌then◌otherwise◌, bytes, small, capital, every}
 use Rattle.registers.specs.Words.{short_form, long_form}
 use Rattle.registers.specs.Settings.{table}
 use Rattle.interpreter.specs.Rows.{Row, rows, setting_rows, other_rows}
@@ -24,7 +24,7 @@ abbrev pub word_wide : String → Bool
 word_wide w = eqb (length (word_row w)) word_size
 
 pub words-wide : every word_wide word_list ≡ true
-unfolding word_list word_row short_form long_form bytes small capital if◌then◌else◌
+unfolding word_list word_row short_form long_form bytes small capital if◌then◌otherwise◌
 words-wide = refl
 
 pub words-many : length word_list ≡ word_count
@@ -113,10 +113,10 @@ commands-long = let w = words_long in let s = search-long in omega (arith, lengt
 
 -- a search among rows ends at the last at most
 pub first-most : (p : Row → Bool) (l : List Row) → first_fit p l ≤ length l
-unfolding first_fit if◌then◌else◌
+unfolding first_fit if◌then◌otherwise◌
 first-most p [] = omega arith
 first-most p (r ∷ l) = go (p r) (first-most p l)
   where
-    go : (b : Bool) → first_fit p l ≤ length l → (if b then 0 else suc (first_fit p l)) ≤ suc (length l)
+    go : (b : Bool) → first_fit p l ≤ length l → (if b then 0 otherwise suc (first_fit p l)) ≤ suc (length l)
     go true h = omega arith
     go false h = omega arith

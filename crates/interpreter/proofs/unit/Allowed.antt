@@ -11,7 +11,7 @@ use lib.Signed.{le_z}
 use native.Mathlib.Omega.{arith}
 use borrow.Author.Tests.{leb-true, ltb-true}
 use lib.ListN.{length}
-use Rattle.registers.specs.Text.{Text, if◌then◌else◌, white, visible, every, after}
+use Rattle.registers.specs.Text.{Text, if◌then◌otherwise◌, white, visible, every, after}
 use Rattle.registers.specs.Label.{most_text, text_in}
 use Rattle.registers.specs.Check.{refused, passed}
 use Rattle.registers.specs.Queue.{may_be_queued, queueable}
@@ -206,11 +206,11 @@ find-known s star names asked (r ∷ rs) p e =
 
 -- on a channel it is one of the thirty
 second-slot : (i : ℕ) → Holds (λ (j : ℕ). j < count) (second_of i)
-unfolding second_of may_be_queued queueable if◌then◌else◌
+unfolding second_of may_be_queued queueable if◌then◌otherwise◌
 second-slot i = go (ltb i monitor) refl (ltb monitor i && ltb i brightness) refl
   where
     go : (a : Bool) → ltb i monitor ≡ a → (b : Bool) → (ltb monitor i && ltb i brightness) ≡ b
-        → Holds (λ (j : ℕ). j < count) (if a then passed (i + table_count) else (if b then passed (i + (table_count - 1)) else refused 114))
+        → Holds (λ (j : ℕ). j < count) (if a then passed (i + table_count) otherwise (if b then passed (i + (table_count - 1)) otherwise refused 114))
     go true p b q = passes (let h = ltb-true i monitor p in omega arith)
     go false p true q = passes (let h = ltb-true i brightness (and_both (ltb monitor i) (ltb i brightness) q).1 in omega arith)
     go false p false q = refuses-by refl
@@ -231,7 +231,7 @@ role-known s star names asked =
 
 -- of a text that is no parameter, or one
 deed-allowed : (s : Settings) (r : Role) (asked : Bool) (t : Text) → Known s r → Holds (Permits s (text_in t)) (deed_of s r asked (parts_of t))
-unfolding deed_of may_be_queued queueable if◌then◌else◌
+unfolding deed_of may_be_queued queueable if◌then◌otherwise◌
 deed-allowed s (setting i) true [] p = passes (p.0, tt)
 deed-allowed s (setting i) true (b ∷ t) p = limit-allowed s _ i p.0 (b ∷ t)
 deed-allowed s (setting i) false [] p = refuses-by refl

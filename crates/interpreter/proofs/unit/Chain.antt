@@ -8,7 +8,7 @@ use native.Mathlib.Omega.{arith}
 use lib.Dec.{leb, ltb, eqb}
 use lib.ListN.{length, take, drop}
 use borrow.Author.Tests.{ltb-true}
-use Rattle.registers.specs.Text.{Text, if◌then◌else◌, white, visible, every, start, after}
+use Rattle.registers.specs.Text.{Text, if◌then◌otherwise◌, white, visible, every, start, after}
 use Rattle.registers.specs.Check.{Checked, refused, passed, check, ◌>>=◌, ◌>>◌}
 use Rattle.registers.specs.Label.{text_in}
 use Rattle.registers.specs.declared.settings.Settings.{Settings}
@@ -128,12 +128,12 @@ module _ (s : Settings) (path : List Text) (u : Text) where
 
   module _ {st : ℕ} (at : Runs u st) (r : Looked) (keys : List ℕ) (k : LookedUp path (lent_from u st) r keys) where
     pub bad-header : r ≡ Bad → (n : ℕ) → n ≡ header_refusal u → read_unit s path u ≡ refused n
-    unfolding read_unit header_refusal check ◌>>◌ ◌>>=◌ if◌then◌else◌
+    unfolding read_unit header_refusal check ◌>>◌ ◌>>=◌ if◌then◌otherwise◌
     bad-header q n e = rw e (go (every allowed u) (ap (λ (t : Text). header (start visible t)) (sym at.is) ∙ rw q at k))
       where
         go : (ok : Bool) → header (header_text u) ≡ refused 102
             → (check 101 ok >> header (header_text u) >>= λ h. checks_with s h.query (parameters (parameter_text u)) (find_role (is_common h.place) (full_names h.place path h.names) h.query) (λ d. passed (record { deed = d; text = text_in (parameter_text u); path = path_after h.place path h.names })))
-            ≡ refused (if ok then 102 else 101)
+            ≡ refused (if ok then 102 otherwise 101)
         go true i = rw i
         go false i = refl
 
@@ -163,12 +163,12 @@ second-passes (refused n) m a e = absurd (apart n a e)
 second-passes (passed _) m a e = e
 
 found-deed : (s : Settings) (row : ℕ) (asked : Bool) (t : Text) (d : Deed) → decided_text s row asked t ≡ passed d → row < place_count
-unfolding decided_text decided role_found if◌then◌else◌
+unfolding decided_text decided role_found if◌then◌otherwise◌
 found-deed s row asked t d e = go (ltb row place_count) refl (second-passes (check 101 (every allowed t)) _ d e)
   where
     go : (b : Bool) → ltb row place_count ≡ b → decided s row asked t ≡ passed d → row < place_count
     go true q k = ltb-true row place_count q
-    go false q k = absurd (none_passes (full s asked (parameters t)) (if eqb row nowhere then 113 else 114) _ d (rw q at k))
+    go false q k = absurd (none_passes (full s asked (parameters t)) (if eqb row nowhere then 113 otherwise 114) _ d (rw q at k))
 
 module _ (s : Settings) (path : List Text) (u : Text) {st row used end : ℕ} {asked : Bool} {keys : List ℕ} where
   pub read-to : Headed s path u st row used asked end keys → (g : Span) → SpanOf u (st + end) g

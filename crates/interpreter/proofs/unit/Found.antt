@@ -5,7 +5,7 @@ use mathlib.Core.List.{List}
 use Prim.Native.Nat.{ℕ, ◌≤◌, ◌<◌}
 use lib.Dec.{eqb, ltb}
 use borrow.Author.Tests.{eqb-true, ltb-true, ltb-false, le-leb}
-use Rattle.registers.specs.Text.{Text, if◌then◌else◌, bytes, same, digit, every, empty}
+use Rattle.registers.specs.Text.{Text, if◌then◌otherwise◌, bytes, same, digit, every, empty}
 use Rattle.registers.specs.Check.{refused, passed, ◌>>=◌}
 use Rattle.registers.specs.Settings.{count, table, slots}
 use Rattle.registers.proofs.Tests.{and_both, below_at}
@@ -23,12 +23,12 @@ use Rattle.interpreter.proofs.header.Laws.{found_none, found-role}
 -- ---- a row's place on the channel that a suffix names, by computing it for all rows
 
 place-role : (row : ℕ) → row < row_count → (t : Text) → on_channel t (row_role row) ≡ role_found (place_of row (class_of t))
-unfolding listed on_channel class_of place_of role_found second_of row_role role_at rows setting_rows other_rows slots table ◌>>=◌ if◌then◌else◌
+unfolding listed on_channel class_of place_of role_found second_of row_role role_at rows setting_rows other_rows slots table ◌>>=◌ if◌then◌otherwise◌
 place-role row h t = go (empty t) (same t (bytes "1")) (same t (bytes "2")) (every digit t)
   where
     go : (a b c d : Bool)
-        → (if a || b then passed (row_role row) else (if c then on_second (row_role row) else refused 114))
-        ≡ role_found (place_of row (if a then 0 else (if b then 1 else (if c then 2 else (if d then 3 else 4)))))
+        → (if a || b then passed (row_role row) otherwise (if c then on_second (row_role row) otherwise refused 114))
+        ≡ role_found (place_of row (if a then 0 otherwise (if b then 1 otherwise (if c then 2 otherwise (if d then 3 otherwise 4)))))
     go true b c d = agree row_count (λ k. passed (row_role k)) (λ k. role_found (place_of k 0)) refl row h
     go false true c d = agree row_count (λ k. passed (row_role k)) (λ k. role_found (place_of k 1)) refl row h
     go false false true d = agree row_count (λ k. on_second (row_role k)) (λ k. role_found (place_of k 2)) refl row h
@@ -36,7 +36,7 @@ place-role row h t = go (empty t) (same t (bytes "1")) (same t (bytes "2")) (eve
     go false false false false = agree row_count (λ k. refused 114) (λ k. role_found (place_of k 4)) refl row h
 
 no_place : (row x : ℕ) → row_count ≤ row → role_found (place_of row x) ≡ refused 113
-unfolding place_of role_found if◌then◌else◌
+unfolding place_of role_found if◌then◌otherwise◌
 no_place row x h = rw (le-leb row_count row h)
 
 pub role-found : (star : Bool) (names : List Text) (asked : Bool)

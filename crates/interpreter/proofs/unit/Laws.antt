@@ -5,7 +5,7 @@ use mathlib.Core.List.{List}
 use Prim.Native.Nat.{ℕ, ◌<◌}
 use lib.Dec.{leb}
 use borrow.Author.Tests.{lt-ltb}
-use Rattle.registers.specs.Text.{Text, if◌then◌else◌}
+use Rattle.registers.specs.Text.{Text, if◌then◌otherwise◌}
 use Rattle.registers.specs.Check.{Checked, refused, check, ◌>>=◌, ◌>>◌}
 use Rattle.registers.specs.declared.settings.Settings.{Settings}
 use Rattle.interpreter.specs.Parameter.{parameters, least, greatest, deed_of}
@@ -26,14 +26,14 @@ module _ (s : Settings) (row : ℕ) (asked : Bool) (t : Text) (n : Counted) (is 
   has-empty e = rw (sym is.full ∙ e)
 
   pub not_found : n.full ≡ true → row ≡ nowhere → decided s row asked t ≡ refused 113
-  unfolding decided role_found check ◌>>◌ ◌>>=◌ if◌then◌else◌
+  unfolding decided role_found check ◌>>◌ ◌>>=◌ if◌then◌otherwise◌
   not_found e h = rw (sym is.full ∙ e, h)
 
   pub no-channel : n.full ≡ true → row ≡ no_channel → decided s row asked t ≡ refused 114
-  unfolding decided role_found check ◌>>◌ ◌>>=◌ if◌then◌else◌
+  unfolding decided role_found check ◌>>◌ ◌>>=◌ if◌then◌otherwise◌
   no-channel e h = rw (sym is.full ∙ e, h)
 
   pub found : n.full ≡ true → row < place_count → (r : Role) → r ≡ role_at row
       → decided s row asked t ≡ checked s r asked n.parts (parameters t)
-  unfolding decided role_found check ◌>>◌ ◌>>=◌ if◌then◌else◌
+  unfolding decided role_found check ◌>>◌ ◌>>=◌ if◌then◌otherwise◌
   found e h r at = rw (sym is.full ∙ e, lt-ltb row place_count h, is.parts, at)

@@ -6,14 +6,14 @@ use Prim.Native.Nat.{ℕ, suc, ◌-◌, ◌≤◌, ◌<◌}
 use native.Mathlib.Omega.{arith}
 use lib.ListN.{length, get_or, take}
 use lib.Seq.{take-suc}
-use Rattle.registers.specs.Text.{Text, if◌then◌else◌, white, empty, after}
+use Rattle.registers.specs.Text.{Text, if◌then◌otherwise◌, white, empty, after}
 use Rattle.registers.proofs.Tests.{and-fails}
 use Rattle.interpreter.specs.Cuts.{trim_end, trim}
 
 -- ---- the end, byte by byte
 
 white-more : (l : Text) (x : ℕ) → white x ≡ true → trim_end (l ++ x ∷ []) ≡ trim_end l
-unfolding trim_end if◌then◌else◌
+unfolding trim_end if◌then◌otherwise◌
 white-more [] x h = rw h
 white-more (y ∷ l) x h = rw (white-more l x h)
 
@@ -22,7 +22,7 @@ some_after [] x r = refl
 some_after (y ∷ l) x r = refl
 
 visible_more : (l : Text) (x : ℕ) → white x ≡ false → trim_end (l ++ x ∷ []) ≡ l ++ x ∷ []
-unfolding trim_end if◌then◌else◌
+unfolding trim_end if◌then◌otherwise◌
 visible_more [] x h = rw h
 visible_more (y ∷ l) x h = rw (visible_more l x h, and-fails (white y) (empty (l ++ x ∷ [])) (some_after l x []))
 
@@ -40,23 +40,23 @@ module _ (l : Text) (e : ℕ) (pos : 0 < e) (h : e ≤ length l) where
 -- ---- trimmed twice
 
 trim_end-twice : (t : Text) → trim_end (trim_end t) ≡ trim_end t
-unfolding trim_end if◌then◌else◌
+unfolding trim_end if◌then◌otherwise◌
 trim_end-twice [] = refl
 trim_end-twice (b ∷ bs) = go (white b && empty (trim_end bs)) refl (trim_end-twice bs)
   where
     go : (w : Bool) → (white b && empty (trim_end bs)) ≡ w → trim_end (trim_end bs) ≡ trim_end bs
-        → trim_end (if w then [] else b ∷ trim_end bs) ≡ (if w then [] else b ∷ trim_end bs)
+        → trim_end (if w then [] otherwise b ∷ trim_end bs) ≡ (if w then [] otherwise b ∷ trim_end bs)
     go true q ih = refl
     go false q ih = rw (ih, q)
 
 -- no white space is left at the start
 start-visible : (t : Text) → after white (trim_end (after white t)) ≡ trim_end (after white t)
-unfolding trim_end if◌then◌else◌
+unfolding trim_end if◌then◌otherwise◌
 start-visible [] = refl
 start-visible (b ∷ bs) = go (white b) refl (start-visible bs)
   where
     go : (w : Bool) → white b ≡ w → after white (trim_end (after white bs)) ≡ trim_end (after white bs)
-        → after white (trim_end (if w then after white bs else b ∷ bs)) ≡ trim_end (if w then after white bs else b ∷ bs)
+        → after white (trim_end (if w then after white bs otherwise b ∷ bs)) ≡ trim_end (if w then after white bs otherwise b ∷ bs)
     go true q ih = ih
     go false q ih = rw (q, q)
 

@@ -9,7 +9,7 @@ use native.Mathlib.Omega.{arith}
 use lib.Dec.{ltb}
 use lib.ListN.{length, get_or, take, drop, length-append, length-take, length-replicate, replicate, get_or-append}
 use borrow.Author.Tests.{eqb-true, ltb-true}
-use Rattle.registers.specs.Text.{Text, if◌then◌else◌, bytes, small, capital, same, every}
+use Rattle.registers.specs.Text.{Text, if◌then◌otherwise◌, bytes, small, capital, same, every}
 use Rattle.registers.specs.Words.{short_form, long_form}
 use Rattle.interpreter.specs.WordsParts.{word_count, word_list, word_at, word_row, word_table_of, word_table, word_cell, word_size}
 use Rattle.interpreter.proofs.Lists.{same-eq, every-at, cell_at}
@@ -23,11 +23,11 @@ abbrev some : String → Bool
 some w = ltb 0 (length (short_form w))
 
 short-starts : every starts word_list ≡ true
-unfolding word_list short_form long_form bytes small capital if◌then◌else◌ same
+unfolding word_list short_form long_form bytes small capital if◌then◌otherwise◌ same
 short-starts = refl
 
 short-not-empty : every some word_list ≡ true
-unfolding word_list short_form bytes small if◌then◌else◌
+unfolding word_list short_form bytes small if◌then◌otherwise◌
 short-not-empty = refl
 
 module _ (w : ℕ) (h : w < word_count) where

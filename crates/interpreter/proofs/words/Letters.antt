@@ -10,32 +10,32 @@ use lib.Dec.{eqb, eqb-zero-suc, eqb-suc-zero, eqb-suc-suc}
 use lib.ListN.{length, get_or, take, drop}
 use lib.Seq.{drop-cons, take-length}
 use borrow.Author.Tests.{eq-eqb, ne_eqb}
-use Rattle.registers.specs.Text.{Text, if◌then◌else◌, capital, empty, same}
+use Rattle.registers.specs.Text.{Text, if◌then◌otherwise◌, capital, empty, same}
 use Rattle.registers.specs.Words.{short_form, long_form, matches}
 use Rattle.interpreter.specs.WordsParts.{word_count, word_at, agreed, word_cell, form_length, word_size}
 use Rattle.interpreter.proofs.words.Forms.{forms, short-cell, long-cell, short-is, short-small, long-at}
 
 pub agreed-most : (t l : Text) → (agreed t l ≤ length t) × (agreed t l ≤ length l)
-unfolding agreed if◌then◌else◌
+unfolding agreed if◌then◌otherwise◌
 agreed-most [] l = (omega arith, omega arith)
 agreed-most (b ∷ bs) [] = (omega arith, omega arith)
 agreed-most (b ∷ bs) (x ∷ xs) = go (eqb (capital b) x) (agreed-most bs xs)
   where
     go : (e : Bool) → (agreed bs xs ≤ length bs) × (agreed bs xs ≤ length xs)
-        → ((if e then suc (agreed bs xs) else 0) ≤ suc (length bs)) × ((if e then suc (agreed bs xs) else 0) ≤ suc (length xs))
+        → ((if e then suc (agreed bs xs) otherwise 0) ≤ suc (length bs)) × ((if e then suc (agreed bs xs) otherwise 0) ≤ suc (length xs))
     go true m = (omega arith, omega arith)
     go false m = (omega arith, omega arith)
 
 -- a text is the first k letters exactly if so many agree and it ends there
 pub form-is : (t l : Text) (k : ℕ) → k ≤ length l → same (map capital t) (take k l) ≡ (eqb (agreed t l) k && empty (drop (agreed t l) t))
-unfolding same agreed if◌then◌else◌
+unfolding same agreed if◌then◌otherwise◌
 form-is [] l zero h = refl
 form-is [] [] (suc k) h = absurd (omega arith)
 form-is [] (x ∷ l) (suc k) h = rw (eqb-zero-suc k)
 form-is (b ∷ bs) [] zero h = refl
 form-is (b ∷ bs) (x ∷ l) zero h = go (eqb (capital b) x)
   where
-    go : (c : Bool) → false ≡ (eqb (if c then suc (agreed bs l) else 0) 0 && empty (drop (if c then suc (agreed bs l) else 0) (b ∷ bs)))
+    go : (c : Bool) → false ≡ (eqb (if c then suc (agreed bs l) otherwise 0) 0 && empty (drop (if c then suc (agreed bs l) otherwise 0) (b ∷ bs)))
     go true = rw (eqb-suc-zero (agreed bs l))
     go false = refl
 form-is (b ∷ bs) [] (suc k) h = absurd (omega arith)
@@ -43,7 +43,7 @@ form-is (b ∷ bs) (x ∷ l) (suc k) h = go (eqb (capital b) x) (form-is bs l k 
   where
     go : (c : Bool) → same (map capital bs) (take k l) ≡ (eqb (agreed bs l) k && empty (drop (agreed bs l) bs))
         → (c && same (map capital bs) (take k l))
-        ≡ (eqb (if c then suc (agreed bs l) else 0) (suc k) && empty (drop (if c then suc (agreed bs l) else 0) (b ∷ bs)))
+        ≡ (eqb (if c then suc (agreed bs l) otherwise 0) (suc k) && empty (drop (if c then suc (agreed bs l) otherwise 0) (b ∷ bs)))
     go true ih = rw (eqb-suc-suc (agreed bs l) k) ih
     go false ih = rw (eqb-zero-suc k)
 
@@ -82,7 +82,7 @@ module _ {t : Text} {w n : ℕ} (s : Agreeing t w n) where
   letters = long_form (word_at w)
 
   pub agreeing-on : n < length t → n < word_cell w 1 → capital (get_or t n 0) ≡ word_cell w (n + 2) → Agreeing t w (n + 1)
-  unfolding agreed if◌then◌else◌
+  unfolding agreed if◌then◌otherwise◌
   agreeing-on l m e =
       let c = long-cell w s.word in
       let k : n < length letters = omega arith in
@@ -92,7 +92,7 @@ module _ {t : Text} {w n : ℕ} (s : Agreeing t w n) where
       record { word = s.word; most = s.most; all = rw add-one (omega arith) }
 
   pub agreeing-miss : n < length t → n < word_cell w 1 → (capital (get_or t n 0) ≡ word_cell w (n + 2) → ⊥) → n ≡ agreed t letters
-  unfolding agreed if◌then◌else◌
+  unfolding agreed if◌then◌otherwise◌
   agreeing-miss l m ne =
       let c = long-cell w s.word in
       let k : n < length letters = omega arith in

@@ -11,7 +11,7 @@ use lib.Dec.{leb, eqb}
 use lib.ListN.{length, get_or, take, drop, replicate, get_or-eq_default}
 use lib.Seq.{drop-drop, get_or-drop, take_at}
 use borrow.Author.Tests.{leb-true}
-use Rattle.registers.specs.Text.{Text, if◌then◌else◌, bytes, small, every}
+use Rattle.registers.specs.Text.{Text, if◌then◌otherwise◌, bytes, small, every}
 use Rattle.registers.specs.Answer.{Laid}
 use Rattle.registers.specs.Words.{short_form}
 use Rattle.registers.proofs.answer.Laws.{laid-whole, laid_none}
@@ -23,14 +23,14 @@ abbrev wide : String → Bool
 wide w = eqb (length (short_row w)) short_size
 
 all-wide : every wide word_list ≡ true
-unfolding word_list short_row short_form bytes small if◌then◌else◌
+unfolding word_list short_row short_form bytes small if◌then◌otherwise◌
 all-wide = refl
 
 abbrev brief : String → Bool
 brief w = leb (length (short_form w)) 4
 
 all-brief : every brief word_list ≡ true
-unfolding word_list short_form bytes small if◌then◌else◌
+unfolding word_list short_form bytes small if◌then◌otherwise◌
 all-brief = refl
 
 shorts-long : length short_table ≡ word_count * short_size

@@ -12,7 +12,7 @@ use lib.Signed.{lt_z, le_z}
 use lib.ListN.{get_or, drop, length-take, get_or-eq_default}
 use lib.Seq.{get_or-drop, get_or-take}
 use borrow.Author.Tests.{le-ltb, leb-true, leb-false}
-use Rattle.registers.specs.Text.{if◌then◌else◌, bytes, same}
+use Rattle.registers.specs.Text.{if◌then◌otherwise◌, bytes, same}
 use Rattle.registers.specs.Words.{short_form}
 use Rattle.registers.specs.Settings.{count, table, setting_at, kind_of, word_text, slots}
 use Rattle.interpreter.specs.Parameter.{words_of, takes_numbers}
@@ -26,7 +26,7 @@ abbrev at_row : ℕ → Words
 at_row i = record { first = get_or first_words i 0; count = get_or word_counts i 0 }
 
 pub taken_of : (i : ℕ) → i < count → TakenOf (words_of (kind_of i)) (takes_numbers (kind_of i)) (at_row i)
-unfolding listed first_words word_counts place_in word_list setting_at slots table same bytes if◌then◌else◌
+unfolding listed first_words word_counts place_in word_list setting_at slots table same bytes if◌then◌otherwise◌
 taken_of i h =
     record {
       words = agree count (λ k. words_in (at_row k)) (λ k. words_of (kind_of k)) refl i h;

@@ -1,21 +1,21 @@
 -- A script's number, read one digit at a time. `Reading` is the loop's invariant: the digits left, read after the number so far, spell what the
 -- whole text does.
 use Rattle.std.proofs.Common.{◌≡◌, ℕ, ◌+◌, ◌-◌, ◌*◌, ◌<◌, ◌≤◌, true, false, [], ◌∷◌, length, get_or, drop, sym, refl, ap, ◌∙◌, add-one, arith, drop_of_length-le, drop-cons}
-use Rattle.registers.specs.Text.{Text, if◌then◌else◌, digit, every}
+use Rattle.registers.specs.Text.{Text, if◌then◌otherwise◌, digit, every}
 use Rattle.registers.specs.Number.{numeral_from}
 use Rattle.registers.proofs.number.Numerals.{held-before}
 use Rattle.player.specs.ScriptParts.{unreadable, zero_digit, with_digit, decimal_from, decimal_in}
 
 with-digit : (n b : ℕ) (t : Text) → digit b ≡ true → decimal_from n (b ∷ t) ≡ decimal_from (with_digit n b) t
 unfolding decimal_from numeral_from
-with-digit n b t d = rw d (ap (λ (m : ℕ). if every digit t then m else unreadable) (sym (held-before unreadable (n * 10 + (b - zero_digit)) t)))
+with-digit n b t d = rw d (ap (λ (m : ℕ). if every digit t then m otherwise unreadable) (sym (held-before unreadable (n * 10 + (b - zero_digit)) t)))
 
 with-other : (n b : ℕ) (t : Text) → digit b ≡ false → decimal_from n (b ∷ t) ≡ unreadable
-unfolding decimal_from if◌then◌else◌
+unfolding decimal_from if◌then◌otherwise◌
 with-other n b t d = rw d
 
 with_none : (n : ℕ) → n ≤ unreadable → decimal_from n [] ≡ n
-unfolding decimal_from if◌then◌else◌ numeral_from
+unfolding decimal_from if◌then◌otherwise◌ numeral_from
 with_none n h = omega arith
 
 pub record Reading (t : Text) (n i : ℕ) : Type 0 where

@@ -13,38 +13,38 @@ use lib.IntN.{ℤ, pos, negsuc}
 use mir.Syntax.{w64}
 use mir.Val.{Fits}
 use borrow.Author.Tests.{lt-ltb, le-ltb}
-use Rattle.registers.specs.Text.{Text, if◌then◌else◌}
+use Rattle.registers.specs.Text.{Text, if◌then◌otherwise◌}
 use Rattle.registers.specs.AnswerParts.{farthest}
 use Rattle.registers.specs.Answer.{in_places, most_places, decimal, tenths, signed_text}
 
 -- more places than the digits need change nothing
 more : (p n : ℕ) → n < 10 ^ suc p → in_places (suc p) n ≡ in_places (suc (suc p)) n
-unfolding in_places if◌then◌else◌
+unfolding in_places if◌then◌otherwise◌
 more zero n h = rw (lt-ltb n 10 h)
 more (suc p) n h = go (ltb n 10) (more p (n / 10) (let e = pow-suc 10 (suc p) in omega arith))
   where
     go : (t : Bool) → in_places (suc p) (n / 10) ≡ in_places (suc (suc p)) (n / 10)
-        → (if t then (code "0" + n) ∷ [] else in_places (suc p) (n / 10) ++ (code "0" + n % 10) ∷ [])
-        ≡ (if t then (code "0" + n) ∷ [] else in_places (suc (suc p)) (n / 10) ++ (code "0" + n % 10) ∷ [])
+        → (if t then (code "0" + n) ∷ [] otherwise in_places (suc p) (n / 10) ++ (code "0" + n % 10) ∷ [])
+        ≡ (if t then (code "0" + n) ∷ [] otherwise in_places (suc (suc p)) (n / 10) ++ (code "0" + n % 10) ∷ [])
     go true e = refl
     go false e = ap (λ (l : Text). l ++ (code "0" + n % 10) ∷ []) e
 
 pub decimal-one : (n : ℕ) → n < 10 → decimal n ≡ (code "0" + n) ∷ []
-unfolding decimal in_places if◌then◌else◌
+unfolding decimal in_places if◌then◌otherwise◌
 decimal-one n h = rw (lt-ltb n 10 h)
 
 -- the last digit stands after the decimal of the rest
 pub decimal-more : (n : ℕ) → 10 ≤ n → n < 10 ^ most_places → decimal n ≡ decimal (n / 10) ++ (code "0" + n % 10) ∷ []
-unfolding decimal in_places if◌then◌else◌
+unfolding decimal in_places if◌then◌otherwise◌
 decimal-more n g h = rw (le-ltb n 10 g) (ap (λ (l : Text). l ++ (code "0" + n % 10) ∷ []) (more (most_places - 2) (n / 10) (omega arith)))
 
 in_places-length : (p n : ℕ) → length (in_places p n) ≤ p
-unfolding in_places if◌then◌else◌
+unfolding in_places if◌then◌otherwise◌
 in_places-length zero n = omega arith
 in_places-length (suc p) n = go (ltb n 10) (in_places-length p (n / 10))
   where
     go : (t : Bool) → length (in_places p (n / 10)) ≤ p
-        → length (if t then (code "0" + n) ∷ [] else in_places p (n / 10) ++ (code "0" + n % 10) ∷ []) ≤ suc p
+        → length (if t then (code "0" + n) ∷ [] otherwise in_places p (n / 10) ++ (code "0" + n % 10) ∷ []) ≤ suc p
     go true h = omega arith
     go false h = let e = length-append (in_places p (n / 10)) ((code "0" + n % 10) ∷ []) in omega arith
 

@@ -3,7 +3,7 @@ use mathlib.Core.Path.{◌≡◌, refl, sym, ap, ◌∙◌}
 use mathlib.Core.List.{List, [], ◌∷◌}
 use Prim.Native.Nat.{ℕ}
 use lib.Dec.{eqb}
-use Rattle.registers.specs.Text.{if◌then◌else◌}
+use Rattle.registers.specs.Text.{if◌then◌otherwise◌}
 use Rattle.registers.specs.Error.{number_of}
 use Rattle.registers.specs.declared.error.Error.{Error}
 use Rattle.registers.specs.declared.error.Error.TheVariants.{InvalidCharacter, Syntax, DataType, ParameterNotAllowed, MissingParameter, UndefinedHeader, HeaderSuffix, InvalidCharacterInNumber, ExponentTooLarge, TooManyDigits, InvalidSuffix, SuffixNotAllowed, InvalidCharacterData, StringDataError, InvalidStringData, SettingsConflict, DataOutOfRange, TooMuchData, SaveRecallMemoryLost, InputBufferOverrun, QueryInterrupted, QueryUnterminated, QueryDeadlocked}
@@ -37,12 +37,12 @@ errors =
 
 -- the first of some errors that has a number
 error_in : List Error → ℕ → Error
-unfolding if◌then◌else◌
+unfolding if◌then◌otherwise◌
 error_in [] n = InvalidCharacter
-error_in (e ∷ es) n = if eqb (number_of e) n then e else error_in es n
+error_in (e ∷ es) n = if eqb (number_of e) n then e otherwise error_in es n
 
 back : (e : Error) → error_in errors (number_of e) ≡ e
-unfolding if◌then◌else◌ errors error_in
+unfolding if◌then◌otherwise◌ errors error_in
 back InvalidCharacter = refl
 back Syntax = refl
 back DataType = refl

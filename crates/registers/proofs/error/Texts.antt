@@ -15,7 +15,7 @@ use lib.Seq.{drop-cons, drop-drop, take-append_seam}
 use mir.Syntax.{w8, w16, w64}
 use mir.Val.{Fits}
 use borrow.Author.Tests.{eq-eqb, ne_eqb}
-use Rattle.registers.specs.Text.{Text, if◌then◌else◌, bytes, every}
+use Rattle.registers.specs.Text.{Text, if◌then◌otherwise◌, bytes, every}
 use Rattle.registers.specs.Answer.{decimal, signed_text}
 use Rattle.registers.specs.Error.{messages, message_in, error_text}
 use Rattle.registers.specs.ErrorParts.{quoted, message_size, message_count, message_row, table_of, message_rows, message_table, message_at, row_in}
@@ -108,21 +108,21 @@ both-fit h k = omega arith
 
 -- the message of a number's row is the number's message
 found_in : (ms : List (ℕ × String)) (n : ℕ) → (get_or (ms ++ (0, "") ∷ []) (row_in ms n) (0, "")).1 ≡ message_in ms n
-unfolding row_in message_in if◌then◌else◌
+unfolding row_in message_in if◌then◌otherwise◌
 found_in [] n = refl
 found_in (m ∷ ms) n = go (eqb m.0 n) (found_in ms n)
   where
     go : (t : Bool) → (get_or (ms ++ (0, "") ∷ []) (row_in ms n) (0, "")).1 ≡ message_in ms n
-        → (get_or (m ∷ ms ++ (0, "") ∷ []) (if t then 0 else suc (row_in ms n)) (0, "")).1 ≡ (if t then m.1 else message_in ms n)
+        → (get_or (m ∷ ms ++ (0, "") ∷ []) (if t then 0 otherwise suc (row_in ms n)) (0, "")).1 ≡ (if t then m.1 otherwise message_in ms n)
     go true e = refl
     go false e = e
 
 row_within : (ms : List (ℕ × String)) (n : ℕ) → row_in ms n ≤ length ms
-unfolding row_in if◌then◌else◌
+unfolding row_in if◌then◌otherwise◌
 row_within [] n = omega arith
 row_within (m ∷ ms) n = go (eqb m.0 n) (row_within ms n)
   where
-    go : (t : Bool) → row_in ms n ≤ length ms → (if t then 0 else suc (row_in ms n)) ≤ suc (length ms)
+    go : (t : Bool) → row_in ms n ≤ length ms → (if t then 0 otherwise suc (row_in ms n)) ≤ suc (length ms)
     go true h = omega arith
     go false h = omega arith
 
@@ -163,12 +163,12 @@ module _ (n row : ℕ) where
     listed = get_or-append messages ((0, "") ∷ []) (0, "") row in-messages
 
     pub search-hit : (message_at row).0 ≡ n → sought n row ≡ row
-    unfolding row_in if◌then◌else◌
+    unfolding row_in if◌then◌otherwise◌
     search-hit e =
         rw (drop-cons messages row (0, "") in-messages, eq-eqb (get_or messages row (0, "")).0 n (rw listed at e)) (add-zero row)
 
     pub search-more : ((message_at row).0 ≡ n → ⊥) → sought n row ≡ sought n (row + 1)
-    unfolding row_in if◌then◌else◌
+    unfolding row_in if◌then◌otherwise◌
     search-more ne =
         rw (drop-cons messages row (0, "") in-messages, ne_eqb (get_or messages row (0, "")).0 n (rw listed at ne), add-one row)
         (omega arith)
@@ -184,7 +184,7 @@ module _ (n row : ℕ) where
 
 -- an error's number stands in the answer as a negative number
 pub error-text : (n : ℕ) → error_text n ≡ signed_text decimal (neg_ℤ (pos n)) ++ quoted (message_in messages n)
-unfolding error_text if◌then◌else◌
+unfolding error_text if◌then◌otherwise◌
 error-text zero = append_assoc (decimal 0) (code "," ∷ code "\"" ∷ bytes (message_in messages 0)) (code "\"" ∷ [])
 error-text (suc n) =
     rw (ne_eqb (suc n) 0 (λ (e : suc n ≡ 0). omega arith))

@@ -9,7 +9,7 @@ use native.Mathlib.Numerals.{add-one}
 use lib.Dec.{eqb}
 use lib.ListN.{length, get_or, set, drop, replicate, length-append, drop_of_length-le}
 use lib.Seq.{drop-cons}
-use Rattle.registers.specs.Text.{Text, if◌then◌else◌, every, first, rest}
+use Rattle.registers.specs.Text.{Text, if◌then◌otherwise◌, every, first, rest}
 use Rattle.registers.specs.Label.{most_text, may_stand, closes, undoubled, padded, LabelRead}
 use Rattle.registers.proofs.Tests.{and_assoc}
 use Rattle.registers.proofs.text.Laws.{rest_at}
@@ -48,14 +48,14 @@ reading-start t q = record { few = omega arith; taken = []; all = refl; held = r
 -- a quote that may close, and any other byte
 quote-means : (q b : ℕ) (pending : Bool) (bs : Text) → (not pending && eqb b q) ≡ true
     → (undoubled q pending (b ∷ bs) ≡ undoubled q true bs) × (closes q pending (b ∷ bs) ≡ closes q true bs)
-unfolding undoubled closes if◌then◌else◌
+unfolding undoubled closes if◌then◌otherwise◌
 quote-means q b true bs e = absurd (false≢true e)
 quote-means q b false bs e = (rw e, rw (e, closes))
 
 byte-means : (q b : ℕ) (pending good : Bool) (bs : Text) → (not pending && eqb b q) ≡ false
     → (undoubled q pending (b ∷ bs) ≡ b ∷ undoubled q false bs)
     × (((good && (not pending || eqb b q)) && closes q false bs) ≡ (good && closes q pending (b ∷ bs)))
-unfolding undoubled closes if◌then◌else◌
+unfolding undoubled closes if◌then◌otherwise◌
 byte-means q b true good bs e = (refl, and_assoc good (eqb b q) (closes q false bs))
 byte-means q b false true bs e = (rw e, rw (e, closes))
 byte-means q b false false bs e = (rw e, refl)

@@ -11,7 +11,7 @@ use lib.Dec.{eqb}
 use lib.ListN.{length, get_or, set, take, drop, drop_of_length-le}
 use lib.Seq.{drop-cons}
 use borrow.Author.Tests.{eqb-true, ne_eqb}
-use Rattle.registers.specs.Text.{Text, if◌then◌else◌, every}
+use Rattle.registers.specs.Text.{Text, if◌then◌otherwise◌, every}
 use Rattle.registers.specs.Label.{may_stand, padded, of_text, held_in, possible_text, quoted_text}
 use Rattle.registers.specs.Answer.{Laid}
 use Rattle.registers.specs.AnswerParts.{LaidAt}
@@ -34,7 +34,7 @@ Testing t ended all i = (all && left_of ended (drop i t)) ≡ possible_text t
 
 step : (all ended : Bool) (b : ℕ) (bs : Text)
     → ((all && (eqb b 0 || (not ended && may_stand b))) && left_of (ended || eqb b 0) bs) ≡ (all && left_of ended (b ∷ bs))
-unfolding possible_text if◌then◌else◌
+unfolding possible_text if◌then◌otherwise◌
 step false ended b bs = refl
 step true true b bs = go (eqb b 0)
   where
@@ -43,7 +43,7 @@ step true true b bs = go (eqb b 0)
     go false = refl
 step true false b bs = go (eqb b 0)
   where
-    go : (z : Bool) → ((z || may_stand b) && left_of z bs) ≡ (if z then every is_zero bs else may_stand b && possible_text bs)
+    go : (z : Bool) → ((z || may_stand b) && left_of z bs) ≡ (if z then every is_zero bs otherwise may_stand b && possible_text bs)
     go true = refl
     go false = refl
 
@@ -75,20 +75,20 @@ zeros-possible zero = refl
 zeros-possible (suc n) = zeros-possible n
 
 pub padded-possible : (n : ℕ) (t : Text) → every may_stand t ≡ true → possible_text (padded n t) ≡ true
-unfolding padded possible_text if◌then◌else◌
+unfolding padded possible_text if◌then◌otherwise◌
 padded-possible zero t e = refl
 padded-possible (suc n) [] e = zeros-possible n
 padded-possible (suc n) (b ∷ t) e =
     let p = and_both (may_stand b) (every may_stand t) e in rw (stands-there b p.0, p.0) (padded-possible n t p.1)
 
 zeros-none : (n : ℕ) → held_in (padded n []) ≡ []
-unfolding padded if◌then◌else◌
+unfolding padded if◌then◌otherwise◌
 zeros-none zero = refl
 zeros-none (suc n) = refl
 
 -- it is held as it is
 pub padded-held : (n : ℕ) (t : Text) → every may_stand t ≡ true → length t ≤ n → held_in (padded n t) ≡ t
-unfolding padded if◌then◌else◌
+unfolding padded if◌then◌otherwise◌
 padded-held n [] e h = zeros-none n
 padded-held zero (b ∷ t) e h = absurd (omega arith)
 padded-held (suc n) (b ∷ t) e h =
@@ -116,11 +116,11 @@ pub record HeldRight (t : Text) : Type 0 where
   pub whole : padded (length t) (held_in t) ≡ t
 
 pub held-right : (t : Text) → possible_text t ≡ true → HeldRight t
-unfolding possible_text padded if◌then◌else◌
+unfolding possible_text padded if◌then◌otherwise◌
 held-right [] e = record { accepted = refl; short = omega arith; whole = refl }
 held-right (b ∷ t) e = go (eqb b 0) refl e (λ k. held-right t k)
   where
-    go : (z : Bool) → eqb b 0 ≡ z → (if z then every is_zero t else may_stand b && possible_text t) ≡ true → (possible_text t ≡ true → HeldRight t)
+    go : (z : Bool) → eqb b 0 ≡ z → (if z then every is_zero t otherwise may_stand b && possible_text t) ≡ true → (possible_text t ≡ true → HeldRight t)
         → HeldRight (b ∷ t)
     go true q k ih =
         record {

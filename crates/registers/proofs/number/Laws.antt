@@ -10,7 +10,7 @@ use lib.Dec.{eqb}
 use lib.ListN.{length, length-append, drop}
 use mir.Val.{bool_byte}
 use borrow.Author.Tests.{ne_eqb}
-use Rattle.registers.specs.Text.{Text, if◌then◌else◌, digit, capital, small, first, rest, empty, start, after}
+use Rattle.registers.specs.Text.{Text, if◌then◌otherwise◌, digit, capital, small, first, rest, empty, start, after}
 use Rattle.registers.specs.Number.{numeral_from, numeral, sign, point, after_sign, fraction_of, after_fraction, exponent_of, after_exponent, lowering, meant}
 use Rattle.registers.specs.NumberParts.{held, mantissa_of, DigitsRead, MantissaRead, ExponentRead}
 use Rattle.registers.specs.declared.number.Digits.{Digits}
@@ -32,11 +32,11 @@ number-unique (Number x) (Number y) e = cc
 -- a sign is one byte
 pub sign-end : (t : Text) (at b : ℕ) → b ≡ first (drop at t) → at ≤ length t
     → (drop (at + bool_byte (sign b)) t ≡ after_sign (drop at t)) × (at + bool_byte (sign b) ≤ length t)
-unfolding after_sign if◌then◌else◌
+unfolding after_sign if◌then◌otherwise◌
 sign-end t at b e l = rw e (go (sign (first (drop at t))) refl)
   where
     go : (y : Bool) → sign (first (drop at t)) ≡ y
-        → (drop (at + bool_byte y) t ≡ (if y then rest (drop at t) else drop at t)) × (at + bool_byte y ≤ length t)
+        → (drop (at + bool_byte y) t ≡ (if y then rest (drop at t) otherwise drop at t)) × (at + bool_byte y ≤ length t)
     go true q = let h = first-within sign t at refl q in (sym (rest_at t at), omega arith)
     go false q = (rw (add-zero at), omega arith)
 
@@ -48,7 +48,7 @@ module _ (t : Text) (at : ℕ) (w : Digits) (h : DigitsRead t at 0 w) where
 
   pub no-point : (first (drop w.end t) ≡ code "." → ⊥)
       → MantissaRead t at (record { value = w.value; count = w.end - at; places = 0; end = w.end })
-  unfolding fraction_of after_fraction if◌then◌else◌
+  unfolding fraction_of after_fraction if◌then◌otherwise◌
   no-point ne =
       let q : point (first (after digit (drop at t))) ≡ false = rw (sym h.rest) (ne_eqb (first (drop w.end t)) (code ".") ne) in
       let none : fraction_of (after digit (drop at t)) ≡ [] = rw q in
@@ -67,7 +67,7 @@ module _ (t : Text) (at : ℕ) (w : Digits) (h : DigitsRead t at 0 w) where
 
   pub with-point : first (drop w.end t) ≡ code "." → (d : Digits) → DigitsRead t (w.end + 1) w.value d
       → MantissaRead t at (record { value = d.value; count = d.end - at - 1; places = d.end - w.end - 1; end = d.end })
-  unfolding fraction_of after_fraction if◌then◌else◌
+  unfolding fraction_of after_fraction if◌then◌otherwise◌
   with-point e d k =
       let more = ap rest (sym h.rest) ∙ rest_at t w.end in
       let q : point (first (after digit (drop at t))) ≡ true = rw (sym h.rest, e) in
@@ -98,17 +98,17 @@ module _ (t : Text) (at : ℕ) (w : Digits) (h : DigitsRead t at 0 w) where
 
 module _ (t : Text) (at : ℕ) where
   pub exponent-none : at ≤ length t → exponent_of (drop at t) ≡ [] → ExponentRead t at (record { lowers = false; size = 0; end = at })
-  unfolding lowering after_exponent if◌then◌else◌ numeral_from
+  unfolding lowering after_exponent if◌then◌otherwise◌ numeral_from
   exponent-none l e = record { lowers = rw e; size = rw e; rest = rw e; within = l }
 
   pub exponent-no : (capital (first (drop at t)) ≡ code "E" → ⊥) → exponent_of (drop at t) ≡ []
-  unfolding exponent_of if◌then◌else◌
+  unfolding exponent_of if◌then◌otherwise◌
   exponent-no ne = rw (ne_eqb (capital (first (drop at t))) (code "E") ne)
 
   module _ (e : capital (first (drop at t)) ≡ code "E") (s : ℕ) (signed : drop s t ≡ after_sign (drop (at + 1) t))
       (d : Digits) (h : DigitsRead t s 0 d) where
     is-there : exponent_of (drop at t) ≡ start digit (drop s t)
-    unfolding exponent_of if◌then◌else◌
+    unfolding exponent_of if◌then◌otherwise◌
     is-there = rw (e, rest_at t at, signed)
 
     pub exponent-bare : d.end ≡ s → exponent_of (drop at t) ≡ []
@@ -120,7 +120,7 @@ module _ (t : Text) (at : ℕ) where
 
     pub exponent-some : (d.end ≡ s → ⊥) → (b : ℕ) → b ≡ first (drop (at + 1) t)
         → ExponentRead t at (record { lowers = eqb b (code "-"); size = d.value; end = d.end })
-    unfolding lowering after_exponent if◌then◌else◌
+    unfolding lowering after_exponent if◌then◌otherwise◌
     exponent-some ne b eb =
         let n = h.end in
         let z = ap empty is-there ∙ full (start digit (drop s t)) (λ q. ne (omega arith)) in
@@ -136,5 +136,5 @@ module _ (t : Text) (at : ℕ) where
         full (x ∷ u) f = refl
 
 pub zero-capital : eqb (capital 0) (code "E") ≡ false
-unfolding capital small if◌then◌else◌
+unfolding capital small if◌then◌otherwise◌
 zero-capital = refl

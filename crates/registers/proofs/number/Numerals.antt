@@ -13,7 +13,7 @@ use mir.Syntax.{w64}
 use mir.Val.{Fits}
 use mir.Facts.{and_yes}
 use borrow.Author.Tests.{le-leb, lt-leb, leb-true, leb-false, eqb-true, eqb-false}
-use Rattle.registers.specs.Text.{Text, if◌then◌else◌, digit, every, start, after}
+use Rattle.registers.specs.Text.{Text, if◌then◌otherwise◌, digit, every, start, after}
 use Rattle.registers.specs.Number.{most_digits, numeral_from}
 use Rattle.registers.specs.NumberParts.{held, DigitsRead}
 use Rattle.registers.proofs.text.Laws.{start-more, end-drop, end-within, digit-bounds}
@@ -61,7 +61,7 @@ numeral-bounds n (d ∷ ds) t =
 
 -- "more than 12 mantissa digits after leading zeros" make a number of 10 to the power 12 or more, and twelve a lower one
 pub few-digits : (ds : Text) → T (every digit ds) → leb (length (after (eqb (code "0")) ds)) most_digits ≡ ltb (numeral_from 0 ds) held
-unfolding numeral_from if◌then◌else◌
+unfolding numeral_from if◌then◌otherwise◌
 few-digits [] t = refl
 few-digits (d ∷ ds) t = go (eqb (code "0") d) refl (few-digits ds both.1)
   where
@@ -78,7 +78,7 @@ few-digits (d ∷ ds) t = go (eqb (code "0") d) refl (few-digits ds both.1)
         (λ k. let z = pow-le-pow_right {n = 10} (omega arith) {i = most_digits} {j = length ds} (omega arith) in omega arith)
 
     go : (e : Bool) → eqb (code "0") d ≡ e → leb (length (after (eqb (code "0")) ds)) most_digits ≡ ltb (numeral_from 0 ds) held
-        → leb (length (if e then after (eqb (code "0")) ds else d ∷ ds)) most_digits ≡ ltb (numeral_from (0 * 10 + (d - code "0")) ds) held
+        → leb (length (if e then after (eqb (code "0")) ds otherwise d ∷ ds)) most_digits ≡ ltb (numeral_from (0 * 10 + (d - code "0")) ds) held
     go true q ih = let y = eqb-true (code "0") d q in let z : 0 * 10 + (d - code "0") ≡ 0 = omega arith in rw z ih
     go false q ih =
         let ne = eqb-false (code "0") d q in

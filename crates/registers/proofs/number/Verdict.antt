@@ -9,7 +9,7 @@ use native.Mathlib.Omega.{arith}
 use lib.Dec.{T, leb, ltb, eqb}
 use lib.ListN.{length, drop}
 use borrow.Author.Tests.{ne_eqb, leb-true, ltb-true}
-use Rattle.registers.specs.Text.{Text, if◌then◌else◌, every, digit, white, first, rest, empty, start, after}
+use Rattle.registers.specs.Text.{Text, if◌then◌otherwise◌, every, digit, white, first, rest, empty, start, after}
 use Rattle.registers.specs.Check.{Checked, refused, passed, ◌>>=◌, ◌>>◌, check}
 use Rattle.registers.specs.Number.{most_digits, most_exponent, numeral, point, after_sign, fraction_of, after_fraction, exponent_of, after_exponent, lowering, written, value_of, decimal_of, scaled, number}
 use Rattle.registers.specs.Suffix.{remains}
@@ -50,10 +50,10 @@ no-digits [] n e = rw e
 no-digits (x ∷ l) n e = let z : n ≡ suc (length l) = e in sym (ne_eqb n 0 (λ k. omega arith))
 
 fraction-digits : (u : Text) → T (every digit (fraction_of u))
-unfolding fraction_of if◌then◌else◌
+unfolding fraction_of if◌then◌otherwise◌
 fraction-digits u = go (point (first u))
   where
-    go : (e : Bool) → T (every digit (if e then start digit (rest u) else []))
+    go : (e : Bool) → T (every digit (if e then start digit (rest u) otherwise []))
     go true = start-passes digit (rest u)
     go false = tt
 

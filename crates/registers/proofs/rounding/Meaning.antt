@@ -7,7 +7,7 @@ use native.Mathlib.Omega.{arith}
 use lib.IntN.{ℤ, pos, negsuc}
 use lib.Signed.{le_z, lt_z}
 use borrow.Author.Tests.{ltb-true, le-ltb}
-use Rattle.registers.specs.Text.{if◌then◌else◌}
+use Rattle.registers.specs.Text.{if◌then◌otherwise◌}
 use Rattle.registers.specs.Check.{passed, ◌>>◌, check}
 use Rattle.registers.specs.Rounding.{rounded, fitted, side_in, meant_fit, Stands, RoundedIn}
 use Rattle.registers.specs.declared.number.Decimal.{Decimal}
@@ -37,10 +37,10 @@ not-both (negsuc a) (pos b) e = sym e
 not-both (negsuc a) (negsuc b) e = let h = ltb-true a b e in le-ltb b a (omega arith)
 
 abbrev side_of : ℤ → ℤ → Side
-side_of a b = if lt_z a b then Below else (if lt_z b a then Above else On)
+side_of a b = if lt_z a b then Below otherwise (if lt_z b a then Above otherwise On)
 
 side-of : (x : Side) (a b : ℤ) → Stands x a b → x ≡ side_of a b
-unfolding if◌then◌else◌
+unfolding if◌then◌otherwise◌
 side-of On a b e = rw (e, not-less b)
 side-of Below a b e = rw e
 side-of Above a b e = rw (not-both a b e, e)
@@ -62,10 +62,10 @@ module _ {k : ℕ} {low high : ℤ} {d : Decimal} where
 
   -- the value, where the limits let it pass
   pub fit_is : {r : Rounded} → RoundedIn k low high d r
-      → r.fit ≡ (if le_z low (rounded k d) && le_z (rounded k d) high then Within (rounded k d) else Outside)
-  unfolding fitted check ◌>>◌ if◌then◌else◌
+      → r.fit ≡ (if le_z low (rounded k d) && le_z (rounded k d) high then Within (rounded k d) otherwise Outside)
+  unfolding fitted check ◌>>◌ if◌then◌otherwise◌
   fit_is {r} p = fit-only r.fit _ (p.fit ∙ chosen (le_z low (rounded k d) && le_z (rounded k d) high))
     where
-      chosen : (t : Bool) → (check 222 t >> passed (rounded k d)) ≡ meant_fit (if t then Within (rounded k d) else Outside)
+      chosen : (t : Bool) → (check 222 t >> passed (rounded k d)) ≡ meant_fit (if t then Within (rounded k d) otherwise Outside)
       chosen true = refl
       chosen false = refl

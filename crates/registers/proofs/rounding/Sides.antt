@@ -9,7 +9,7 @@ use native.Mathlib.Nat.{pow-suc, mul-le-mul_right}
 use lib.Dec.{eqb, ltb}
 use lib.Pow.{pow-add}
 use borrow.Author.Tests.{eqb-true, eqb-false, ltb-true, ltb-false, eq-eqb, ne_eqb, lt-ltb, le-ltb}
-use Rattle.registers.specs.Text.{if◌then◌else◌}
+use Rattle.registers.specs.Text.{if◌then◌otherwise◌}
 use Rattle.registers.specs.Rounding.{nearest, size_side}
 use Rattle.registers.specs.RoundingParts.{beyond, sized_over, held_over}
 use Rattle.registers.specs.declared.rounding.Side.{Side}
@@ -25,15 +25,15 @@ sized n x = record { size = n; side = x }
 
 module _ (num den r : ℕ) where
   pub side-on : num ≡ r * den → size_side num den r ≡ On
-  unfolding size_side if◌then◌else◌
+  unfolding size_side if◌then◌otherwise◌
   side-on e = rw (eq-eqb num (r * den) e)
 
   pub side-below : num < r * den → size_side num den r ≡ Below
-  unfolding size_side if◌then◌else◌
+  unfolding size_side if◌then◌otherwise◌
   side-below h = rw (ne_eqb num (r * den) (λ e. omega arith), lt-ltb num (r * den) h)
 
   pub side-above : r * den < num → size_side num den r ≡ Above
-  unfolding size_side if◌then◌else◌
+  unfolding size_side if◌then◌otherwise◌
   side-above h = rw (ne_eqb num (r * den) (λ e. omega arith), le-ltb num (r * den) (omega arith))
 
 -- a common factor changes nothing

@@ -13,7 +13,7 @@ use mir.Syntax.{w32}
 use mir.Val.{SFits, to_z, of_z}
 use mir.Facts.{to_z-of_z}
 use borrow.Author.Tests.{ltb-true, ltb-false}
-use Rattle.registers.specs.Text.{if◌then◌else◌, below}
+use Rattle.registers.specs.Text.{if◌then◌otherwise◌, below}
 use Rattle.registers.specs.Settings.{Kind, bool, Setting, table, past, slots, kind_of, quantity_of, setting_at, lowest_of, highest_of, lowest, highest, wide_range, narrow, range, range2, voltage, voltage2, twelve_volts, value_at, Sort, bools, some_words, numbers, sort_of, meant_values, within, conflict, stored, with_value, count, possible_values}
 use Rattle.registers.specs.SettingsParts.{lows, highs, kinds, values_from, quantities, quantity_from}
 use Rattle.registers.specs.declared.settings.Settings.{Settings}
@@ -38,7 +38,7 @@ high-at i h = get_d_any highs i (pos 0) (pos 1) h ∙ get_or-map (λ (x : Settin
 
 -- the code's kinds of values
 pub kind_at : (i : ℕ) → meant_values (values_from (get_or kinds i 0)) ≡ sort_of (kind_of i)
-unfolding slots table setting_at values_from if◌then◌else◌
+unfolding slots table setting_at values_from if◌then◌otherwise◌
 kind_at i =
     sym (get_or-map (λ (n : ℕ). meant_values (values_from n)) kinds i 0) ∙ get_or-map (λ (x : Setting). sort_of x.kind) slots i past
 
@@ -46,10 +46,10 @@ kind_at i =
 abbrev name_of : Sort → Values
 name_of bools = BoolValue
 name_of some_words = Word
-name_of (numbers k) = if eqb k 10 then Tenths else Whole
+name_of (numbers k) = if eqb k 10 then Tenths otherwise Whole
 
 named : (v : Values) → v ≡ name_of (meant_values v)
-unfolding if◌then◌else◌
+unfolding if◌then◌otherwise◌
 named BoolValue = refl
 named Word = refl
 named Tenths = refl
@@ -67,7 +67,7 @@ values-is v k e = named v ∙ ap name_of e
 
 -- the code's quantities
 pub quantity-at : (i : ℕ) → quantity_from (get_or quantities i 0) ≡ quantity_of i
-unfolding slots table setting_at quantity_from if◌then◌else◌
+unfolding slots table setting_at quantity_from if◌then◌otherwise◌
 quantity-at i = sym (get_or-map quantity_from quantities i 0) ∙ get_or-map (λ (x : Setting). x.quantity) slots i past
 
 -- a row past the table
@@ -117,10 +117,10 @@ unfolding lowest
 low-back i = to_z-of_z (low_fits i)
 
 pub high-back : (s : Settings) (i : ℕ) → to_z w32 (of_z w32 (highest s i)) ≡ highest s i
-unfolding highest if◌then◌else◌
+unfolding highest if◌then◌otherwise◌
 high-back s i = to_z-of_z (go (narrow s i))
   where
-    go : (t : Bool) → SFits w32 (if t then twelve_volts else highest_of (kind_of i))
+    go : (t : Bool) → SFits w32 (if t then twelve_volts otherwise highest_of (kind_of i))
     go true = record { sfits = omega arith }
     go false = high_fits i
 
@@ -139,26 +139,26 @@ module _ (s : Settings) (i : ℕ) where
   narrow_range = (eqb i voltage && lt_z (value_at s range) (pos 1)) || (eqb i voltage2 && lt_z (value_at s range2) (pos 1))
 
   pub high-narrow : narrow_range ≡ true → twelve_volts ≡ highest s i
-  unfolding highest narrow wide_range if◌then◌else◌
+  unfolding highest narrow wide_range if◌then◌otherwise◌
   high-narrow e = rw (← lt_z-not (value_at s range) (pos 1), ← lt_z-not (value_at s range2) (pos 1), e)
 
   pub high-other : narrow_range ≡ false → highest_of (kind_of i) ≡ highest s i
-  unfolding highest narrow wide_range if◌then◌else◌
+  unfolding highest narrow wide_range if◌then◌otherwise◌
   high-other e = rw (← lt_z-not (value_at s range) (pos 1), ← lt_z-not (value_at s range2) (pos 1), e)
 
 -- ---- a value that is stored, by checks 7 and 8
 
 module _ (i : ℕ) (v : ℤ) (s : Settings) where
   pub stored-yes : within s i v ≡ true → conflict s i v ≡ false → stored i v s ≡ with_value i v s
-  unfolding stored if◌then◌else◌
+  unfolding stored if◌then◌otherwise◌
   stored-yes e f = rw (e, f)
 
   pub stored-outside : within s i v ≡ false → stored i v s ≡ s
-  unfolding stored if◌then◌else◌
+  unfolding stored if◌then◌otherwise◌
   stored-outside e = rw e
 
   pub stored-conflict : conflict s i v ≡ true → stored i v s ≡ s
-  unfolding stored if◌then◌else◌
+  unfolding stored if◌then◌otherwise◌
   stored-conflict f = rw (f, and-fails (within s i v) false refl)
 
 -- ---- refusal 4 on the settings, slot by slot

@@ -11,7 +11,7 @@ use lib.Seq.{get_or-set_same, get_or-set_other, set_out}
 use lib.IntN.{ℤ, pos, negsuc}
 use lib.Signed.{le_z, lt_z}
 use borrow.Author.Tests.{eqb-true, eqb-false, leb-true, le-leb, not-false, ltb-true, ltb-false}
-use Rattle.registers.specs.Text.{if◌then◌else◌}
+use Rattle.registers.specs.Text.{if◌then◌otherwise◌}
 use Rattle.registers.specs.Settings.{table, slots, setting_at, kind_of, highest_of, within, lowest, highest, narrow, value_at, with_value, voltage, range, voltage2, range2, count, twelve_volts, wide_range, conflict, stored, possible_values, possible_settings, at_reset}
 use Rattle.registers.specs.Label.{padded, possible_text}
 use Rattle.registers.specs.declared.settings.Settings.{Settings}
@@ -42,8 +42,8 @@ unfolding wide_range
 range-kept s i v r h = ap (le_z (pos 1)) (sym (get_or-set_other s.values i r v (pos 0) (λ e. h (sym e))))
 
 -- every voltage within a range is within the wide one
-pub under-wide : (w : Bool) (x : ℤ) → le_z x (if not w then twelve_volts else highest_of (kind_of voltage)) ≡ true → le_z x (highest_of (kind_of voltage)) ≡ true
-unfolding setting_at slots table if◌then◌else◌
+pub under-wide : (w : Bool) (x : ℤ) → le_z x (if not w then twelve_volts otherwise highest_of (kind_of voltage)) ≡ true → le_z x (highest_of (kind_of voltage)) ≡ true
+unfolding setting_at slots table if◌then◌otherwise◌
 under-wide true x t = t
 under-wide false (pos n) t = let h = leb-true n _ t in le-leb n _ (omega arith)
 under-wide false (negsuc n) t = refl
@@ -55,7 +55,7 @@ at-most-zero (negsuc n) e = refl
 
 -- a channel's voltage and range
 pub record Channel (volts wide : ℕ) : Type 0 where
-  pub top : (s : Settings) → highest s volts ≡ (if not (wide_range s wide) then twelve_volts else highest_of (kind_of voltage))
+  pub top : (s : Settings) → highest s volts ≡ (if not (wide_range s wide) then twelve_volts otherwise highest_of (kind_of voltage))
   pub above : (s : Settings) (v : ℤ) → conflict s wide v ≡ (le_z v (pos 0) && lt_z twelve_volts (value_at s volts))
   pub room : wide < count
 
@@ -79,11 +79,11 @@ second-channel = record { top = λ s. refl; above = λ s v. refl; room = omega a
 -- a new range v that makes no conflict leaves the voltage within its limits
 module _ {volts wide : ℕ} (k : Channel volts wide) where
   range-fits : (s : Settings) (v : ℤ) → conflict s wide v ≡ false → within s volts (value_at s volts) ≡ true
-      → le_z (value_at s volts) (if not (le_z (pos 1) v) then twelve_volts else highest_of (kind_of voltage)) ≡ true
-  unfolding within if◌then◌else◌
+      → le_z (value_at s volts) (if not (le_z (pos 1) v) then twelve_volts otherwise highest_of (kind_of voltage)) ≡ true
+  unfolding within if◌then◌otherwise◌
   range-fits s v c t = go (le_z (pos 1) v) refl
     where
-      go : (w : Bool) → le_z (pos 1) v ≡ w → le_z (value_at s volts) (if not w then twelve_volts else highest_of (kind_of voltage)) ≡ true
+      go : (w : Bool) → le_z (pos 1) v ≡ w → le_z (value_at s volts) (if not w then twelve_volts otherwise highest_of (kind_of voltage)) ≡ true
       go true e = under-wide (wide_range s wide) (value_at s volts) (rw (k.top s) at (and_both (le_z (lowest volts) (value_at s volts)) _ t).1)
       go false e =
           let low : lt_z twelve_volts (value_at s volts) ≡ false = rw (k.above s v, at-most-zero v e) at c in
@@ -157,7 +157,7 @@ module _ (s : Settings) (i : ℕ) (v : ℤ) (long : length s.values ≡ count) (
       go false q = rw (get_or-set_other s.values i j v (pos 0) (eqb-false j i q)) (there-fits j h)
 
 pub reset-possible : possible_settings at_reset ≡ true
-unfolding possible_settings possible_values possible_text padded at_reset slots table within lowest highest narrow wide_range setting_at if◌then◌else◌
+unfolding possible_settings possible_values possible_text padded at_reset slots table within lowest highest narrow wide_range setting_at if◌then◌otherwise◌
 reset-possible = refl
 
 -- whatever is stored, whether or not checks 7 and 8 let it pass

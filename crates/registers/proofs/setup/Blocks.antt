@@ -13,7 +13,7 @@ use lib.Signed.{lt_z}
 use mir.Syntax.{w32}
 use mir.Val.{SFits}
 use borrow.Author.Tests.{eqb-true, ltb-true, le-leb, lt-leb, not-true, not-false}
-use Rattle.registers.specs.Text.{Text, if◌then◌else◌}
+use Rattle.registers.specs.Text.{Text, if◌then◌otherwise◌}
 use Rattle.registers.specs.Answer.{over}
 use Rattle.registers.specs.AnswerParts.{over_at, LaidAt}
 use Rattle.registers.specs.Label.{most_text, padded}
@@ -46,18 +46,18 @@ shift_small (pos n) e h = let k = h.sfits in omega (arith, k)
 shift_small (negsuc n) e h = absurd (false≢true (sym e))
 
 pub unshift-up : (n : ℕ) → 256 ≤ n → pos (n - 256) ≡ unshifted n
-unfolding unshifted if◌then◌else◌
+unfolding unshifted if◌then◌otherwise◌
 unshift-up n h = rw (le-leb 256 n h)
 
 pub unshift-low : (n : ℕ) → n < 256 → neg_ℤ (pos (256 - n)) ≡ unshifted n
-unfolding unshifted if◌then◌else◌
+unfolding unshifted if◌then◌otherwise◌
 unshift-low n h = rw (lt-leb 256 n h)
 
 pub unshift-fits : (n : ℕ) → n < 65536 → SFits w32 (unshifted n)
-unfolding unshifted if◌then◌else◌
+unfolding unshifted if◌then◌otherwise◌
 unshift-fits n h = go (leb 256 n) refl
   where
-    go : (t : Bool) → leb 256 n ≡ t → SFits w32 (if t then pos (n - 256) else neg_ℤ (pos (256 - n)))
+    go : (t : Bool) → leb 256 n ≡ t → SFits w32 (if t then pos (n - 256) otherwise neg_ℤ (pos (256 - n)))
     go true e = record { sfits = omega arith }
     go false e = neg-fits w32 (pos (256 - n)) (omega arith)
 
@@ -110,7 +110,7 @@ read-end n b values text row g h is =
 
 -- by the mark
 pub said-marked : (b : Text) → length b ≡ block_size → marked b ≡ true → read_in count (take (block_size - mark_size) (drop mark_size b)) ≡ settings_in b
-unfolding settings_in if◌then◌else◌
+unfolding settings_in if◌then◌otherwise◌
 said-marked b l e = rw e (ap (read_in count) (take_all (block_size - mark_size) (drop mark_size b) (rw length-drop (omega arith))))
 
 pub said-unmarked : (b : Text) → marked b ≡ false → read_in table_count b ≡ settings_in b
@@ -122,11 +122,11 @@ recall-no b t e n = rw (sym e ∙ not-true t n)
 
 -- what it is read as
 pub said-no : (b : Text) (t : Bool) → t ≡ checks b → not t ≡ true → said_in b ≡ at_reset
-unfolding said_in if◌then◌else◌
+unfolding said_in if◌then◌otherwise◌
 said-no b t e n = rw (sym e ∙ not-true t n)
 
 pub said-yes : (b : Text) (t : Bool) → t ≡ checks b → not t ≡ false → said_in b ≡ settings_in b
-unfolding said_in if◌then◌else◌
+unfolding said_in if◌then◌otherwise◌
 said-yes b t e n = rw (sym e ∙ not-false t n)
 
 pub recall-yes : (b : Text) (t r : Bool) (s : Settings) → t ≡ checks b → not t ≡ false → s ≡ settings_in b → r ≡ possible_settings s → r ≡ recallable b

@@ -11,7 +11,7 @@ use lib.Seq.{take-set-lt, take-set-le, drop-set-lt, drop-set-add, get_or-take, g
 use lib.IntN.{ℤ, pos, negsuc}
 use lib.Signed.{le_z}
 use borrow.Author.Tests.{eqb-true, eqb-false, eq-eqb, ltb-true, ltb-false, le-leb, lt-leb, leb-true}
-use Rattle.registers.specs.Text.{Text, if◌then◌else◌, every, below, between}
+use Rattle.registers.specs.Text.{Text, if◌then◌otherwise◌, every, below, between}
 use Rattle.registers.specs.Label.{most_text, may_stand, forbidden, padded, held_in, possible_text}
 use Rattle.registers.specs.Settings.{table, slots, table_count, setting_at, count, kind_of, highest_of, twelve_volts, narrow, at_reset, value_at, displayed, AsLong, within, lowest, highest, possible_values, possible_settings}
 use Rattle.registers.specs.Setup.{block_size, checked_size, weighted, low_first, in_bytes, checks, shifted, unshifted, value_in, values_in, saved_text, read_in, mark_byte, mark_size, marked, settings_in, bytes_of, unused, body, contents, block_of, recallable, block_at, saved_at, said_in}
@@ -85,7 +85,7 @@ module _ (b : Text) (i x : ℕ) (h : i < block_size) (other : x ≡ get_or b i 0
 
 -- nor does it take a block that is all zero
 pub zeros-not-recalled : recallable (replicate block_size 0) ≡ false
-unfolding recallable checks weighted low_first marked settings_in read_in values_in value_in unshifted possible_settings possible_values within lowest highest narrow setting_at slots table if◌then◌else◌
+unfolding recallable checks weighted low_first marked settings_in read_in values_in value_in unshifted possible_settings possible_values within lowest highest narrow setting_at slots table if◌then◌otherwise◌
 zeros-not-recalled = refl
 
 -- ---- lengths
@@ -146,11 +146,11 @@ nothing-sized (b ∷ t) e =
     and-true (le-leb b 255 (omega arith)) (nothing-sized t p.1)
 
 text-sized : (t : Text) → possible_text t ≡ true → every byte_sized t ≡ true
-unfolding possible_text if◌then◌else◌
+unfolding possible_text if◌then◌otherwise◌
 text-sized [] e = refl
 text-sized (b ∷ t) e = go (eqb b 0) refl e (λ k. text-sized t k)
   where
-    go : (z : Bool) → eqb b 0 ≡ z → (if z then every (λ x. eqb x 0) t else may_stand b && possible_text t) ≡ true
+    go : (z : Bool) → eqb b 0 ≡ z → (if z then every (λ x. eqb x 0) t otherwise may_stand b && possible_text t) ≡ true
         → (possible_text t ≡ true → every byte_sized t ≡ true) → every byte_sized (b ∷ t) ≡ true
     go true q k more = let z = eqb-true b 0 q in and-true (le-leb b 255 (omega arith)) (nothing-sized t k)
     go false q k more = let p = and_both (may_stand b) (possible_text t) k in and-true (stands-sized b p.0) (more p.1)
@@ -226,7 +226,7 @@ pub record Held (v : ℤ) : Type 0 where
   pub high : le_z v (pos 65279) ≡ true
 
 shift_back : (v : ℤ) → Held v → (shifted v < 65536) × (unshifted (shifted v) ≡ v)
-unfolding shifted unshifted if◌then◌else◌
+unfolding shifted unshifted if◌then◌otherwise◌
 shift_back (pos n) h =
     let k = leb-true n 65279 h.high in
     (omega arith, rw (le-leb 256 (n + 256) (omega arith)) (ap pos (omega arith)))
@@ -265,10 +265,10 @@ le_z-trans (negsuc a) (negsuc b) (pos c) p q = refl
 le_z-trans (negsuc a) (negsuc b) (negsuc c) p q = let h = leb-true b a p in let k = leb-true c b q in le-leb c a (omega arith)
 
 highest-held : (s : Settings) (i : ℕ) → le_z (highest_of (kind_of i)) (pos 65279) ≡ true → le_z (highest s i) (pos 65279) ≡ true
-unfolding highest if◌then◌else◌
+unfolding highest if◌then◌otherwise◌
 highest-held s i e = go (narrow s i)
   where
-    go : (t : Bool) → le_z (if t then twelve_volts else highest_of (kind_of i)) (pos 65279) ≡ true
+    go : (t : Bool) → le_z (if t then twelve_volts otherwise highest_of (kind_of i)) (pos 65279) ≡ true
     go true = refl
     go false = e
 
@@ -319,7 +319,7 @@ unfolding marked block_of contents
 block-marked s = refl
 
 said-of-both : (b : Text) → marked b ≡ true → settings_in b ≡ record { values = values_in (drop mark_size b) count ++ drop count at_reset.values; text = saved_text count (drop mark_size b) }
-unfolding settings_in read_in if◌then◌else◌
+unfolding settings_in read_in if◌then◌otherwise◌
 said-of-both b e = rw e
 
 pub saved-back : (s : Settings) → AsLong s → possible_settings s ≡ true → (recallable (block_of s) ≡ true) × (settings_in (block_of s) ≡ s)
@@ -334,13 +334,13 @@ saved-back s long p =
 
 -- OUTPut's value, which they have first, is within its limits
 first-low : (b : Text) → possible_settings (read_in table_count b) ≡ true → le_z (unshifted (get_or b 0 0 + 256 * get_or b 1 0)) (pos 1) ≡ true
-unfolding within highest narrow setting_at slots table read_in values_in value_in if◌then◌else◌
+unfolding within highest narrow setting_at slots table read_in values_in value_in if◌then◌otherwise◌
 first-low b p =
     let v = unshifted (get_or b 0 0 + 256 * get_or b 1 0) in
     (and_both (le_z (lowest 0) v) (le_z v (pos 1)) (good-from (read_in table_count b) p 0 (omega arith))).1
 
 too-high : (x y : ℕ) → y ≡ mark_byte → le_z (unshifted (x + 256 * y)) (pos 1) ≡ true → ⊥
-unfolding unshifted if◌then◌else◌
+unfolding unshifted if◌then◌otherwise◌
 too-high x y e t =
     let h : leb (x + 256 * y - 256) 1 ≡ true = rw (le-leb 256 (x + 256 * y) (omega arith)) at t in
     let k = leb-true (x + 256 * y - 256) 1 h in
@@ -357,7 +357,7 @@ older-unmarked b p = and-fails (eqb (get_or b 0 0) mark_byte) (eqb (get_or b 1 0
 
 -- so they mean what they meant, with channel 2 as at *RST
 pub unmarked-means : (b : Text) → marked b ≡ false → settings_in b ≡ read_in table_count b
-unfolding settings_in if◌then◌else◌
+unfolding settings_in if◌then◌otherwise◌
 unmarked-means b e = rw e
 
 pub older-means : (b : Text) → possible_settings (read_in table_count b) ≡ true → settings_in b ≡ read_in table_count b
@@ -365,7 +365,7 @@ older-means b p = unmarked-means b (older-unmarked b p)
 
 -- and one that was saved before there was a text has an empty one
 pub older-empty : (b : Text) → marked b ≡ false → saved_text table_count b ≡ replicate most_text 0 → displayed (settings_in b) ≡ []
-unfolding read_in if◌then◌else◌
+unfolding read_in if◌then◌otherwise◌
 older-empty b m e = ap displayed (unmarked-means b m) ∙ ap held_in e
 
 -- ---- "*SAV touches only its own block"
@@ -430,16 +430,16 @@ read-long n b h k =
     record { values = rw length-append (omega (arith, v, r, d)); text = rw (length-take, length-drop) (omega arith) }
 
 pub recalled-long : (b : Text) → recallable b ≡ true → AsLong (settings_in b)
-unfolding settings_in recallable checks if◌then◌else◌
+unfolding settings_in recallable checks if◌then◌otherwise◌
 recalled-long b e =
     let l = eqb-true (length b) block_size (and_both (eqb (length b) block_size) _ (and_both (checks b) _ e).0).0 in
     go (marked b) l
   where
-    go : (t : Bool) → length b ≡ block_size → AsLong (if t then read_in count (drop mark_size b) else read_in table_count b)
+    go : (t : Bool) → length b ≡ block_size → AsLong (if t then read_in count (drop mark_size b) otherwise read_in table_count b)
     go true l = read-long count (drop mark_size b) (omega arith) (rw length-drop (omega arith))
     go false l = read-long table_count b (omega arith) (omega arith)
 
 -- a block that *RCL takes is read as its settings
 pub said-recalled : (b : Text) → recallable b ≡ true → said_in b ≡ settings_in b
-unfolding recallable said_in if◌then◌else◌
+unfolding recallable said_in if◌then◌otherwise◌
 said-recalled b e = rw (and_both (checks b) (possible_settings (settings_in b)) e).0

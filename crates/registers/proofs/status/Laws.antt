@@ -11,7 +11,7 @@ use lib.ListN.{length, take, drop, get_or, set}
 use mir.Syntax.{w64}
 use mir.Val.{Fits}
 use borrow.Author.Tests.{lt-ltb, le-ltb, le-leb, lt-leb, eq-eqb, ne_eqb}
-use Rattle.registers.specs.Text.{if◌then◌else◌, first, every}
+use Rattle.registers.specs.Text.{if◌then◌otherwise◌, first, every}
 use Rattle.registers.specs.Error.{event_bit, overflow}
 use Rattle.registers.specs.Queue.{may_be_queued, most, last_place}
 use Rattle.registers.specs.Group.{meet, widest_group}
@@ -34,12 +34,12 @@ module _ {n : ℕ} (h : n < most) where
 module _ (n : ℕ) (s : Status) where
   pub raised-more : s.queued < most
       → raised_in n s ≡ with_trouble (bit_or s.events (event_bit n)) (s.queued + 1) (set s.errors s.queued n) s
-  unfolding raised_in if◌then◌else◌
+  unfolding raised_in if◌then◌otherwise◌
   raised-more h = rw (lt-ltb s.queued most h)
 
   pub raised-full : most ≤ s.queued
       → raised_in n s ≡ with_trouble (bit_or (bit_or s.events (event_bit n)) (event_bit overflow)) s.queued (set s.errors last_place overflow) s
-  unfolding raised_in if◌then◌else◌
+  unfolding raised_in if◌then◌otherwise◌
   raised-full h = rw (le-ltb s.queued most h)
 
 -- ---- the oldest error
@@ -51,53 +51,53 @@ first_of (x ∷ l) (suc q) h = refl
 
 module _ (s : Status) where
   pub oldest-none : s.queued ≡ 0 → oldest_read_in s ≡ s
-  unfolding oldest_read_in if◌then◌else◌
+  unfolding oldest_read_in if◌then◌otherwise◌
   oldest-none e = rw (eq-eqb s.queued 0 e)
 
   pub oldest-some : (s.queued ≡ 0 → ⊥) → oldest_read_in s ≡ with_trouble s.events (s.queued - 1) (drop 1 s.errors ++ 0 ∷ []) s
-  unfolding oldest_read_in if◌then◌else◌
+  unfolding oldest_read_in if◌then◌otherwise◌
   oldest-some e = rw (ne_eqb s.queued 0 e)
 
 -- ---- a condition reported and a register set, by the width
 
 module _ (s : Status) (n : ℕ) where
   pub reported-yes : (x : RegisterSet) → n ≤ widest_group → reported_in x n s ≡ with_registers (set_reported x n (registers_of s)) s
-  unfolding reported_in if◌then◌else◌
+  unfolding reported_in if◌then◌otherwise◌
   reported-yes x h = rw (le-leb n widest_group h)
 
   pub reported-no : (x : RegisterSet) → widest_group < n → reported_in x n s ≡ s
-  unfolding reported_in if◌then◌else◌
+  unfolding reported_in if◌then◌otherwise◌
   reported-no x h = rw (lt-leb n widest_group h)
 
   pub set-yes : (x : Register) → n ≤ widest x → register_set x n s ≡ with_registers (stored_in x n (registers_of s)) s
-  unfolding register_set if◌then◌else◌
+  unfolding register_set if◌then◌otherwise◌
   set-yes x h = rw (le-leb n (widest x) h)
 
   pub set-no : (x : Register) → widest x < n → register_set x n s ≡ s
-  unfolding register_set if◌then◌else◌
+  unfolding register_set if◌then◌otherwise◌
   set-no x h = rw (lt-leb n (widest x) h)
 
 -- ---- the status byte
 
 -- a bit that is on has its weight
-pub bit_is : (on : Bool) (k : ℕ) → (if on then 2 ^ k else 0) ≡ bit_if on k
-unfolding if◌then◌else◌
+pub bit_is : (on : Bool) (k : ℕ) → (if on then 2 ^ k otherwise 0) ≡ bit_if on k
+unfolding if◌then◌otherwise◌
 bit_is true k = refl
 bit_is false k = refl
 
 module _ (s : Status) (answers : Bool) (long : length s.errors ≡ most) where
   pub summary-is :
       set_bits s.groups
-      + (if meet s.events s.ese then 2 ^ 5 else 0)
-      + (if answers then 2 ^ 4 else 0)
-      + (if not (eqb s.queued 0) then 2 ^ 2 else 0)
+      + (if meet s.events s.ese then 2 ^ 5 otherwise 0)
+      + (if answers then 2 ^ 4 otherwise 0)
+      + (if not (eqb s.queued 0) then 2 ^ 2 otherwise 0)
       ≡ summary (registers_of s) (trouble_of s) answers
   unfolding summary
   summary-is =
       rw (front-empty s.errors s.queued (omega arith), bit_is (meet s.events s.ese) 5, bit_is answers 4, bit_is (not (eqb s.queued 0)) 2)
 
   pub byte-is : (n : ℕ) → n ≡ summary (registers_of s) (trouble_of s) answers
-      → n + (if meet n s.sre then 2 ^ 6 else 0) ≡ status_byte (registers_of s) (trouble_of s) answers
+      → n + (if meet n s.sre then 2 ^ 6 otherwise 0) ≡ status_byte (registers_of s) (trouble_of s) answers
   unfolding status_byte
   byte-is n e = rw (e, bit_is (meet (summary (registers_of s) (trouble_of s) answers) s.sre) 6)
 
@@ -116,11 +116,11 @@ module _ (s : Status) where
 -- ---- the three groups
 
 -- the weight of a set's bit
-weight_is : (x : RegisterSet) (r : Registers) → (if meet (group_in x r).event (group_in x r).enable then 2 ^ bit_of x else 0) ≡ summed_up x r.groups
+weight_is : (x : RegisterSet) (r : Registers) → (if meet (group_in x r).event (group_in x r).enable then 2 ^ bit_of x otherwise 0) ≡ summed_up x r.groups
 weight_is x r = bit_is (meet (group_in x r).event (group_in x r).enable) (bit_of x)
 
 -- the weights of the three bits
-pub bits_are : (r : Registers) → let bit : RegisterSet → ℕ = λ x. if meet (group_in x r).event (group_in x r).enable then 2 ^ bit_of x else 0 in
+pub bits_are : (r : Registers) → let bit : RegisterSet → ℕ = λ x. if meet (group_in x r).event (group_in x r).enable then 2 ^ bit_of x otherwise 0 in
     bit Operation + bit Lock + bit Warning ≡ set_bits r.groups
 unfolding set_bits
 bits_are r = rw (weight_is Operation r, weight_is Lock r, weight_is Warning r)

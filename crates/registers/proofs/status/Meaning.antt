@@ -10,7 +10,7 @@ use lib.Dec.{ltb, eqb}
 use lib.ListN.{length, take, drop, set, length-take, length-set}
 use lib.Seq.{take-suc-set, take_all, take-take, take-append-le}
 use borrow.Author.Tests.{lt-ltb, le-ltb, ltb-true, ltb-false, eqb-true, eqb-false}
-use Rattle.registers.specs.Text.{if◌then◌else◌, rest}
+use Rattle.registers.specs.Text.{if◌then◌otherwise◌, rest}
 use Rattle.registers.specs.Error.{overflow}
 use Rattle.registers.specs.Status.{registers_of, trouble_of, raised, no_trouble, completed, events_read, oldest_read, all_read, raised_in, cleared_in, events_in, oldest_read_in}
 use Rattle.registers.specs.Queue.{most, last_place}
@@ -34,7 +34,7 @@ moved_up (x ∷ l) q long h = take-append-le q l (0 ∷ []) (omega arith)
 
 module _ (n : ℕ) (s : Status) (long : length s.errors ≡ most) where
   pub raised-trouble : trouble_of (raised_in n s) ≡ raised n (trouble_of s)
-  unfolding raised if◌then◌else◌
+  unfolding raised if◌then◌otherwise◌
   raised-trouble = go (ltb s.queued most) refl
     where
       go : (t : Bool) → ltb s.queued most ≡ t → trouble_of (raised_in n s) ≡ raised n (trouble_of s)

@@ -10,7 +10,7 @@ use lib.Dec.{leb, ltb, eqb, lit≤}
 use lib.ListN.{length, take, set, get_or, length-append, length-take}
 use lib.Seq.{get_or-set_same, get_or-set_other}
 use borrow.Author.Tests.{le-leb, leb-true, ltb-true, eqb-true}
-use Rattle.registers.specs.Text.{if◌then◌else◌, every, rest, below}
+use Rattle.registers.specs.Text.{if◌then◌otherwise◌, every, rest, below}
 use Rattle.registers.specs.Error.{event_bit, overflow}
 use Rattle.registers.specs.Queue.{may_be_queued, queueable, most, last_place}
 use Rattle.registers.specs.Group.{widest_group, condition_is, event_read, possible_group, no_group}
@@ -25,10 +25,10 @@ use Rattle.registers.proofs.group.Laws.{has, transition-bit, or-within, Widths, 
 -- ---- trouble
 
 bit_byte : (n : ℕ) → event_bit n ≤ widest_byte
-unfolding event_bit if◌then◌else◌
+unfolding event_bit if◌then◌otherwise◌
 bit_byte n = go (ltb n 200) (ltb n 300) (ltb n 400)
   where
-    go : (a b c : Bool) → (if a then 2 ^ 5 else (if b then 2 ^ 4 else (if c then 2 ^ 3 else 2 ^ 2))) ≤ widest_byte
+    go : (a b c : Bool) → (if a then 2 ^ 5 otherwise (if b then 2 ^ 4 otherwise (if c then 2 ^ 3 otherwise 2 ^ 2))) ≤ widest_byte
     go true b c = omega arith
     go false true c = omega arith
     go false false true = omega arith
@@ -57,12 +57,12 @@ length_rest (x ∷ l) n h = omega arith
 
 module _ (t : Trouble) (g : Good t) where
   pub raised-good : (n : ℕ) → may_be_queued n ≡ true → Good (raised n t)
-  unfolding raised if◌then◌else◌ may_be_queued queueable
+  unfolding raised if◌then◌otherwise◌ may_be_queued queueable
   raised-good n k = go (ltb (length t.queue) most) refl
     where
       go : (b : Bool) → ltb (length t.queue) most ≡ b
           → Good (if b then record { events = bit_or t.events (event_bit n); queue = t.queue ++ n ∷ [] }
-          else record { events = bit_or (bit_or t.events (event_bit n)) (event_bit overflow); queue = take last_place t.queue ++ overflow ∷ [] })
+          otherwise record { events = bit_or (bit_or t.events (event_bit n)) (event_bit overflow); queue = take last_place t.queue ++ overflow ∷ [] })
       go true e =
           record {
             queue = let h = ltb-true (length t.queue) most e in simp length-append (omega arith);

@@ -8,7 +8,7 @@ use native.Mathlib.Omega.{arith}
 use lib.Dec.{eqb}
 use lib.ListN.{length}
 use borrow.Author.Tests.{ne_eqb}
-use Rattle.registers.specs.Text.{Text, if◌then◌else◌, bytes, small, letter, capital, every, same, first}
+use Rattle.registers.specs.Text.{Text, if◌then◌otherwise◌, bytes, small, letter, capital, every, same, first}
 use Rattle.registers.specs.Suffix.{suffixes, no_suffix, power_in, remains}
 use Rattle.registers.specs.SuffixParts.{letters_of, alike, spelling, power_by, scale_to}
 use Rattle.registers.specs.declared.suffix.Power.{Power}
@@ -25,7 +25,7 @@ brief (x ∷ y ∷ z ∷ []) = true
 brief (x ∷ y ∷ z ∷ w ∷ s) = false
 
 zero : capital 0 ≡ 0
-unfolding capital small if◌then◌else◌
+unfolding capital small if◌then◌otherwise◌
 zero = refl
 
 -- the same tests in either order
@@ -77,7 +77,7 @@ power-by n (x ∷ xs) t c =
     rw (spelt t (bytes x.0) p.0, power-by n xs t p.1)
 
 pub scale-is : (q : Quantity) (t : Text) → letter (first t) ≡ true → scale_to q (letters_of t) ≡ remains q t
-unfolding scale_to remains if◌then◌else◌
+unfolding scale_to remains if◌then◌otherwise◌
 scale-is q t e = rw e (sym (power-by (no_suffix q) (suffixes q) t (all-brief q)))
 
 pub zero-letter : letter 0 ≡ false

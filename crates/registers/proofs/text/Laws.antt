@@ -12,7 +12,7 @@ use lib.ListN.{length, get_or, take, drop, length-drop, drop_of_length-le, get_o
 use lib.Seq.{drop-cons, drop-drop}
 use mir.Facts.{and_yes}
 use borrow.Author.Tests.{ltb-true, ltb-false}
-use Rattle.registers.specs.Text.{Text, if◌then◌else◌, digit, every, empty, first, rest, start, after, index_of, index_after}
+use Rattle.registers.specs.Text.{Text, if◌then◌otherwise◌, digit, every, empty, first, rest, start, after, index_of, index_after}
 
 -- ---- at a place
 
@@ -49,11 +49,11 @@ first-within p l i z e = go (ltb i (length l)) refl
 
 module _ (p : ℕ → Bool) (l : Text) (i : ℕ) (h : i < length l) where
   pub start-more : p (get_or l i 0) ≡ true → start p (drop i l) ≡ get_or l i 0 ∷ start p (drop (i + 1) l)
-  unfolding if◌then◌else◌
+  unfolding if◌then◌otherwise◌
   start-more e = rw (drop-cons l i 0 h, add-one i, e)
 
   pub start-stop : p (get_or l i 0) ≡ false → start p (drop i l) ≡ []
-  unfolding if◌then◌else◌
+  unfolding if◌then◌otherwise◌
   start-stop e = rw (drop-cons l i 0 h, e)
 
 module _ (p : ℕ → Bool) (l : Text) (i : ℕ) (h : length l ≤ i) where
@@ -63,40 +63,40 @@ module _ (p : ℕ → Bool) (l : Text) (i : ℕ) (h : length l ≤ i) where
 -- ---- the whole of that start
 
 pub drop-start : (p : ℕ → Bool) (t : Text) → drop (length (start p t)) t ≡ after p t
-unfolding if◌then◌else◌
+unfolding if◌then◌otherwise◌
 drop-start p [] = refl
 drop-start p (b ∷ bs) = go (p b) (drop-start p bs)
   where
     go : (e : Bool) → drop (length (start p bs)) bs ≡ after p bs
-        → drop (length (if e then b ∷ start p bs else [])) (b ∷ bs) ≡ (if e then after p bs else b ∷ bs)
+        → drop (length (if e then b ∷ start p bs otherwise [])) (b ∷ bs) ≡ (if e then after p bs otherwise b ∷ bs)
     go true ih = ih
     go false ih = refl
 
 pub take-start : (p : ℕ → Bool) (t : Text) → take (length (start p t)) t ≡ start p t
-unfolding if◌then◌else◌
+unfolding if◌then◌otherwise◌
 take-start p [] = refl
 take-start p (b ∷ bs) = go (p b) (take-start p bs)
   where
     go : (e : Bool) → take (length (start p bs)) bs ≡ start p bs
-        → take (length (if e then b ∷ start p bs else [])) (b ∷ bs) ≡ (if e then b ∷ start p bs else [])
+        → take (length (if e then b ∷ start p bs otherwise [])) (b ∷ bs) ≡ (if e then b ∷ start p bs otherwise [])
     go true ih = ap (λ (l : Text). b ∷ l) ih
     go false ih = refl
 
 pub start-short : (p : ℕ → Bool) (t : Text) → length (start p t) ≤ length t
-unfolding if◌then◌else◌
+unfolding if◌then◌otherwise◌
 start-short p [] = omega arith
 start-short p (b ∷ bs) = go (p b) (start-short p bs)
   where
-    go : (e : Bool) → length (start p bs) ≤ length bs → length (if e then b ∷ start p bs else []) ≤ suc (length bs)
+    go : (e : Bool) → length (start p bs) ≤ length bs → length (if e then b ∷ start p bs otherwise []) ≤ suc (length bs)
     go true ih = omega arith
     go false ih = omega arith
 
 pub start-passes : (p : ℕ → Bool) (t : Text) → T (every p (start p t))
-unfolding if◌then◌else◌
+unfolding if◌then◌otherwise◌
 start-passes p [] = tt
 start-passes p (b ∷ bs) = go (p b) refl (start-passes p bs)
   where
-    go : (e : Bool) → p b ≡ e → T (every p (start p bs)) → T (every p (if e then b ∷ start p bs else []))
+    go : (e : Bool) → p b ≡ e → T (every p (start p bs)) → T (every p (if e then b ∷ start p bs otherwise []))
     go true q ih = rw q ih
     go false q ih = tt
 
@@ -130,12 +130,12 @@ abbrev pub other : ℕ → ℕ → Bool
 other b x = not (eqb x b)
 
 pub index-start : (b : ℕ) (t : Text) → length (start (other b) t) ≡ index_of b t
-unfolding index_of index_after if◌then◌else◌
+unfolding index_of index_after if◌then◌otherwise◌
 index-start b [] = refl
 index-start b (x ∷ xs) = go (eqb x b) (index-start b xs)
   where
     go : (e : Bool) → length (start (other b) xs) ≡ index_of b xs
-        → length (if not e then x ∷ start (other b) xs else []) ≡ index_after e (index_of b xs)
+        → length (if not e then x ∷ start (other b) xs otherwise []) ≡ index_after e (index_of b xs)
     go true ih = refl
     go false ih = ap suc ih
 

@@ -10,7 +10,7 @@ use lib.Dec.{eqb}
 use lib.ListN.{length, get_or, drop, set, drop_of_length-le, length-append}
 use lib.Seq.{drop-cons}
 use borrow.Author.Tests.{eq-eqb, ne_eqb}
-use Rattle.registers.specs.Text.{Text, if◌then◌else◌, bytes, small, same}
+use Rattle.registers.specs.Text.{Text, if◌then◌otherwise◌, bytes, small, same}
 use Rattle.registers.specs.Words.{short_form}
 use Rattle.registers.specs.Label.{of_text, held_in, quoted_text}
 use Rattle.registers.specs.Settings.{table, slots, displayed}
@@ -69,11 +69,11 @@ module _ (l m : Text) (i : ℕ) (h : Agreed l m i) where
 -- ---- its line
 
 pub held-short : (t : Text) → length (held_in t) ≤ length t
-unfolding if◌then◌else◌
+unfolding if◌then◌otherwise◌
 held-short [] = zero-le
 held-short (b ∷ t) = go (of_text b) (held-short t)
   where
-    go : (z : Bool) → length (held_in t) ≤ length t → length (if z then b ∷ held_in t else []) ≤ suc (length t)
+    go : (z : Bool) → length (held_in t) ≤ length t → length (if z then b ∷ held_in t otherwise []) ≤ suc (length t)
     go true k = omega arith
     go false k = zero-le
 
@@ -81,7 +81,7 @@ pub quoted-long : (t : Text) → length (quoted_text t) ≡ length t + 2
 quoted-long t = let k = length-append t (34 ∷ []) in omega arith
 
 text-label : text_at 37 ≡ label_header ++ code " " ∷ []
-unfolding text_at texts word_texts short_names joined_names short_form bytes same numbered small if◌then◌else◌ table slots
+unfolding text_at texts word_texts short_names joined_names short_form bytes same numbered small if◌then◌otherwise◌ table slots
 text-label = refl
 
 label-long : length (label_header ++ code " " ∷ []) ≡ 10
@@ -104,10 +104,10 @@ module _ (t : Text) {out out₁ : Text} {at m : ℕ} (p : Put out at (text_at 37
 
 module _ (p w : Settings) {out out₁ rows : Text} {m : ℕ} where
   pub rows-alone : same p.text w.text ≡ true → Put out 0 rows m out₁ → Put out 0 (rows ++ label_line p w) m out₁
-  unfolding if◌then◌else◌
+  unfolding if◌then◌otherwise◌
   rows-alone q put = rw (q, append-nil rows) put
 
   pub rows-label : same p.text w.text ≡ false → Put out 0 rows m out₁ → {out₂ : Text} {r : ℕ} → Put out₁ m (label_for (displayed w)) r out₂
       → Put out 0 (rows ++ label_line p w) r out₂
-  unfolding if◌then◌else◌
+  unfolding if◌then◌otherwise◌
   rows-label q put more = rw q (put_then put more)

@@ -14,7 +14,7 @@ use lib.Seq.{drop-drop, get_or-drop, take_at}
 use lib.IntN.{ℤ, pos, negsuc}
 use lib.Signed.{le_z, lt_z}
 use borrow.Author.Tests.{leb-true, ltb-true, lt-ltb, ne_eqb}
-use Rattle.registers.specs.Text.{Text, if◌then◌else◌, bytes, small, every, below, same}
+use Rattle.registers.specs.Text.{Text, if◌then◌otherwise◌, bytes, small, every, below, same}
 use Rattle.registers.specs.Words.{short_form}
 use Rattle.registers.specs.Settings.{count, voltage, range, voltage2, range2, narrow, Kind, bool, words, number, table, slots, setting_at, kind_of, lowest, highest, within, answer_of, some_words, sort_of}
 use Rattle.registers.specs.declared.settings.Settings.{Settings}
@@ -33,11 +33,11 @@ abbrev brief : Text → Bool
 brief t = leb (length t) 20
 
 all-wide : every wide texts ≡ true
-unfolding texts text_row word_texts short_names joined_names short_form bytes same numbered small if◌then◌else◌ table slots
+unfolding texts text_row word_texts short_names joined_names short_form bytes same numbered small if◌then◌otherwise◌ table slots
 all-wide = refl
 
 all-brief : every brief texts ≡ true
-unfolding texts word_texts short_names joined_names short_form bytes same numbered small if◌then◌else◌ table slots
+unfolding texts word_texts short_names joined_names short_form bytes same numbered small if◌then◌otherwise◌ table slots
 all-brief = refl
 
 texts-long : length text_table ≡ text_count * text_size
@@ -94,7 +94,7 @@ abbrev heads : ℕ → Bool
 heads i = same (text_at i) (header_for i ++ code " " ∷ [])
 
 all-heads : below count heads ≡ true
-unfolding text_at texts word_texts short_names joined_names short_form bytes same numbered small if◌then◌else◌ table slots setting_at header_for
+unfolding text_at texts word_texts short_names joined_names short_form bytes same numbered small if◌then◌otherwise◌ table slots setting_at header_for
 all-heads = refl
 
 pub text-header : (i : ℕ) → i < count → text_at i ≡ header_for i ++ code " " ∷ []
@@ -122,7 +122,7 @@ abbrev wordly : ℕ → ℕ → Bool
 wordly i n = not (ltb n (length (words_in (kind_of i)))) || same (text_at (word_place i (pos n))) (answer_of (kind_of i) (pos n))
 
 all-wordly : below count (λ i. below 3 (wordly i)) ≡ true
-unfolding text_at texts word_texts short_names joined_names short_form bytes same numbered small if◌then◌else◌ table slots setting_at word_place answer_of
+unfolding text_at texts word_texts short_names joined_names short_form bytes same numbered small if◌then◌otherwise◌ table slots setting_at word_place answer_of
 all-wordly = refl
 
 pub place-below : (i : ℕ) (v : ℤ) → word_place i v < text_count
@@ -143,7 +143,7 @@ unfolding narrow setting_at table slots
 not_narrow s i ws q = rw (no_words i voltage ws refl q, no_words i voltage2 ws refl q)
 
 in_list : (s : Settings) (i : ℕ) (v : ℤ) (ws : List String) → kind_of i ≡ words ws → within s i v ≡ true → (le_z (pos 0) v ≡ true) × (le_z v (pos (pred (length ws))) ≡ true)
-unfolding within lowest highest if◌then◌else◌
+unfolding within lowest highest if◌then◌otherwise◌
 in_list s i v ws q w =
     let p = and_both (le_z (lowest i) v) (le_z v (highest s i)) w in
     (rw q at p.0, rw (not_narrow s i ws q, q) at p.1)

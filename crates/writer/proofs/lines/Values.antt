@@ -6,7 +6,7 @@ use native.Mathlib.Omega.{arith}
 use lib.IntN.{ℤ}
 use types.Run.{OneOf, miss}
 use denote.Enum.Declared.{tag_of}
-use Rattle.registers.specs.Text.{if◌then◌else◌}
+use Rattle.registers.specs.Text.{if◌then◌otherwise◌}
 use Rattle.registers.specs.Answer.{decimal, tenths, signed_text}
 use Rattle.registers.specs.Settings.{Kind, bool, words, number, answer_of, bools, numbers, sort_of, meant_values}
 use Rattle.registers.specs.declared.settings.Values.{Values}
@@ -14,13 +14,13 @@ use Rattle.registers.specs.declared.settings.Values.TheVariants.{Bool as BoolVal
 use Rattle.registers.specs.contracts.settings.Values as values
 
 pub tenths-text : (k : Kind) (z : ℤ) → numbers 10 ≡ sort_of k → answer_of k z ≡ signed_text tenths z
-unfolding answer_of if◌then◌else◌
+unfolding answer_of if◌then◌otherwise◌
 tenths-text bool z e = let y : ◌≡◌ {A = ℕ} 0 1 = cc in absurd (omega arith)
 tenths-text (words ws) z e = let y : ◌≡◌ {A = ℕ} 0 1 = cc in absurd (omega arith)
 tenths-text (number n low high) z e = let q : n ≡ 10 = cc in rw q
 
 whole-text : (k : Kind) (z : ℤ) → numbers 1 ≡ sort_of k → answer_of k z ≡ signed_text decimal z
-unfolding answer_of if◌then◌else◌
+unfolding answer_of if◌then◌otherwise◌
 whole-text bool z e = let y : ◌≡◌ {A = ℕ} 0 1 = cc in absurd (omega arith)
 whole-text (words ws) z e = let y : ◌≡◌ {A = ℕ} 0 1 = cc in absurd (omega arith)
 whole-text (number n low high) z e = let q : n ≡ 1 = cc in rw q

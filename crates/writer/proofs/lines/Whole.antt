@@ -8,7 +8,7 @@ use lib.ListN.{length, take, drop, length-take}
 use lib.IntN.{ℤ}
 use lib.Signed.{lt_z}
 use borrow.Author.Tests.{le-leb, lt-leb, not-false, not-true}
-use Rattle.registers.specs.Text.{Text, if◌then◌else◌}
+use Rattle.registers.specs.Text.{Text, if◌then◌otherwise◌}
 use Rattle.registers.specs.Answer.{Laid}
 use Rattle.registers.specs.Settings.{exam, value_at, possible_settings}
 use Rattle.registers.specs.declared.settings.Settings.{Settings}
@@ -47,7 +47,7 @@ module _ (p w : Settings) (channel : ℕ) (buffer : Text) where
   refusing-is = opposite (eqb channel 1) (eqb channel 2) (possible_settings p) (possible_settings w) (lt_z (value_at p exam) (value_at w exam)) (lt_z (value_at w exam) (value_at p exam))
 
   pub is-refused : refusing p w channel ≡ true → result_of 6 0 buffer ≡ written p w channel buffer
-  unfolding written if◌then◌else◌
+  unfolding written if◌then◌otherwise◌
   is-refused e = rw (not-true (writable p w channel) (sym refusing-is ∙ e))
 
   module _ (e : refusing p w channel ≡ false) where
@@ -69,7 +69,7 @@ module _ (p w : Settings) (channel : ℕ) (buffer : Text) where
       is_within = let l = long in let e = ap length put.stands in let k = length-take n out' in omega arith
 
       pub is-short : length buffer < n → result_of 7 n buffer ≡ written p w channel buffer
-      unfolding written if◌then◌else◌
+      unfolding written if◌then◌otherwise◌
       is-short h =
           let l = long in
           rw (may, lt-leb (length (lines_for p w channel)) (length buffer) (omega arith), l)
@@ -78,7 +78,7 @@ module _ (p w : Settings) (channel : ℕ) (buffer : Text) where
       lines_are = let k : n - 0 ≡ n = omega arith in rw k put.stands
 
       pub is_whole : n ≤ length buffer → {r : ℕ} {buffer' : Text} → Laid (take (n - 0) (drop 0 out')) buffer r buffer' → result_of 0 n buffer' ≡ written p w channel buffer
-      unfolding written if◌then◌else◌
+      unfolding written if◌then◌otherwise◌
       is_whole h laid =
           let l = long in
           let k : length (lines_for p w channel) ≤ length buffer = omega arith in

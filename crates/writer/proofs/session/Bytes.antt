@@ -12,7 +12,7 @@ use lib.Seq.{drop-cons}
 use borrow.Author.Tests.{eq-eqb, ne_eqb, lt-ltb, le-ltb}
 use Rattle.registers.proofs.Tests.{and-true}
 use Rattle.registers.specs.Text.{index_of, index_after}
-use Rattle.registers.specs.Text.{Text, if◌then◌else◌}
+use Rattle.registers.specs.Text.{Text, if◌then◌otherwise◌}
 use Rattle.interpreter.specs.Box.{Core, Box, answer_is, most_line}
 use Rattle.interpreter.specs.Line.{held, byte, piece}
 use Rattle.interpreter.specs.Events.{happens}
@@ -36,19 +36,19 @@ fed-next p bytes at h = rw (drop-cons bytes at 0 h, add-one at)
 
 module _ (p : Progress) (x : ℕ) where
   pub byte-fresh : p.place.stage ≡ 0 → byte_read p x ≡ placed p (line_begun p.place x)
-  unfolding byte_read if◌then◌else◌
+  unfolding byte_read if◌then◌otherwise◌
   byte-fresh e = rw e
 
   pub byte-sending : p.place.stage ≡ 1 → byte_read p x ≡ part_sent p (x ∷ []) (eqb x 10)
-  unfolding byte_read if◌then◌else◌
+  unfolding byte_read if◌then◌otherwise◌
   byte-sending e = rw e
 
   pub byte-finding : p.place.stage ≡ 2 → byte_read p x ≡ placed p (place_found p.place p.room x)
-  unfolding byte_read if◌then◌else◌
+  unfolding byte_read if◌then◌otherwise◌
   byte-finding e = rw e
 
   pub byte-stopped : (p.place.stage ≡ 0 → ⊥) → (p.place.stage ≡ 1 → ⊥) → (p.place.stage ≡ 2 → ⊥) → byte_read p x ≡ p
-  unfolding byte_read if◌then◌else◌
+  unfolding byte_read if◌then◌otherwise◌
   byte-stopped a b c = rw (ne_eqb p.place.stage 0 a, ne_eqb p.place.stage 1 b, ne_eqb p.place.stage 2 c)
 
 pub fed-stopped : (p : Progress) (xs : Text) → (p.place.stage ≡ 0 → ⊥) → (p.place.stage ≡ 1 → ⊥) → (p.place.stage ≡ 2 → ⊥) → fed p xs ≡ p
@@ -59,7 +59,7 @@ fed-stopped p (x ∷ xs) a b c = rw (byte-stopped p x a b c) (fed-stopped p xs a
 -- ---- what is sent
 
 pub plain-answer : (b : Box) (x : ℕ) → eqb x 10 ≡ false → (byte b x).core.answer ≡ b.core.answer
-unfolding byte held if◌then◌else◌
+unfolding byte held if◌then◌otherwise◌
 plain-answer b x e =
     rw e (if-elim (λ (c : Core). c.answer ≡ b.core.answer) (ltb (length b.core.line) most_line) (λ _. refl) (λ _. refl))
 
@@ -75,7 +75,7 @@ part-byte p x e quiet =
 -- and so the line's other bytes come after it
 part-more : (p : Progress) (x : ℕ) (xs : Text) (ended : Bool)
     → part_sent (record { box = byte p.box x; room = p.room; place = place_sent p.place 0 false }) xs ended ≡ part_sent p (x ∷ xs) ended
-unfolding part_sent happens piece place_sent if◌then◌else◌
+unfolding part_sent happens piece place_sent if◌then◌otherwise◌
 part-more p x xs ended = refl
 
 -- ---- the line that goes on at the start of a text: its first byte, and whether it ends there
@@ -123,7 +123,7 @@ ends_more x xs e = rw e (leb-suc-suc (suc (index_of 10 xs)) (length xs))
 -- it is sent at once
 pub fed-sent : (l : Text) (p : Progress) → 0 < length l → p.place.stage ≡ 1 → p.box.core.answer ≡ []
     → fed p (first_line l) ≡ part_sent p (first_line l) (ends l)
-unfolding fed place_sent if◌then◌else◌ index_of
+unfolding fed place_sent if◌then◌otherwise◌ index_of
 fed-sent [] p h s quiet = absurd (omega arith)
 fed-sent (x ∷ xs) p h s quiet = go (eqb x 10) refl xs refl (λ q k t n. fed-sent xs q k t n)
   where
@@ -165,19 +165,19 @@ module _ (bytes : Text) (at end : ℕ) (is : end ≡ at + index_of 10 (drop at b
 
 module _ (q : Place) (x : ℕ) where
   pub begun-answer : x ≡ 60 → line_begun q x ≡ begun_at q 2 q.sent
-  unfolding line_begun if◌then◌else◌
+  unfolding line_begun if◌then◌otherwise◌
   begun-answer e = rw e
 
   pub begun-broken : (x ≡ 60 → ⊥) → (x ≡ 62 → ⊥) → line_begun q x ≡ begun_at q 4 q.sent
-  unfolding line_begun if◌then◌else◌
+  unfolding line_begun if◌then◌otherwise◌
   begun-broken a b = rw (ne_eqb x 60 a, ne_eqb x 62 b)
 
   pub begun-early : x ≡ 62 → (q.waiting ≡ 0 → ⊥) → line_begun q x ≡ begun_at q 3 q.sent
-  unfolding line_begun if◌then◌else◌
+  unfolding line_begun if◌then◌otherwise◌
   begun-early e w = rw (e, ne_eqb q.waiting 0 w)
 
   pub begun-sent : x ≡ 62 → q.waiting ≡ 0 → line_begun q x ≡ begun_at q 1 (q.number + 1)
-  unfolding line_begun if◌then◌else◌
+  unfolding line_begun if◌then◌otherwise◌
   begun-sent e w = rw (e, w)
 
 module _ (q : Place) (room : Text) (x : ℕ) where
@@ -186,44 +186,44 @@ module _ (q : Place) (room : Text) (x : ℕ) where
     test = and-true (lt-ltb q.found q.waiting h) (eq-eqb (get_or room q.found 0) x e)
 
     pub found-next : (x ≡ 10 → ⊥) → place_found q room x ≡ found_so q q.stage q.waiting (q.found + 1)
-    unfolding place_found if◌then◌else◌
+    unfolding place_found if◌then◌otherwise◌
     found-next n = rw (test, ne_eqb x 10 n)
 
     pub found_all : x ≡ 10 → q.found + 1 ≡ q.waiting → place_found q room x ≡ found_so q 0 0 (q.found + 1)
-    unfolding place_found if◌then◌else◌
+    unfolding place_found if◌then◌otherwise◌
     found_all n w = rw (test, eq-eqb x 10 n, eq-eqb (q.found + 1) q.waiting w)
 
     pub found-long : x ≡ 10 → (q.found + 1 ≡ q.waiting → ⊥) → place_found q room x ≡ found_so q 3 q.waiting (q.found + 1)
-    unfolding place_found if◌then◌else◌
+    unfolding place_found if◌then◌otherwise◌
     found-long n w = rw (test, eq-eqb x 10 n, ne_eqb (q.found + 1) q.waiting w)
 
   pub found-other : q.found < q.waiting → (get_or room q.found 0 ≡ x → ⊥) → place_found q room x ≡ found_so q 3 q.waiting q.found
-  unfolding place_found if◌then◌else◌
+  unfolding place_found if◌then◌otherwise◌
   found-other h e = rw (lt-ltb q.found q.waiting h, ne_eqb (get_or room q.found 0) x e)
 
   pub found_none : q.waiting ≤ q.found → place_found q room x ≡ found_so q 3 q.waiting q.found
-  unfolding place_found if◌then◌else◌
+  unfolding place_found if◌then◌otherwise◌
   found_none h = rw (le-ltb q.found q.waiting h)
 
 -- ---- what is found at a place
 
 module _ (q : Place) where
   pub agree_at : q.stage ≡ 0 → q.waiting ≡ 0 → report_at q ≡ plainly Agree q.number
-  unfolding report_at if◌then◌else◌
+  unfolding report_at if◌then◌otherwise◌
   agree_at e w = rw (e, w)
 
   pub open_at : q.stage ≡ 0 → (q.waiting ≡ 0 → ⊥) → report_at q ≡ differs_at q.sent (q.number + 1) q.waiting
-  unfolding report_at if◌then◌else◌
+  unfolding report_at if◌then◌otherwise◌
   open_at e w = rw (e, ne_eqb q.waiting 0 w)
 
   pub broken-at : (q.stage ≡ 0 → ⊥) → (q.stage ≡ 3 → ⊥) → report_at q ≡ plainly Broken q.number
-  unfolding report_at if◌then◌else◌
+  unfolding report_at if◌then◌otherwise◌
   broken-at a b = rw (ne_eqb q.stage 0 a, ne_eqb q.stage 3 b)
 
   pub first-at : q.stage ≡ 3 → q.sent ≡ 0 → report_at q ≡ differs_at q.number q.number q.waiting
-  unfolding report_at if◌then◌else◌
+  unfolding report_at if◌then◌otherwise◌
   first-at e z = rw (e, z)
 
   pub differs-at : q.stage ≡ 3 → (q.sent ≡ 0 → ⊥) → report_at q ≡ differs_at q.sent q.number q.waiting
-  unfolding report_at if◌then◌else◌
+  unfolding report_at if◌then◌otherwise◌
   differs-at e z = rw (e, ne_eqb q.sent 0 z)

@@ -9,7 +9,7 @@ use lib.Dec.{eqb, ltb, leb}
 use lib.ListN.{length, take, drop, get_or, length-drop, drop_of_length-le, take-append-drop}
 use lib.Seq.{drop-drop}
 use borrow.Author.Tests.{leb-true, le-leb, eqb-true, eqb-false, eq-eqb, lt-ltb, ltb-true}
-use Rattle.registers.specs.Text.{Text, if◌then◌else◌, empty}
+use Rattle.registers.specs.Text.{Text, if◌then◌otherwise◌, empty}
 use Rattle.registers.proofs.Tests.{and_both, and-true, front-empty}
 use Rattle.interpreter.specs.Box.{Box, memory, blank, right_size, power_up, store_size, most_answer}
 use Rattle.interpreter.specs.Events.{look, Result, result_of, Happened, happens}
@@ -345,21 +345,21 @@ module _ (m : Marker) (store room bytes : Text) {t : Bool} (is : t ≡ possible_
 
 -- what is still open after the bytes: a newline closes it
 closing : (p : Progress) → (not (eqb p.place.stage 1) && not (eqb p.place.stage 2)) ≡ false → closed p ≡ fed p (10 ∷ [])
-unfolding closed fed if◌then◌else◌
+unfolding closed fed if◌then◌otherwise◌
 closing p e = go (eqb p.place.stage 1) refl (eqb p.place.stage 2) refl e
   where
     go : (s : Bool) → eqb p.place.stage 1 ≡ s → (t : Bool) → eqb p.place.stage 2 ≡ t → (not s && not t) ≡ false
-        → (if (eqb p.place.stage 1 || eqb p.place.stage 2) then byte_read p 10 else p) ≡ byte_read p 10
+        → (if (eqb p.place.stage 1 || eqb p.place.stage 2) then byte_read p 10 otherwise p) ≡ byte_read p 10
     go true a t b f = rw a
     go false a true b f = rw (a, b)
     go false a false b f = absurd (false≢true (sym f))
 
 closed-as : (p : Progress) → (not (eqb p.place.stage 1) && not (eqb p.place.stage 2)) ≡ true → closed p ≡ p
-unfolding closed if◌then◌else◌
+unfolding closed if◌then◌otherwise◌
 closed-as p e = go (eqb p.place.stage 1) refl (eqb p.place.stage 2) refl e
   where
     go : (s : Bool) → eqb p.place.stage 1 ≡ s → (t : Bool) → eqb p.place.stage 2 ≡ t → (not s && not t) ≡ true
-        → (if (eqb p.place.stage 1 || eqb p.place.stage 2) then byte_read p 10 else p) ≡ p
+        → (if (eqb p.place.stage 1 || eqb p.place.stage 2) then byte_read p 10 otherwise p) ≡ p
     go true a t b f = absurd (false≢true f)
     go false a true b f = absurd (false≢true f)
     go false a false b f = rw (a, b)

@@ -8,7 +8,7 @@ use lib.Dec.{eqb, leb}
 use lib.ListN.{length, take, drop, length-take, take-append-drop}
 use lib.Seq.{take-append_seam, drop-append_seam}
 use borrow.Author.Tests.{leb-false, eqb-true}
-use Rattle.registers.specs.Text.{Text, if◌then◌else◌, empty}
+use Rattle.registers.specs.Text.{Text, if◌then◌otherwise◌, empty}
 use Rattle.interpreter.specs.Box.{store_size, memory, right_size, Box, answer_is, raise}
 use Rattle.interpreter.specs.FlowParts.{first_line}
 use Rattle.interpreter.specs.Events.{received, take as takes, result_of, happened, taken, happens}
@@ -25,7 +25,7 @@ use Rattle.writer.proofs.session.Bytes.{first_ends, first_more, first-none}
 
 -- a first line is one line
 pub one-line : (l : Text) → 0 < length l → lines_of (first_line l) ≡ first_line l ∷ []
-unfolding lines_of if◌then◌else◌
+unfolding lines_of if◌then◌otherwise◌
 one-line [] h = absurd (omega arith)
 one-line (x ∷ xs) h = go (eqb x 10) refl xs refl (λ k. one-line xs k)
   where
@@ -41,18 +41,18 @@ module _ (b : Box) (room : Text) (n : ℕ) where
   a = b.core.answer
 
   abbrev serving : Service
-  serving = if empty a then service b n [] room else took_after n [] (happens b (takes room))
+  serving = if empty a then service b n [] room otherwise took_after n [] (happens b (takes room))
 
   abbrev One : Service → Type 0
   One s = length s.box.core.answer ≤ length room → (s.box ≡ answer_is [] b) × (s.answers ≡ a) × (s.rest ≡ drop (length a) room)
 
   served-one : One serving
-  unfolding happens taken if◌then◌else◌
+  unfolding happens taken if◌then◌otherwise◌
   served-one = go (empty a) refl (leb (length a) (length room)) refl
     where
       go : (t : Bool) → empty a ≡ t → (u : Bool) → leb (length a) (length room) ≡ u
-          → One (if t then service b n [] room else took_after n [] (if t then happened (result_of 2 0 room) (raise 420 b)
-          else (if u then happened (result_of 0 (length a) (a ++ drop (length a) room)) (answer_is [] b) else happened (result_of 1 (length a) room) b)))
+          → One (if t then service b n [] room otherwise took_after n [] (if t then happened (result_of 2 0 room) (raise 420 b)
+          otherwise (if u then happened (result_of 0 (length a) (a ++ drop (length a) room)) (answer_is [] b) otherwise happened (result_of 1 (length a) room) b)))
       go true q u r k = let e = is-empty a q in (ap (λ (x : Text). answer_is x b) e, sym e, rw e)
       go false q true r k = (refl, take-append_seam a (drop (length a) room), drop-append_seam a (drop (length a) room))
       go false q false r k = let h = leb-false (length a) (length room) r in absurd (omega arith)

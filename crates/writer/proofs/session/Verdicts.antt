@@ -10,7 +10,7 @@ use lib.Dec.{eqb, ltb}
 use lib.ListN.{length, take, drop, get_or, length-append, length-drop, length-take, drop_of_length-le}
 use lib.Seq.{take-append_seam, drop-cons, get_or-take}
 use borrow.Author.Tests.{eqb-true, eqb-false, eq-eqb, ne_eqb, ltb-true, ltb-false}
-use Rattle.registers.specs.Text.{Text, if◌then◌else◌, same}
+use Rattle.registers.specs.Text.{Text, if◌then◌otherwise◌, same}
 use Rattle.registers.proofs.Tests.{front-empty}
 use Rattle.interpreter.specs.Cuts.{join_first}
 use Rattle.interpreter.specs.Box.{Box}
@@ -26,11 +26,11 @@ use Rattle.writer.proofs.session.Bytes.{byte-fresh, byte-sending, byte-finding, 
 
 unfoldable line_left : Text → Text
 line_left [] = []
-line_left (x ∷ xs) = if eqb x 10 then [] else x ∷ line_left xs
+line_left (x ∷ xs) = if eqb x 10 then [] otherwise x ∷ line_left xs
 
 unfoldable lines_left : Text → List Text
 lines_left [] = []
-lines_left (x ∷ xs) = if eqb x 10 then lines_of xs else lines_left xs
+lines_left (x ∷ xs) = if eqb x 10 then lines_of xs otherwise lines_left xs
 
 record Split (x : ℕ) (xs : Text) : Type 0 where
   line : Text
@@ -38,7 +38,7 @@ record Split (x : ℕ) (xs : Text) : Type 0 where
   is : bare line ≡ x ∷ line_left xs
 
 split : (xs : Text) (x : ℕ) → eqb x 10 ≡ false → Split x xs
-unfolding lines_of line_left lines_left if◌then◌else◌
+unfolding lines_of line_left lines_left if◌then◌otherwise◌
 split [] x e = record { line = x ∷ []; lines = rw e; is = rw e }
 split (y ∷ ys) x e = go (eqb y 10) refl (λ k. split ys y k)
   where
@@ -85,7 +85,7 @@ SendingSays t = (b : Box) (room : Text) (q : Place) → b.core.answer ≡ [] →
     → outcome (at b room q) t ≡ marked (after_sent b q (line_left t)) (suc q.number) (lines_left t)
 
 abbrev astray : Place → Text → Verdict
-astray q room = differs (if eqb q.sent 0 then q.number else q.sent) q.number (take q.waiting room)
+astray q room = differs (if eqb q.sent 0 then q.number otherwise q.sent) q.number (take q.waiting room)
 
 abbrev after_answer : Box → Place → Marking
 after_answer b q = record { box = b; sent = q.sent; answer = [] }
@@ -93,7 +93,7 @@ after_answer b q = record { box = b; sent = q.sent; answer = [] }
 abbrev FindingSays : Text → Type 0
 FindingSays t = (b : Box) (room : Text) (q : Place) → b.core.answer ≡ [] → q.stage ≡ 2 → Roomy room q
     → outcome (at b room q) t
-    ≡ (if same (drop q.found (take q.waiting room)) (line_left t ++ 10 ∷ []) then marked (after_answer b q) (suc q.number) (lines_left t) else astray q room)
+    ≡ (if same (drop q.found (take q.waiting room)) (line_left t ++ 10 ∷ []) then marked (after_answer b q) (suc q.number) (lines_left t) otherwise astray q room)
 
 record Bridge (t : Text) : Type 0 where
   fresh : FreshSays t
@@ -104,17 +104,17 @@ record Bridge (t : Text) : Type 0 where
 
 module _ (p : Progress) where
   closed-sent : p.place.stage ≡ 1 → closed p ≡ byte_read p 10
-  unfolding closed if◌then◌else◌
+  unfolding closed if◌then◌otherwise◌
   closed-sent e = rw (eq-eqb p.place.stage 1 e)
 
   closed-found : p.place.stage ≡ 2 → closed p ≡ byte_read p 10
-  unfolding closed if◌then◌else◌
+  unfolding closed if◌then◌otherwise◌
   closed-found e =
       let n : eqb p.place.stage 1 ≡ false = ne_eqb p.place.stage 1 (λ z. omega arith) in
       rw (n, eq-eqb p.place.stage 2 e)
 
   closed-no : (p.place.stage ≡ 1 → ⊥) → (p.place.stage ≡ 2 → ⊥) → closed p ≡ p
-  unfolding closed if◌then◌else◌
+  unfolding closed if◌then◌otherwise◌
   closed-no a b = rw (ne_eqb p.place.stage 1 a, ne_eqb p.place.stage 2 b)
 
 -- ---- where it has stopped
@@ -123,10 +123,10 @@ stop-outcome : (p : Progress) (t : Text) → (p.place.stage ≡ 0 → ⊥) → (
 stop-outcome p t a b c = ap (λ (r : Progress). told (closed r)) (fed-stopped p t a b c) ∙ ap told (closed-no p b c)
 
 told-astray : (b : Box) (room : Text) (q : Place) → q.stage ≡ 3 → told (at b room q) ≡ astray q room
-unfolding report_at if◌then◌else◌
+unfolding report_at if◌then◌otherwise◌
 told-astray b room q e = go (eqb q.sent 0) refl
   where
-    go : (t : Bool) → eqb q.sent 0 ≡ t → told (at b room q) ≡ differs (if t then q.number else q.sent) q.number (take q.waiting room)
+    go : (t : Bool) → eqb q.sent 0 ≡ t → told (at b room q) ≡ differs (if t then q.number otherwise q.sent) q.number (take q.waiting room)
     go true f = rw (e, f)
     go false f = rw (e, f)
 
@@ -138,7 +138,7 @@ stop-astray b room q t e =
 
 end_fresh : (b : Box) (room : Text) (q : Place) → q.stage ≡ 0 → 0 < length room
     → told (at b room q) ≡ marked (known b room q) (suc q.number) []
-unfolding report_at marked if◌then◌else◌
+unfolding report_at marked if◌then◌otherwise◌
 end_fresh b room q e some = go (eqb q.waiting 0) refl
   where
     go : (t : Bool) → eqb q.waiting 0 ≡ t → told (at b room q) ≡ marked (known b room q) (suc q.number) []
@@ -175,7 +175,7 @@ module _ (b : Box) (room : Text) (q : Place) (some : 0 < length room) where
 
 -- the end of the bytes ends it
 sending-end : SendingSays []
-unfolding fed line_left lines_left if◌then◌else◌ place_sent
+unfolding fed line_left lines_left if◌then◌otherwise◌ place_sent
 sending-end b room q quiet e some asked =
     let one : closed (at b room q) ≡ at (heard_line b (10 ∷ [])) (room' b room q some) (sent' b room q some) =
     closed-sent (at b room q) e ∙ byte-sending (at b room q) 10 e ∙ sent-newline b room q some in
@@ -183,11 +183,11 @@ sending-end b room q quiet e some asked =
     ∙ ap (λ (k : Marking). marked k (suc q.number) []) (sent-known b room q some)
 
 sending-step : (x : ℕ) (xs : Text) → Bridge xs → SendingSays (x ∷ xs)
-unfolding fed line_left lines_left if◌then◌else◌ happens piece place_sent
+unfolding fed line_left lines_left if◌then◌otherwise◌ happens piece place_sent
 sending-step x xs ih b room q quiet e some asked = go (eqb x 10) refl
   where
     go : (t : Bool) → eqb x 10 ≡ t
-        → outcome (at b room q) (x ∷ xs) ≡ marked (after_sent b q (if t then [] else x ∷ line_left xs)) (suc q.number) (if t then lines_of xs else lines_left xs)
+        → outcome (at b room q) (x ∷ xs) ≡ marked (after_sent b q (if t then [] otherwise x ∷ line_left xs)) (suc q.number) (if t then lines_of xs otherwise lines_left xs)
     go true f =
         let one : byte_read (at b room q) x ≡ at (heard_line b (10 ∷ [])) (room' b room q some) (sent' b room q some) =
         byte-sending (at b room q) x e ∙ ap (λ (n : ℕ). part_sent (at b room q) (n ∷ []) (eqb n 10)) (eqb-true x 10 f) ∙ sent-newline b room q some in
@@ -294,13 +294,13 @@ module _ (b : Box) (room : Text) (q : Place) (some : 0 < length room) (holds : q
   -- its newline, and the bytes after it: as they are read, or none
   newline-says : (xs : Text) → FreshSays xs → b.core.answer ≡ []
       → outcome (placed (at b room q) (place_found q room 10)) xs
-      ≡ (if same left (10 ∷ []) then marked (after_answer b q) (suc q.number) (lines_of xs) else astray q room)
-  unfolding if◌then◌else◌
+      ≡ (if same left (10 ∷ []) then marked (after_answer b q) (suc q.number) (lines_of xs) otherwise astray q room)
+  unfolding if◌then◌otherwise◌
   newline-says xs ih quiet = go (last room q holds)
     where
       go : Last room q holds
           → outcome (placed (at b room q) (place_found q room 10)) xs
-          ≡ (if same left (10 ∷ []) then marked (after_answer b q) (suc q.number) (lines_of xs) else astray q room)
+          ≡ (if same left (10 ∷ []) then marked (after_answer b q) (suc q.number) (lines_of xs) otherwise astray q room)
       go (both e f) =
           rw f (ap (λ (r : Place). outcome (at b room r) xs) e
           ∙ ih b room (found_so q 0 0 (q.found + 1)) quiet refl (record { holds = zero-le; some = some; asked = λ _. refl }))
@@ -317,19 +317,19 @@ told-closed b room q holds = go (last room q holds)
     go (other n e f) = rw e (ap told (sym (closed-no (at b room (found_so q 3 q.waiting n)) (λ z. omega arith) (λ z. omega arith))))
 
 finding-end : FreshSays [] → FindingSays []
-unfolding fed line_left lines_left lines_of if◌then◌else◌
+unfolding fed line_left lines_left lines_of if◌then◌otherwise◌
 finding-end ih b room q quiet e h =
     let one : closed (at b room q) ≡ placed (at b room q) (place_found q room 10) = closed-found (at b room q) e ∙ byte-finding (at b room q) 10 e in
     ap told one ∙ told-closed b room q h.holds ∙ newline-says b room q h.some h.holds [] ih quiet
 
 finding-step : (x : ℕ) (xs : Text) → Bridge xs → FindingSays (x ∷ xs)
-unfolding fed line_left lines_left if◌then◌else◌
+unfolding fed line_left lines_left if◌then◌otherwise◌
 finding-step x xs ih b room q quiet e h = go (eqb x 10) refl
   where
     go : (t : Bool) → eqb x 10 ≡ t
         → outcome (at b room q) (x ∷ xs)
-        ≡ (if same (drop q.found (take q.waiting room)) ((if t then [] else x ∷ line_left xs) ++ 10 ∷ [])
-        then marked (after_answer b q) (suc q.number) (if t then lines_of xs else lines_left xs) else astray q room)
+        ≡ (if same (drop q.found (take q.waiting room)) ((if t then [] otherwise x ∷ line_left xs) ++ 10 ∷ [])
+        then marked (after_answer b q) (suc q.number) (if t then lines_of xs otherwise lines_left xs) otherwise astray q room)
     go true f =
         let one : byte_read (at b room q) x ≡ placed (at b room q) (place_found q room 10) =
         byte-finding (at b room q) x e ∙ ap (λ (n : ℕ). placed (at b room q) (place_found q room n)) (eqb-true x 10 f) in
@@ -338,7 +338,7 @@ finding-step x xs ih b room q quiet e h = go (eqb x 10) refl
       where
         more : Next room q h.holds x
             → outcome (at b room q) (x ∷ xs)
-            ≡ (if same (drop q.found (take q.waiting room)) (x ∷ (line_left xs ++ 10 ∷ [])) then marked (after_answer b q) (suc q.number) (lines_left xs) else astray q room)
+            ≡ (if same (drop q.found (take q.waiting room)) (x ∷ (line_left xs ++ 10 ∷ [])) then marked (after_answer b q) (suc q.number) (lines_left xs) otherwise astray q room)
         more (agrees g s) =
             rw (s (line_left xs ++ 10 ∷ [])) (ap (λ (r : Progress). outcome r xs) (byte-finding (at b room q) x e ∙ ap (λ (r : Place). at b room r) g)
             ∙ ih.finding b room (found_so q q.stage q.waiting (q.found + 1)) quiet e (record { holds = h.holds; some = h.some; asked = h.asked }))
@@ -374,7 +374,7 @@ module _ (x : ℕ) (xs : Text) (ih : Bridge xs) (b : Box) (room : Text) (q : Pla
   plain-first c f n = ne_eqb x 10 (λ z. n (sym f ∙ z))
 
   fresh-answer : x ≡ 60 → outcome (at b room q) (x ∷ xs) ≡ marked k (suc q.number) (lines_of (x ∷ xs))
-  unfolding line_read if◌then◌else◌
+  unfolding line_read if◌then◌otherwise◌
   fresh-answer f =
       begins (begun_at q 2 q.sent) (begun-answer q x f)
       ∙ ih.finding b room (begun_at q 2 q.sent) quiet refl (record { holds = h.holds; some = h.some; asked = h.asked })
@@ -383,13 +383,13 @@ module _ (x : ℕ) (xs : Text) (ih : Bridge xs) (b : Box) (room : Text) (q : Pla
     where
       go : (t : Bool) → same (take q.waiting room) (line_left xs ++ 10 ∷ []) ≡ t
           → (if same (take q.waiting room) (line_left xs ++ 10 ∷ []) then going (after_answer b q)
-          else differs (if eqb q.sent 0 then suc q.number else q.sent) (suc q.number) (take q.waiting room))
+          otherwise differs (if eqb q.sent 0 then suc q.number otherwise q.sent) (suc q.number) (take q.waiting room))
           ≡ next_line going (line_read k (suc q.number) (x ∷ line_left xs))
       go true g = rw (f, g)
       go false g = rw (f, g)
 
   fresh-sent : x ≡ 62 → (t : Bool) → eqb q.waiting 0 ≡ t → outcome (at b room q) (x ∷ xs) ≡ marked k (suc q.number) (lines_of (x ∷ xs))
-  unfolding line_read if◌then◌else◌
+  unfolding line_read if◌then◌otherwise◌
   fresh-sent f true g =
       let z = eqb-true q.waiting 0 g in
       begins (begun_at q 1 (q.number + 1)) (begun-sent q x f z)
@@ -405,7 +405,7 @@ module _ (x : ℕ) (xs : Text) (ih : Bridge xs) (b : Box) (room : Text) (q : Pla
       ∙ sym (line-verdict (plain-first 62 f (λ y. omega arith)))
 
   told-broken : told (at b room (begun_at q 4 q.sent)) ≡ broken (suc q.number)
-  unfolding report_at if◌then◌else◌
+  unfolding report_at if◌then◌otherwise◌
   told-broken = rw (add-one q.number) refl
 
   fresh-broken : (x ≡ 60 → ⊥) → (x ≡ 62 → ⊥) → marked k (suc q.number) (lines_of (x ∷ xs)) ≡ broken (suc q.number)
@@ -417,7 +417,7 @@ module _ (x : ℕ) (xs : Text) (ih : Bridge xs) (b : Box) (room : Text) (q : Pla
 
   -- an empty line, and one with another first byte
   lines-broken : (x ≡ 60 → ⊥) → (x ≡ 62 → ⊥) → (t : Bool) → eqb x 10 ≡ t → marked k (suc q.number) (lines_of (x ∷ xs)) ≡ broken (suc q.number)
-  unfolding lines_of marked line_read if◌then◌else◌
+  unfolding lines_of marked line_read if◌then◌otherwise◌
   lines-broken n m true f = rw (f, f)
   lines-broken n m false f = line-verdict f ∙ rw (ne_eqb x 62 m, ne_eqb x 60 n)
 

@@ -6,7 +6,7 @@ use mathlib.Core.List.{List, [], ◌∷◌, ◌++◌}
 use Prim.Native.Nat.{ℕ, ◌+◌}
 use lib.Dec.{leb}
 use lib.ListN.{length}
-use Rattle.registers.specs.Text.{Text, if◌then◌else◌, empty}
+use Rattle.registers.specs.Text.{Text, if◌then◌otherwise◌, empty}
 use Rattle.interpreter.specs.Box.{Memory, right_size, altered_in, Box, most_answer}
 use Rattle.interpreter.specs.Events.{Event, started, received, take as takes, condition, look, altered, mislent, Result, result_of, lent, Happened, happened, happens, after, results}
 use Rattle.interpreter.specs.State.{box_of, possible_state, admitted, rightly, Happens, Started}
@@ -53,25 +53,25 @@ power-up-happens s t m h =
 
 line_after : (v : Service) (l : Text) (es : List Event)
     → after v.box (received l ∷ taking_first (happens v.box (received l)).box v.rest es) ≡ after (served_line v l).box es
-unfolding served_line after if◌then◌else◌
+unfolding served_line after if◌then◌otherwise◌
 line_after v l es = go (empty (happens v.box (received l)).box.core.answer)
   where
     now : Box
     now = (happens v.box (received l)).box
 
-    go : (t : Bool) → after now (if t then es else takes v.rest ∷ es)
-        ≡ after (if t then service now (v.read + length l) v.answers v.rest else took_after (v.read + length l) v.answers (happens now (takes v.rest))).box es
+    go : (t : Bool) → after now (if t then es otherwise takes v.rest ∷ es)
+        ≡ after (if t then service now (v.read + length l) v.answers v.rest otherwise took_after (v.read + length l) v.answers (happens now (takes v.rest))).box es
     go true = refl
     go false = refl
 
 serves-after : (v : Service) (ls : List Text) → (serves v ls).box ≡ after v.box (events_of v ls)
-unfolding serves events_of after if◌then◌else◌
+unfolding serves events_of after if◌then◌otherwise◌
 serves-after v [] = refl
 serves-after v (l ∷ ls) = go (leb most_answer (length v.rest)) (serves-after (served_line v l) ls)
   where
     go : (t : Bool) → (serves (served_line v l) ls).box ≡ after (served_line v l).box (events_of (served_line v l) ls)
-        → (if t then serves (served_line v l) ls else v).box
-        ≡ after v.box (if t then received l ∷ taking_first (happens v.box (received l)).box v.rest (events_of (served_line v l) ls) else [])
+        → (if t then serves (served_line v l) ls otherwise v).box
+        ≡ after v.box (if t then received l ∷ taking_first (happens v.box (received l)).box v.rest (events_of (served_line v l) ls) otherwise [])
     go true more = more ∙ sym (line_after v l (events_of (served_line v l) ls))
     go false more = refl
 

@@ -6,7 +6,7 @@ use mathlib.Core.List.{List, [], ◌∷◌, ◌++◌, append_assoc, head-eq_of_c
 use Prim.Native.Nat.{◌≤◌}
 use lib.ListN.{length, drop}
 use lib.Seq.{drop_at}
-use Rattle.registers.specs.Text.{Text, if◌then◌else◌, every}
+use Rattle.registers.specs.Text.{Text, if◌then◌otherwise◌, every}
 use Rattle.registers.specs.Label.{most_text, may_stand}
 use Rattle.registers.specs.Settings.{value_at, displayed, AsLong, within}
 use Rattle.interpreter.specs.Demand2.{InRange}
@@ -37,7 +37,7 @@ chosen-results : (p : Event → Bool) (b : Box) (es : List Event) → chosen p e
 unfolding chosen results results_of
 chosen-results p b [] = refl
 chosen-results p b (e ∷ es) =
-    ap (λ (rs : List Result). if p e then (happens b e).result ∷ rs else rs) (chosen-results p (happens b e).box es)
+    ap (λ (rs : List Result). if p e then (happens b e).result ∷ rs otherwise rs) (chosen-results p (happens b e).box es)
 
 module _ (s t : State) (m n : Memory) (es : List Event) (rs : List Result) (ran : Ran s m t n es rs) where
   history : History s m t n es rs
@@ -82,7 +82,7 @@ answered s t m n i before h rs ran e asks =
 -- the take that comes after these events, in a history in any pieces
 take_after : (b : Box) (h first late : List Event) (buffer : Text) → Recut h (first ++ take buffer ∷ late)
     → drop (how_many is_take first) (results_of is_take b h) ≡ (happens (after b first) (take buffer)).result ∷ results_of is_take (happens (after b first) (take buffer)).box late
-unfolding results_of if◌then◌else◌
+unfolding results_of if◌then◌otherwise◌
 take_after b h first late buffer e =
     ap (drop (how_many is_take first)) (recut-results is_take (λ xs. refl) b h (first ++ take buffer ∷ late) e ∙ results-append is_take b first (take buffer ∷ late))
     ∙ drop_at (results_of is_take b first) (results_of is_take (after b first) (take buffer ∷ late)) (how_many is_take first) (results-length is_take b first)

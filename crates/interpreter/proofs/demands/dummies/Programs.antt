@@ -11,7 +11,7 @@ use lib.ListN as L
 use lib.ListN.{length, drop}
 use lib.Seq.{take_at, take_all}
 use borrow.Author.Tests.{eqb-true, ltb-false}
-use Rattle.registers.specs.Text.{Text, if◌then◌else◌, empty, every, white}
+use Rattle.registers.specs.Text.{Text, if◌then◌otherwise◌, empty, every, white}
 use Rattle.registers.specs.Check.{Checked, refused, passed}
 use Rattle.registers.specs.Group.{widest_group}
 use Rattle.interpreter.specs.Cuts.{cut_open}
@@ -82,7 +82,7 @@ refusing-answerless b (altered i x) h = h
 refusing-answerless b (mislent buffer) h = h
 
 none-taken : (b : Box) (buffer : Text) → Answerless b → (taken buffer b).result.number ≡ 2
-unfolding taken if◌then◌else◌
+unfolding taken if◌then◌otherwise◌
 none-taken b buffer h = rw h
 
 refuser-is : RefusesUnits refuser
@@ -108,7 +108,7 @@ module _ (a : Text) where
   answering-one b = if-elim One (empty b.core.answer) (λ e. nothing e) (λ _. this refl)
 
   one_alike : (b : Box) (buffer : Text) → One b → let r = (taken buffer b).result in r.number ≡ 0 → L.take r.value r.buffer ≡ a
-  unfolding taken if◌then◌else◌
+  unfolding taken if◌then◌otherwise◌
   one_alike b buffer (nothing e) = rw e (λ n. absurd (omega (arith, n)))
   one_alike b buffer (this e) =
       if-elim (λ (h : Happened). h.result.number ≡ 0 → L.take h.result.value h.result.buffer ≡ a) (empty b.core.answer)
@@ -128,16 +128,16 @@ module _ (a : Text) where
 -- ---- one answer or none waits after a first line of one unit, where each query is answered alike
 
 plain_byte : (a : Text) (b : Box) (x : ℕ) → eqb x 10 ≡ false → each_byte a b x ≡ byte b x
-unfolding each_byte byte if◌then◌else◌
+unfolding each_byte byte if◌then◌otherwise◌
 plain_byte a b x e = rw e
 
 -- bytes before a newline are held as the box holds them
 each-held : (a l : Text) (b : Box) → newlines l ≡ 0 → each_piece a b (l ++ 10 ∷ []) ≡ each_byte a (piece b l) 10
-unfolding each_piece piece newlines if◌then◌else◌
+unfolding each_piece piece newlines if◌then◌otherwise◌
 each-held a [] b z = refl
 each-held a (x ∷ l) b z = go (eqb x 10) refl z (λ c k. each-held a l c k)
   where
-    go : (t : Bool) → eqb x 10 ≡ t → (if t then suc (newlines l) else newlines l) ≡ 0
+    go : (t : Bool) → eqb x 10 ≡ t → (if t then suc (newlines l) otherwise newlines l) ≡ 0
         → ((c : Box) → newlines l ≡ 0 → each_piece a c (l ++ 10 ∷ []) ≡ each_byte a (piece c l) 10)
         → each_piece a (each_byte a b x) (l ++ 10 ∷ []) ≡ each_byte a (piece (byte b x) l) 10
     go true e k more = absurd (omega (arith, k))
@@ -165,7 +165,7 @@ module _ (a : Text) where
       if-elim (One (a ++ 10 ∷ [])) (empty b.core.answer) (λ e. one_none (a ++ 10 ∷ []) b e) (λ e. one-this (a ++ 10 ∷ []) _ (whole b h e))
 
   one_unit : (c : Box) → Answerless c → (o : Checked Obeyed) → Half (next (λ p d. each_unit a [] p (instead a c d)) c o)
-  unfolding each_unit refuse joined if◌then◌else◌
+  unfolding each_unit refuse joined if◌then◌otherwise◌
   one_unit c q (refused n) = none (if-elim Answerless (eqb n 430) (λ _. refl) (λ _. q))
   one_unit c q (passed o) =
       if-elim Half (eqb (length o.box.core.answer) (length c.core.answer))
@@ -178,7 +178,7 @@ module _ (a : Text) where
       (λ _. subst (λ (us : List Text). Half (each_unit a us [] c)) (sym (ap (cut_open (code ";") 0) is ∙ one)) (one_unit c q (attempt [] c l)))
 
   line-one : (l : Text) (b : Box) → (b.core.overlong ≡ false → b.core.line ≡ l) → cut_open (code ";") 0 l ≡ l ∷ [] → One (a ++ 10 ∷ []) (each_byte a b 10)
-  unfolding each_byte if◌then◌else◌
+  unfolding each_byte if◌then◌otherwise◌
   line-one l b is one =
       let q = interrupted-answerless _ in
       if-elim (One (a ++ 10 ∷ [])) b.core.overlong (λ _. one_none (a ++ 10 ∷ []) _ (ap empty q))
@@ -193,7 +193,7 @@ module _ (a : Text) where
 -- ---- the ignorer remembers no piece
 
 unheard-so : (b : Box) (es : List Event) → reached ignorer b es ≡ reached ignorer b (unheard es)
-unfolding reached unheard if◌then◌else◌
+unfolding reached unheard if◌then◌otherwise◌
 unheard-so b [] = refl
 unheard-so b (started ∷ es) = unheard-so (ignorer.keeps b started) es
 unheard-so b (received xs ∷ es) = unheard-so b es
@@ -209,13 +209,13 @@ ignorer-is es e t _ = ap (λ (b : Box). (happens b e).result) (unheard-so (power
 -- ---- the first-liner obeys the first line, and drops what comes after it
 
 dropped : (b : Box) (xs : Text) → first_piece (b, true) xs ≡ (b, true)
-unfolding first_piece first_byte if◌then◌else◌
+unfolding first_piece first_byte if◌then◌otherwise◌
 dropped b [] = refl
 dropped b (x ∷ xs) = dropped b xs
 
 -- after a newline the first line is over
 over : (m : Box × Bool) (l : Text) → (first_piece m (l ++ 10 ∷ [])).1 ≡ true
-unfolding first_piece first_byte if◌then◌else◌
+unfolding first_piece first_byte if◌then◌otherwise◌
 over m [] = go m.1 refl
   where
     go : (t : Bool) → m.1 ≡ t → (first_byte m 10).1 ≡ true
@@ -225,7 +225,7 @@ over m (x ∷ l) = over (first_byte m x) l
 
 -- and then it remembers no piece until the next power-up
 dropped-so : (b : Box) (es : List Event) → every no_start es ≡ true → reached first_liner (b, true) es ≡ reached first_liner (b, true) (unheard es)
-unfolding reached unheard if◌then◌else◌
+unfolding reached unheard if◌then◌otherwise◌
 dropped-so b [] t = refl
 dropped-so b (started ∷ es) t = absurd (false≢true t)
 dropped-so b (received xs ∷ es) t = ap (λ (m : Box × Bool). reached first_liner m es) (dropped b xs) ∙ dropped-so b es t
@@ -256,11 +256,11 @@ counter-is l es e quiet t other =
     tell (one_line l ++ es) ∙ first-is l es e quiet t other ∙ sym (tell (one_line l ++ unheard es))
 
 obeyed-first : (l : Text) (b : Box) → newlines l ≡ 0 → first_piece (b, false) (l ++ 10 ∷ []) ≡ (piece b (l ++ 10 ∷ []), true)
-unfolding first_piece first_byte piece newlines if◌then◌else◌
+unfolding first_piece first_byte piece newlines if◌then◌otherwise◌
 obeyed-first [] b h = refl
 obeyed-first (x ∷ l) b h = go (eqb x 10) refl h (λ z. obeyed-first l (byte b x) z)
   where
-    go : (t : Bool) → eqb x 10 ≡ t → (if t then suc (newlines l) else newlines l) ≡ 0
+    go : (t : Bool) → eqb x 10 ≡ t → (if t then suc (newlines l) otherwise newlines l) ≡ 0
         → (newlines l ≡ 0 → first_piece (byte b x, false) (l ++ 10 ∷ []) ≡ (piece (byte b x) (l ++ 10 ∷ []), true))
         → first_piece (b, false) (x ∷ l ++ 10 ∷ []) ≡ (piece b (x ∷ l ++ 10 ∷ []), true)
     go true e z more = absurd (omega (arith, z))
@@ -269,7 +269,7 @@ obeyed-first (x ∷ l) b h = go (eqb x 10) refl h (λ z. obeyed-first l (byte b 
 -- ---- no count is every piece's
 
 inventor-is : (k : ℕ) → Invents (inventor k)
-unfolding newlines reached if◌then◌else◌
+unfolding newlines reached if◌then◌otherwise◌
 inventor-is zero = ([], 10 ∷ [], refl, λ e. omega (arith, e))
 inventor-is (suc k) = ([], [], refl, λ e. omega (arith, e))
 

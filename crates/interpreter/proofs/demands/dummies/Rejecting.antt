@@ -10,7 +10,7 @@ use native.Mathlib.Omega.{arith}
 use lib.ListN as L
 use lib.ListN.{length, drop, replicate}
 use lib.Seq.{drop_at}
-use Rattle.registers.specs.Text.{Text, if◌then◌else◌, every, bytes, same, white, printable, digit, letter, word_byte, small, capital}
+use Rattle.registers.specs.Text.{Text, if◌then◌otherwise◌, every, bytes, same, white, printable, digit, letter, word_byte, small, capital}
 use Rattle.registers.specs.Check.{◌>>=◌, ◌>>◌, check}
 use Rattle.registers.specs.Words.{short_form, long_form, matches}
 use Rattle.registers.specs.Number.{after_sign, fraction_of, after_fraction, exponent_of, after_exponent, lowering, written, numeral_from, decimal_of, value_of, scaled, number}
@@ -123,7 +123,7 @@ record Lines : Type 0 where
   hertz_line : newlines (bytes "FREQ?") ≡ 0
 
 lines : Lines
-unfolding bytes cut_open quote_next newlines if◌then◌else◌
+unfolding bytes cut_open quote_next newlines if◌then◌otherwise◌
 lines = record { none = refl; set = refl; asked = refl; volts = refl; hertz = refl; volts_alone = refl; hertz_alone = refl; volts_line = refl; hertz_line = refl }
 
 record Computed : Type 0 where
@@ -136,7 +136,7 @@ record Computed : Type 0 where
   five : length (L.take (taken-after (line "FREQ?" ∷ [])).value (taken-after (line "FREQ?" ∷ [])).buffer) ≡ 5
 
 computed : Computed
-unfolding if◌then◌else◌ bytes same white printable digit letter word_byte small capital ◌>>=◌ ◌>>◌ check short_form long_form matches
+unfolding if◌then◌otherwise◌ bytes same white printable digit letter word_byte small capital ◌>>=◌ ◌>>◌ check short_form long_form matches
     after_sign fraction_of after_fraction exponent_of after_exponent lowering written numeral_from decimal_of value_of scaled suffixes no_suffix power_in remains number
     nearest size_in rounded size_side side_in in_places decimal tenths
     slots table setting_at at_reset wide_range lowest highest narrow within conflict examined accepted answer_of raised at_start
@@ -161,7 +161,7 @@ module _ (p : Program) (m : Meets p) where
       omega (arith, sym (h es (replicate 8 0) lines.volts) ∙ number-next es lines.volts ∙ computed.volts)
 
   no-ignorer : IgnoresPieces p → ⊥
-  unfolding unheard if◌then◌else◌
+  unfolding unheard if◌then◌otherwise◌
   no-ignorer h =
       let es = line "VOLT?" ∷ [] in
       let alike = ap (λ (r : Result). r.number) (h es takes lines.volts refl) in
@@ -179,7 +179,7 @@ module _ (p : Program) (m : Meets p) where
       omega (arith, v, w, computed.four, computed.five)
 
   no-first-liner : OnlyFirstLine p → ⊥
-  unfolding unheard if◌then◌else◌
+  unfolding unheard if◌then◌otherwise◌
   no-first-liner h =
       let one = line "VOLT 5" ∷ [] in
       let two = line "VOLT 5" ∷ line "VOLT?" ∷ [] in

@@ -7,7 +7,7 @@ use native.Mathlib.Omega.{arith}
 use lib.Dec.{leb, ltb}
 use lib.ListN.{length}
 use borrow.Author.Tests.{le-leb, lt-leb, ltb-true, ltb-false}
-use Rattle.registers.specs.Text.{if◌then◌else◌, empty}
+use Rattle.registers.specs.Text.{if◌then◌otherwise◌, empty}
 use Rattle.registers.specs.Group.{widest_group}
 use Rattle.interpreter.specs.Box.{Memory, Box}
 use Rattle.interpreter.specs.Events.{Event, started, received, take, condition, look, altered, mislent, Result, Happened, taken, reported, happens}
@@ -32,7 +32,7 @@ leb-not m n = go (ltb n m) refl
     go false q = le-leb m n (ltb-false n m q)
 
 listed : (b : Box) (e : Event) → Listed b e (happens b e) (number_for b e)
-unfolding happens number_for taken reported if◌then◌else◌
+unfolding happens number_for taken reported if◌then◌otherwise◌
 listed b started = none b started _ refl
 listed b (received xs) = none b (received xs) _ refl
 listed b (take buffer) =
@@ -63,7 +63,7 @@ below-four m b (altered i x) q z = omega (arith, z)
 below-four m b (mislent buffer) q z = false≢true q
 
 pub event-refusals : EventRefusals
-unfolding refusal_of if◌then◌else◌
+unfolding refusal_of if◌then◌otherwise◌
 event-refusals s t m k e r h = go (rightly m e) refl (admitted s e) refl
   where
     go : (o : Bool) → rightly m e ≡ o → (p : Bool) → admitted s e ≡ p → Refuses s m e r t k

@@ -7,7 +7,7 @@ use Prim.Native.Nat.{ℕ}
 use Prim.Native.Char.{code}
 use lib.Dec.{eqb}
 use borrow.Author.Tests.{ne_eqb}
-use Rattle.registers.specs.Text.{Text, if◌then◌else◌, empty}
+use Rattle.registers.specs.Text.{Text, if◌then◌otherwise◌, empty}
 use Rattle.registers.specs.Check.{Checked, refused, passed}
 use Rattle.registers.specs.Queue.{may_be_queued, queueable}
 use Rattle.interpreter.specs.Cuts.{cut_open}
@@ -27,7 +27,7 @@ unfolding may_be_queued queueable
 not-zero n e z = false≢true (ap raisable (sym z) ∙ e)
 
 abbrev Stopped : ℕ → Box → Box
-Stopped n b = if eqb n 0 then b else refuse n b
+Stopped n b = if eqb n 0 then b otherwise refuse n b
 
 module _ (u : Text) (us path : List Text) (b : Box) where
   -- a line's first unit, and the rest of the line
@@ -35,7 +35,7 @@ module _ (u : Text) (us path : List Text) (b : Box) where
       → (r : Checked Obeyed) → attempt path b u ≡ r
       → next (λ p c. run_units us p c) b r
       ≡ Stopped (refusal_next (λ p c. refusal us p c) r) (run_units (obeyed_next (λ p c. obeyed us p c) u r) path b)
-  unfolding run_units if◌then◌else◌
+  unfolding run_units if◌then◌otherwise◌
   next-leaves ih (refused n) e = rw (ne_eqb n 0 (not-zero n (at-refused (attempt-known path b u) e)))
   next-leaves ih (passed o) e = rw e (ih o.path o.box)
 
@@ -45,7 +45,7 @@ module _ (u : Text) (us path : List Text) (b : Box) where
   next-raisable ih (passed o) e h = ih o.path o.box h
 
 units-leave : (us path : List Text) (b : Box) → run_units us path b ≡ Stopped (refusal us path b) (run_units (obeyed us path b) path b)
-unfolding run_units obeyed refusal if◌then◌else◌
+unfolding run_units obeyed refusal if◌then◌otherwise◌
 units-leave [] path b = refl
 units-leave (u ∷ us) path b = next-leaves u us path b (λ p c. units-leave us p c) (attempt path b u) refl
 
@@ -60,7 +60,7 @@ unfolding interrupted
 answer-gone b = if-elim (λ (c : Box). empty c.core.answer ≡ true) (empty b.core.answer) (λ e. e) (λ _. refl)
 
 pub line-refusals : LineRefusals
-unfolding happens piece byte end_line run_line interrupted units_of finished run_units if◌then◌else◌
+unfolding happens piece byte end_line run_line interrupted units_of finished run_units if◌then◌otherwise◌
 line-refusals b =
     let c = at_newline b in
     record {

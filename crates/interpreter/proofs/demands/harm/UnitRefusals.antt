@@ -4,7 +4,7 @@ use mathlib.Core.Path.{refl}
 use mathlib.Core.List.{List}
 use Prim.Native.Nat.{ℕ}
 use borrow.Author.Tests.{eq-eqb, ne_eqb}
-use Rattle.registers.specs.Text.{Text, if◌then◌else◌}
+use Rattle.registers.specs.Text.{Text, if◌then◌otherwise◌}
 use Rattle.registers.specs.Queue.{may_be_queued, queueable}
 use Rattle.interpreter.specs.Box.{Core, Box}
 use Rattle.interpreter.specs.Unit.{read_unit}
@@ -47,7 +47,7 @@ attempt-known path b u =
     hold-bind Any Any _ _ (perform-known r.deed r.text b) (λ c _. passes tt)))
 
 pub unit-refusals : UnitRefusals
-unfolding run_units refuse if◌then◌else◌
+unfolding run_units refuse if◌then◌otherwise◌
 unit-refusals u us path b n e =
     record {
       of_unit = at-refused (attempt-known path b u) e;

@@ -9,7 +9,7 @@ use lib.Dec.{eqb}
 use lib.ListN as L
 use lib.ListN.{length}
 use borrow.Author.Tests.{not-true}
-use Rattle.registers.specs.Text.{Text, if◌then◌else◌, every}
+use Rattle.registers.specs.Text.{Text, if◌then◌otherwise◌, every}
 use Rattle.registers.proofs.Tests.{and_both}
 use Rattle.interpreter.specs.Box.{Box}
 use Rattle.interpreter.specs.Line.{piece, newlines}
@@ -31,7 +31,7 @@ ends (altered i x ∷ es) = ends es
 ends (mislent buffer ∷ es) = ends es
 
 counted-ends : (b : Box) (es : List Event) → counted b es ≡ ends es
-unfolding ends summed results_of happens if◌then◌else◌
+unfolding ends summed results_of happens if◌then◌otherwise◌
 counted-ends b [] = refl
 counted-ends b (started ∷ es) = counted-ends _ es
 counted-ends b (received xs ∷ es) = ap (λ (n : ℕ). newlines xs + n) (counted-ends (piece b xs) es)
@@ -96,7 +96,7 @@ kept-ends k (altered i x ∷ es) = kept-ends k es
 kept-ends k (mislent buffer ∷ es) = kept-ends k es
 
 plain-none : (xs : Text) → every plain xs ≡ true → newlines xs ≡ 0
-unfolding newlines if◌then◌else◌
+unfolding newlines if◌then◌otherwise◌
 plain-none [] t = refl
 plain-none (x ∷ xs) t = let p = and_both (plain x) (every plain xs) t in rw (not-true (eqb x 10) p.0) (plain-none xs p.1)
 

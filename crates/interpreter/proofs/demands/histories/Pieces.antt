@@ -3,7 +3,7 @@
 use mathlib.Core.Path.{◌≡◌, refl, sym, ◌∙◌, ap}
 use mathlib.Core.Bool.{Bool, true, false}
 use mathlib.Core.List.{List, [], ◌∷◌, ◌++◌, map}
-use Rattle.registers.specs.Text.{Text, if◌then◌else◌}
+use Rattle.registers.specs.Text.{Text, if◌then◌otherwise◌}
 use Rattle.interpreter.specs.Box.{Box}
 use Rattle.interpreter.specs.Line.{end_line, byte, piece}
 use Rattle.interpreter.specs.Events.{Event, started, received, take, condition, look, altered, mislent, Result, happens, after}
@@ -18,17 +18,17 @@ after-append b (e ∷ es) fs = after-append (happens b e).box es fs
 
 pub results-append : (p : Event → Bool) (b : Box) (es fs : List Event)
     → results_of p b (es ++ fs) ≡ results_of p b es ++ results_of p (after b es) fs
-unfolding after results_of if◌then◌else◌
+unfolding after results_of if◌then◌otherwise◌
 results-append p b [] fs = refl
 results-append p b (e ∷ es) fs = go (p e) _ _ _ (results-append p (happens b e).box es fs)
   where
     go : (t : Bool) (xs ys zs : List Result) → xs ≡ ys ++ zs
-        → (if t then (happens b e).result ∷ xs else xs) ≡ (if t then (happens b e).result ∷ ys else ys) ++ zs
+        → (if t then (happens b e).result ∷ xs otherwise xs) ≡ (if t then (happens b e).result ∷ ys otherwise ys) ++ zs
     go true xs ys zs ih = ap (λ (rs : List Result). (happens b e).result ∷ rs) ih
     go false xs ys zs ih = ih
 
 pub newline-after : (b : Box) (es : List Event) → after b (es ++ newline ∷ []) ≡ end_line (after b es)
-unfolding after happens piece byte if◌then◌else◌
+unfolding after happens piece byte if◌then◌otherwise◌
 newline-after b es = after-append b es (newline ∷ [])
 
 -- ---- bytes one at a time
@@ -53,15 +53,15 @@ after-moments b (mislent buffer ∷ es) = after-moments b es
 -- of results that are no pieces'
 module _ (p : Event → Bool) (silent : (xs : Text) → p (received xs) ≡ false) where
   singles-results : (b : Box) (xs : Text) → results_of p b (map single xs) ≡ []
-  unfolding results_of happens piece if◌then◌else◌
+  unfolding results_of happens piece if◌then◌otherwise◌
   singles-results b [] = refl
   singles-results b (x ∷ xs) = rw (silent (x ∷ [])) (singles-results (byte b x) xs)
 
-  one-more : (e : Event) (r : Result) {xs ys : List Result} → xs ≡ ys → (if p e then r ∷ xs else xs) ≡ (if p e then r ∷ ys else ys)
-  one-more e r q = ap (λ (rs : List Result). if p e then r ∷ rs else rs) q
+  one-more : (e : Event) (r : Result) {xs ys : List Result} → xs ≡ ys → (if p e then r ∷ xs otherwise xs) ≡ (if p e then r ∷ ys otherwise ys)
+  one-more e r q = ap (λ (rs : List Result). if p e then r ∷ rs otherwise rs) q
 
   pub results-moments : (b : Box) (es : List Event) → results_of p b (moments es) ≡ results_of p b es
-  unfolding results_of moments happens if◌then◌else◌
+  unfolding results_of moments happens if◌then◌otherwise◌
   results-moments b [] = refl
   results-moments b (started ∷ es) = one-more started _ (results-moments _ es)
   results-moments b (received xs ∷ es) =

@@ -8,7 +8,7 @@ use Prim.Native.Nat.{ℕ}
 use lib.Dec.{leb, ltb, eqb}
 use lib.ListN.{length}
 use borrow.Author.Tests.{not-true}
-use Rattle.registers.specs.Text.{Text, if◌then◌else◌, every, empty}
+use Rattle.registers.specs.Text.{Text, if◌then◌otherwise◌, every, empty}
 use Rattle.registers.specs.Group.{widest_group}
 use Rattle.registers.specs.Settings.{value_at}
 use Rattle.registers.specs.Status.{Registers, set_reported}
@@ -31,11 +31,11 @@ use Rattle.interpreter.proofs.demands.isolation.Units.{Close, not-overlong, newl
 -- ---- a byte that is no newline
 
 byte-plain : (b : Box) (x : ℕ) → eqb x 10 ≡ false → byte b x ≡ box (held x b.core) b.trouble
-unfolding byte if◌then◌else◌
+unfolding byte if◌then◌otherwise◌
 byte-plain b x q = rw q
 
 steps-plain : (b : Box) (x : ℕ) → eqb x 10 ≡ false → byte_steps b x ≡ []
-unfolding byte_steps if◌then◌else◌
+unfolding byte_steps if◌then◌otherwise◌
 steps-plain b x q = rw q
 
 record Held (x : ℕ) (c d : Core) : Type 0 where
@@ -85,7 +85,7 @@ reports [] r = r
 reports (started ∷ es) r = reports es r
 reports (received xs ∷ es) r = reports es r
 reports (take buffer ∷ es) r = reports es r
-reports (condition x n ∷ es) r = reports es (if leb n widest_group then set_reported x n r else r)
+reports (condition x n ∷ es) r = reports es (if leb n widest_group then set_reported x n r otherwise r)
 reports (look ∷ es) r = reports es r
 reports (altered i x ∷ es) r = reports es r
 reports (mislent buffer ∷ es) r = reports es r
@@ -112,19 +112,19 @@ taken-leaves buffer b =
     (λ _. record { settings = refl; registers = refl; line = refl; overlong = refl }))
 
 reported-leaves : (x : RegisterSet) (n : ℕ) (b : Box)
-    → Leaves b (if leb n widest_group then set_reported x n b.core.registers else b.core.registers) (reported x n b).box
+    → Leaves b (if leb n widest_group then set_reported x n b.core.registers otherwise b.core.registers) (reported x n b).box
 unfolding reported
 reported-leaves x n b =
     if₂ (λ (h : Happened) (r : Registers). Leaves b r h.box) (leb n widest_group) (record { settings = refl; registers = refl; line = refl; overlong = refl })
     (record { settings = refl; registers = refl; line = refl; overlong = refl })
 
 -- a take tells nothing, with an answer or without
-take-silent : (b : Box) (ss : List Step) → answers ((if empty b.core.answer then finds_none b ∷ [] else []) ++ ss) ≡ answers ss
+take-silent : (b : Box) (ss : List Step) → answers ((if empty b.core.answer then finds_none b ∷ [] otherwise []) ++ ss) ≡ answers ss
 unfolding answers given
 take-silent b ss = if-elim (λ (l : List Step). answers (l ++ ss) ≡ answers ss) (empty b.core.answer) (λ _. refl) (λ _. refl)
 
 waits : (b : Box) (es : List Event) → every in_line es ≡ true → Waits b es (after b es)
-unfolding after steps event_steps happens in_line besides sent reports answers if◌then◌else◌
+unfolding after steps event_steps happens in_line besides sent reports answers if◌then◌otherwise◌
 waits b [] e = record { settings = refl; registers = refl; silent = refl; line = λ o. (sym (append-nil b.core.line), o) }
 waits b (started ∷ es) e = absurd (false≢true e)
 waits b (received xs ∷ es) e =
@@ -184,7 +184,7 @@ during-close d e w b c h =
 -- ---- what is told, part by part
 
 newline-then : (b : Box) (h : List Event) → after b (newline ∷ h) ≡ after (end_line b) h
-unfolding after happens piece byte if◌then◌else◌
+unfolding after happens piece byte if◌then◌otherwise◌
 newline-then b h = refl
 
 started-then : (b : Box) (h : List Event) → after b (started ∷ h) ≡ after (power_up b.core.memory) h
@@ -239,7 +239,7 @@ started-tells b h = behind _ (powers_up b ∷ []) _ (started-steps b h) refl
 end-tells : (b : Box) → Tells (end_steps b) (own_steps b)
 unfolding end_steps answers given
 end-tells b =
-    behind _ (if empty b.core.answer then [] else discards b ∷ []) _ refl
+    behind _ (if empty b.core.answer then [] otherwise discards b ∷ []) _ refl
     (if-elim (λ (l : List Step). answers l ≡ []) (empty b.core.answer) (λ _. refl) (λ _. refl))
 
 record NewlineTells (b : Box) (h : List Event) : Type 0 where

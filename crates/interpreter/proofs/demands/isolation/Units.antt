@@ -10,7 +10,7 @@ use lib.ListN.{length, get_or, set, length-set}
 use lib.Seq.{get_or-set_same, get_or-set_other, set_out}
 use lib.IntN.{ℤ, pos}
 use borrow.Author.Tests.{eqb-true, eqb-false, ltb-true, ltb-false}
-use Rattle.registers.specs.Text.{Text, if◌then◌else◌, empty}
+use Rattle.registers.specs.Text.{Text, if◌then◌otherwise◌, empty}
 use Rattle.registers.specs.Label.{held_in, quoted_text}
 use Rattle.registers.specs.Check.{Checked, refused, passed, ◌>>=◌, ◌>>◌, check}
 use Rattle.registers.specs.Settings.{second, value_at, with_value}
@@ -186,8 +186,8 @@ module _ (b c : Box) (h : Close b c) where
 
   -- ---- and its answer, if it is not channel 2's
 
-  query-told : (q : queries.Query) → (if asks_second q then [] else reply_to q b.core ∷ []) ≡ (if asks_second q then [] else reply_to q c.core ∷ [])
-  unfolding reply_to if◌then◌else◌
+  query-told : (q : queries.Query) → (if asks_second q then [] otherwise reply_to q b.core ∷ []) ≡ (if asks_second q then [] otherwise reply_to q c.core ∷ [])
+  unfolding reply_to if◌then◌otherwise◌
   query-told Identity = refl
   query-told SelfTest = refl
   query-told Completed = refl
@@ -195,7 +195,7 @@ module _ (b c : Box) (h : Close b c) where
   query-told (Value i) = go (second i) refl
     where
       go : (t : Bool) → second i ≡ t
-          → (if t then [] else reply_to (Value i) b.core ∷ []) ≡ (if t then [] else reply_to (Value i) c.core ∷ [])
+          → (if t then [] otherwise reply_to (Value i) b.core ∷ []) ≡ (if t then [] otherwise reply_to (Value i) c.core ∷ [])
       go true f = refl
       go false f = rw (h.agree.settings i f)
   query-told (Stored r) = rw h.agree.registers
@@ -204,7 +204,7 @@ module _ (b c : Box) (h : Close b c) where
   query-told label_asked = ap (λ (t : Text). quoted_text (held_in t) ∷ []) h.agree.text
 
   alike-told : (d d' : Deed) → DeedsAlike d d' → answer_to d b.core ≡ answer_to d' c.core
-  unfolding if◌then◌else◌
+  unfolding if◌then◌otherwise◌
   alike-told (Change x) _ (equal f) = refl
   alike-told Complete _ (equal f) = refl
   alike-told Clear _ (equal f) = refl
@@ -400,7 +400,7 @@ units-done (u ∷ us) (v ∷ vs) path a b c h k l =
 interrupted-close : (b c : Box) → Close b c → Close (interrupted b) (interrupted c)
 unfolding interrupted
 interrupted-close b c h =
-    if-elim (λ (x : Box). Close x (if empty c.core.answer then c else raise 410 (answer_is [] c))) (empty b.core.answer)
+    if-elim (λ (x : Box). Close x (if empty c.core.answer then c otherwise raise 410 (answer_is [] c))) (empty b.core.answer)
     (λ _. if-elim (λ (y : Box). Close b y) (empty c.core.answer) (λ _. h) (λ _. close _ _ h.agree.settings h.agree.text h.agree.registers h.long))
     (λ _. if-elim (λ (y : Box). Close (raise 410 (answer_is [] b)) y) (empty c.core.answer)
     (λ _. close _ _ h.agree.settings h.agree.text h.agree.registers h.long) (λ _. close _ _ h.agree.settings h.agree.text h.agree.registers h.long))
@@ -408,7 +408,7 @@ interrupted-close b c h =
 finished-close : (b c : Box) → Close b c → Close (finished b) (finished c)
 unfolding finished
 finished-close b c h =
-    if-elim (λ (x : Box). Close x (if empty c.core.answer then c else answer_is (c.core.answer ++ 10 ∷ []) c)) (empty b.core.answer)
+    if-elim (λ (x : Box). Close x (if empty c.core.answer then c otherwise answer_is (c.core.answer ++ 10 ∷ []) c)) (empty b.core.answer)
     (λ _. if-elim (λ (y : Box). Close b y) (empty c.core.answer) (λ _. h) (λ _. close _ _ h.agree.settings h.agree.text h.agree.registers h.long))
     (λ _. if-elim (λ (y : Box). Close (answer_is (b.core.answer ++ 10 ∷ []) b) y) (empty c.core.answer)
     (λ _. close _ _ h.agree.settings h.agree.text h.agree.registers h.long) (λ _. close _ _ h.agree.settings h.agree.text h.agree.registers h.long))
@@ -417,7 +417,7 @@ newline-close : (b c : Box) → Close b c → Close (at_newline b) (at_newline c
 newline-close b c h = interrupted-close _ _ (close _ _ h.agree.settings h.agree.text h.agree.registers h.long)
 
 pub not-overlong : (b : Box) → Calm (own_steps b) → b.core.overlong ≡ false
-unfolding line_steps calm if◌then◌else◌
+unfolding line_steps calm if◌then◌otherwise◌
 not-overlong b k = go b.core.overlong refl k
   where
     go : (t : Bool) → b.core.overlong ≡ t → Calm (line_steps b.core.line t (at_newline b)) → b.core.overlong ≡ false
@@ -426,7 +426,7 @@ not-overlong b k = go b.core.overlong refl k
 
 pub newline-done : (b c : Box) → Close b c → LinesAlike b.core.line c.core.line → Calm (own_steps b) → Calm (own_steps c)
     → Close (end_line b) (end_line c) × (answers (own_steps b) ≡ answers (own_steps c))
-unfolding line_steps end_line run_line if◌then◌else◌
+unfolding line_steps end_line run_line if◌then◌otherwise◌
 newline-done b c h a k l =
     let o = not-overlong b k in
     let p = not-overlong c l in

@@ -8,7 +8,7 @@ use Prim.Native.Char.{code}
 use native.Mathlib.Omega.{arith}
 use lib.ListN as L
 use lib.ListN.{length, get_or, replicate}
-use Rattle.registers.specs.Text.{Text, if◌then◌else◌, bytes, same, white, printable, digit, letter, word_byte, small, capital, every}
+use Rattle.registers.specs.Text.{Text, if◌then◌otherwise◌, bytes, same, white, printable, digit, letter, word_byte, small, capital, every}
 use Rattle.registers.specs.Check.{Checked, passed, ◌>>=◌, ◌>>◌, check}
 use Rattle.registers.specs.Words.{Node, must, may, short_form, long_form, matches}
 use Rattle.registers.specs.Number.{after_sign, fraction_of, after_fraction, exponent_of, after_exponent, lowering, written, numeral_from, decimal_of, value_of, scaled, number}
@@ -41,7 +41,7 @@ use Rattle.interpreter.proofs.Possible.{power-up-own}
 -- a header in its shortest spelling, with a suffix on the node that takes one
 unfoldable pub short_names : Text → List Node → List Text
 short_names x [] = []
-short_names x (must w ∷ nodes) = (if takes_number w then short_form w ++ x else short_form w) ∷ short_names x nodes
+short_names x (must w ∷ nodes) = (if takes_number w then short_form w ++ x otherwise short_form w) ∷ short_names x nodes
 short_names x (may w ∷ nodes) = short_names x nodes
 
 unfoldable pub colon_joined : List Text → Text
@@ -128,7 +128,7 @@ abbrev pub trip_at : List (Text × Text) → ℕ → Text × Text
 trip_at ts i = get_or ts i ([], [])
 
 seen : map seen_at trips ≡ numbered 0 trips
-unfolding if◌then◌else◌ bytes same white printable digit letter word_byte small capital ◌>>=◌ ◌>>◌ check short_form long_form matches
+unfolding if◌then◌otherwise◌ bytes same white printable digit letter word_byte small capital ◌>>=◌ ◌>>◌ check short_form long_form matches
     after_sign fraction_of after_fraction exponent_of after_exponent lowering written numeral_from decimal_of value_of scaled suffixes no_suffix power_in remains number switched_on
     nearest size_in rounded size_side side_in in_places decimal tenths event_bit
     slots table setting_at at_reset wide_range lowest highest narrow within conflict examined accepted answer_of raised rises falls events_after condition_is at_start

@@ -6,7 +6,7 @@ use mathlib.Core.List.{List, [], ◌∷◌, ◌++◌, map}
 use Prim.Native.Nat.{ℕ, ◌+◌}
 use Prim.Native.String.{String}
 use native.Mathlib.Omega.{arith}
-use Rattle.registers.specs.Text.{Text, if◌then◌else◌, bytes, same, white, printable, digit, letter, word_byte, small, capital}
+use Rattle.registers.specs.Text.{Text, if◌then◌otherwise◌, bytes, same, white, printable, digit, letter, word_byte, small, capital}
 use Rattle.registers.specs.Check.{◌>>=◌, ◌>>◌, check}
 use Rattle.registers.specs.Words.{short_form, long_form, matches}
 use Rattle.registers.specs.Number.{after_sign, fraction_of, after_fraction, exponent_of, after_exponent, lowering, written, numeral_from, decimal_of, value_of, scaled, number}
@@ -75,7 +75,7 @@ pub record Met3 : Type 0 where
   pub cut_in_pieces : Recut (text "VOL" ∷ text "T 5" ∷ take [] ∷ text "\n*CLS\nVOLT?\n" ∷ take [] ∷ []) (as_cut blank [] during ++ later)
 
 too-long : Cut [] too_long 363 []
-unfolding line_refusal cut_line power_up after if◌then◌else◌
+unfolding line_refusal cut_line power_up after if◌then◌otherwise◌
 too-long =
     let long = overlong-is (most_line + 1) in
     let refused : line_refusal (at_end blank [] too_long) ≡ 363 = rw long in
@@ -86,7 +86,7 @@ too-long =
     }
 
 pub met3 : Met3
-unfolding if◌then◌else◌ bytes same white printable digit letter word_byte small capital ◌>>=◌ ◌>>◌ check short_form long_form matches
+unfolding if◌then◌otherwise◌ bytes same white printable digit letter word_byte small capital ◌>>=◌ ◌>>◌ check short_form long_form matches
     after_sign fraction_of after_fraction exponent_of after_exponent lowering written numeral_from decimal_of value_of scaled suffixes no_suffix power_in remains number switched_on
     nearest size_in rounded size_side side_in in_places decimal tenths event_bit
     slots table setting_at at_reset wide_range lowest highest narrow within conflict examined accepted answer_of raised rises falls events_after condition_is at_start

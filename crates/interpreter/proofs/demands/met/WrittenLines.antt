@@ -3,7 +3,7 @@
 use mathlib.Core.Path.{◌≡◌, refl}
 use Prim.Native.String.{String}
 use native.Mathlib.Omega.{arith}
-use Rattle.registers.specs.Text.{Text, if◌then◌else◌, bytes, same, white, printable, digit, letter, word_byte, small, capital}
+use Rattle.registers.specs.Text.{Text, if◌then◌otherwise◌, bytes, same, white, printable, digit, letter, word_byte, small, capital}
 use Rattle.registers.specs.Check.{◌>>=◌, ◌>>◌, check}
 use Rattle.registers.specs.Words.{short_form, long_form, matches}
 use Rattle.registers.specs.Number.{after_sign, fraction_of, after_fraction, exponent_of, after_exponent, lowering, written, numeral_from, decimal_of, value_of, scaled, number}
@@ -48,7 +48,7 @@ pub record MetWritten : Type 0 where
   pub answers : answers_to (power_up blank) (lines_of (input before line (bytes "VOLT?\n*CLS\nFREQ?\n"))) ≡ bytes "50.0\n5.0\n50.0\n"
 
 pub met-written : MetWritten
-unfolding if◌then◌else◌ bytes same white printable digit letter word_byte small capital ◌>>=◌ ◌>>◌ check short_form long_form matches
+unfolding if◌then◌otherwise◌ bytes same white printable digit letter word_byte small capital ◌>>=◌ ◌>>◌ check short_form long_form matches
     after_sign fraction_of after_fraction exponent_of after_exponent lowering written numeral_from decimal_of value_of scaled suffixes no_suffix power_in remains number switched_on
     nearest size_in rounded size_side side_in in_places decimal tenths event_bit
     slots table setting_at at_reset wide_range lowest highest narrow within conflict examined accepted answer_of raised rises falls events_after condition_is at_start

@@ -7,7 +7,7 @@ use mathlib.Core.List.{List, [], ◌∷◌}
 use Prim.Native.Nat.{ℕ}
 use lib.Dec.{leb, eqb}
 use lib.ListN.{length}
-use Rattle.registers.specs.Text.{Text, if◌then◌else◌, empty}
+use Rattle.registers.specs.Text.{Text, if◌then◌otherwise◌, empty}
 use Rattle.registers.specs.Check.{Checked, refused, passed, ◌>>=◌, ◌>>◌, check}
 use Rattle.registers.specs.Group.{widest_group}
 use Rattle.registers.specs.Status.{Trouble, raised}
@@ -118,7 +118,7 @@ finished-agree cleared a b e = ap finished e
 
 line-agree : (line : Text) (overlong : Bool) (c : Core) (t t' : Trouble)
     → Agree (watch_line line overlong (box c t)) (run_line line overlong (box c t)) (run_line line overlong (box c t'))
-unfolding watch_line run_line if◌then◌else◌
+unfolding watch_line run_line if◌then◌otherwise◌
 line-agree line true c t t' = refl
 line-agree line false c t t' = finished-agree (watch_units (units_of line) [] (box c t)) _ _ (units-agree (units_of line) [] c t t')
 
@@ -131,12 +131,12 @@ interrupted-agree line overlong c t t' =
     (line-agree line overlong c t t') (line-agree line overlong (with_answer [] c) (raised 410 t) (raised 410 t'))
 
 pub byte-agree : (x : ℕ) (c : Core) (t t' : Trouble) → Agree (watch_byte (box c t) x) (byte (box c t) x) (byte (box c t') x)
-unfolding watch_byte byte end_line if◌then◌else◌
+unfolding watch_byte byte end_line if◌then◌otherwise◌
 byte-agree x c t t' = go (eqb x 10)
   where
-    go : (e : Bool) → Agree (if e then watch_line c.line c.overlong (at_newline (box c t)) else neither)
-        (if e then end_line (box c t) else box (held x c) t)
-        (if e then end_line (box c t') else box (held x c) t')
+    go : (e : Bool) → Agree (if e then watch_line c.line c.overlong (at_newline (box c t)) otherwise neither)
+        (if e then end_line (box c t) otherwise box (held x c) t)
+        (if e then end_line (box c t') otherwise box (held x c) t')
     go true = interrupted-agree c.line c.overlong (with_line [] false c) t t'
     go false = refl
 
@@ -200,8 +200,8 @@ one-more asked r r' x y e f = tt
 one-more cleared r r' x y e f = ap₂ ◌∷◌ e f
 
 answer-more : (e : Event) (w : Watch) (c : Core) (t t' : Trouble) (x y : List Result) → AgreeAnswers w x y
-    → AgreeAnswers w (if is_take e then (happens (box c t) e).result ∷ x else x) (if is_take e then (happens (box c t') e).result ∷ y else y)
-unfolding happens if◌then◌else◌
+    → AgreeAnswers w (if is_take e then (happens (box c t) e).result ∷ x otherwise x) (if is_take e then (happens (box c t') e).result ∷ y otherwise y)
+unfolding happens if◌then◌otherwise◌
 answer-more started w c t t' x y f = f
 answer-more (received xs) w c t t' x y f = f
 answer-more (take buffer) w c t t' x y f = one-more w _ _ x y (taken-alike buffer c t t').1 f

@@ -8,7 +8,7 @@ use Prim.Native.Nat.{ℕ}
 use Prim.Native.Char.{code}
 use lib.Dec.{eqb}
 use borrow.Author.Tests.{eqb-true}
-use Rattle.registers.specs.Text.{Text, if◌then◌else◌, every, white, empty, after}
+use Rattle.registers.specs.Text.{Text, if◌then◌otherwise◌, every, white, empty, after}
 use Rattle.registers.specs.Check.{Checked, refused, passed, ◌>>=◌, ◌>>◌, check}
 use Rattle.registers.specs.declared.settings.Settings.{Settings}
 use Rattle.registers.proofs.Tests.{and_both, and-true}
@@ -60,7 +60,7 @@ cut-joined u (v ∷ us) t =
 -- ---- a unit that is obeyed is not blank
 
 after-all : (p : ℕ → Bool) (t : Text) → every p t ≡ true → after p t ≡ []
-unfolding if◌then◌else◌
+unfolding if◌then◌otherwise◌
 after-all p [] h = refl
 after-all p (b ∷ bs) h = let q = and_both (p b) (every p bs) h in rw (q.0, after-all p bs q.1)
 
@@ -121,7 +121,7 @@ blank-joined u (v ∷ us) t = blank-start white u (code ";" ∷ join_units (v �
 
 -- units joined, and cut as a line
 units-joined : (us : List Text) → Parted (code ";") 0 us → visible_first us ≡ true → units_of (join_units us) ≡ us
-unfolding units_of join_units if◌then◌else◌
+unfolding units_of join_units if◌then◌otherwise◌
 units-joined [] t h = refl
 units-joined (u ∷ us) t h =
     if-elim (λ (x : List Text). x ≡ u ∷ us) (every white (join_units (u ∷ us)))
@@ -136,7 +136,7 @@ units-parted line = if-elim (Parted (code ";") 0) (every white line) (λ _. tt) 
 -- a line that runs in a box, and the same cut to its obeyed units
 run-cut : (line : Text) (b : Box) → (refusal (units_of line) [] b ≡ 430 → ⊥)
     → (run_line line false b).core ≡ (run_line (join_units (obeyed (units_of line) [] b)) false b).core
-unfolding run_line if◌then◌else◌
+unfolding run_line if◌then◌otherwise◌
 run-cut line b h =
     let us = obeyed (units_of line) [] b in
     let e = units-joined us (parted-obeyed (code ";") 0 (units_of line) [] b (units-parted line)) (visible-first (units_of line) [] b) in
@@ -145,7 +145,7 @@ run-cut line b h =
 
 -- a blank line runs nothing
 blank-line : (b : Box) → b.core.answer ≡ [] → (run_line [] false b).core ≡ b.core
-unfolding run_line units_of run_units finished if◌then◌else◌
+unfolding run_line units_of run_units finished if◌then◌otherwise◌
 blank-line b e = rw e refl
 
 -- after the -410 no answer waits
@@ -155,11 +155,11 @@ none-waits b = if-elim (λ (c : Box). c.core.answer ≡ []) (empty b.core.answer
 
 -- "At its newline the two agree in all but the error queue and the event status register"
 pub newline-cut : (b : Box) → (line_refusal b ≡ 430 → ⊥) → (end_line b).core ≡ (end_line (cut b)).core
-unfolding end_line cut_line line_refusal run_line if◌then◌else◌
+unfolding end_line cut_line line_refusal run_line if◌then◌otherwise◌
 newline-cut b h = go b.core.overlong h
   where
-    go : (o : Bool) → ((if o then 363 else refusal (units_of b.core.line) [] (at_newline b)) ≡ 430 → ⊥)
+    go : (o : Bool) → ((if o then 363 otherwise refusal (units_of b.core.line) [] (at_newline b)) ≡ 430 → ⊥)
         → (run_line b.core.line o (at_newline b)).core
-        ≡ (run_line (if o then [] else join_units (obeyed (units_of b.core.line) [] (at_newline b))) false (at_newline b)).core
+        ≡ (run_line (if o then [] otherwise join_units (obeyed (units_of b.core.line) [] (at_newline b))) false (at_newline b)).core
     go true k = sym (blank-line (at_newline b) (none-waits (box (with_line [] false b.core) b.trouble)))
     go false k = run-cut b.core.line (at_newline b) k

@@ -11,7 +11,7 @@ use lib.ListN as L
 use lib.ListN.{length, length-append}
 use lib.Seq.{take-nil, take_all, take-append-le}
 use borrow.Author.Tests.{lt-ltb, le-ltb, ltb-true, ltb-false}
-use Rattle.registers.specs.Text.{Text, if◌then◌else◌, every, empty}
+use Rattle.registers.specs.Text.{Text, if◌then◌otherwise◌, every, empty}
 use Rattle.registers.specs.Group.{widest_group}
 use Rattle.registers.specs.Status.{Trouble}
 use Rattle.registers.proofs.Tests.{and_both}
@@ -31,11 +31,11 @@ cut_to k b = box (with_line (L.take k b.core.line) false b.core) b.trouble
 -- ---- one byte
 
 held-room : (x : ℕ) (c : Core) → length c.line < most_line → held x c ≡ with_line (c.line ++ x ∷ []) c.overlong c
-unfolding held if◌then◌else◌
+unfolding held if◌then◌otherwise◌
 held-room x c h = rw (lt-ltb (length c.line) most_line h)
 
 held-full : (x : ℕ) (c : Core) → most_line ≤ length c.line → held x c ≡ with_line c.line true c
-unfolding held if◌then◌else◌
+unfolding held if◌then◌otherwise◌
 held-full x c h = rw (le-ltb (length c.line) most_line h)
 
 module _ (k : ℕ) (most : k ≤ most_line) where
@@ -139,19 +139,19 @@ module _ (k : ℕ) (most : k ≤ most_line) where
   -- one event more in front that is no piece
   blind-first : (b : Box) (e : Event) (es : List Event) → ((j : ℕ) → keep j (e ∷ es) ≡ e ∷ keep j es)
       → Blind b (happens (cut_to k b) e) (happens b e) → DuringKept (happens b e).box es → DuringKept b (e ∷ es)
-  unfolding after results_of if◌then◌else◌
+  unfolding after results_of if◌then◌otherwise◌
   blind-first b e es first s ih =
       let n : left b ≡ left (happens b e).box = sym (ap (λ (l : Text). k - length l) s.2) in
       record {
         state = ap (after (cut_to k b)) (first (left b)) ∙ ap₂ (λ (y : Box) (j : ℕ). after y (keep j es)) s.0 n ∙ ih.state;
         results = λ p silent.
             ap (results_of p (cut_to k b)) (first (left b))
-            ∙ ap₂ (λ (r : Result) (rs : List Result). if p e then r ∷ rs else rs) s.1
+            ∙ ap₂ (λ (r : Result) (rs : List Result). if p e then r ∷ rs otherwise rs) s.1
             (ap₂ (λ (y : Box) (j : ℕ). results_of p y (keep j es)) s.0 n ∙ ih.results p silent);
       }
 
   piece-first : (b : Box) (xs : Text) (es : List Event) → Kept b xs → DuringKept (piece b xs) es → DuringKept b (received xs ∷ es)
-  unfolding after happens keep results_of if◌then◌else◌
+  unfolding after happens keep results_of if◌then◌otherwise◌
   piece-first b xs es s ih =
       let n : left b - length xs ≡ left (piece b xs) = sym s.1 in
       record {
@@ -162,7 +162,7 @@ module _ (k : ℕ) (most : k ≤ most_line) where
       }
 
   pub during-kept : (b : Box) (es : List Event) → every in_line es ≡ true → DuringKept b es
-  unfolding after keep in_line happens results_of if◌then◌else◌
+  unfolding after keep in_line happens results_of if◌then◌otherwise◌
   during-kept b [] t = record { state = refl; results = λ p silent. refl }
   during-kept b (started ∷ es) t = absurd (false≢true t)
   during-kept b (received xs ∷ es) t =

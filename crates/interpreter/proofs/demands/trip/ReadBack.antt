@@ -10,7 +10,7 @@ use lib.ListN.{length}
 use lib.IntN.{ℤ, pos, negsuc, nat_abs}
 use lib.Signed.{le_z, non_neg, pos-nat_abs}
 use borrow.Author.Tests.{ltb-true, leb-true, le-leb, eqb-true, ne_eqb}
-use Rattle.registers.specs.Text.{Text, if◌then◌else◌, bytes, same, white, printable, digit, letter, word_byte, small, capital, every, empty, below}
+use Rattle.registers.specs.Text.{Text, if◌then◌otherwise◌, bytes, same, white, printable, digit, letter, word_byte, small, capital, every, empty, below}
 use Rattle.registers.specs.Check.{Checked, refused, passed, check, ◌>>=◌, ◌>>◌}
 use Rattle.registers.specs.Words.{short_form, long_form, matches}
 use Rattle.registers.specs.Number.{after_sign, fraction_of, after_fraction, exponent_of, after_exponent, lowering, written, numeral_from, decimal_of, value_of, scaled, number as read_number, most_digits}
@@ -40,7 +40,7 @@ same_z x y = le_z x y && le_z y x
 -- a parameter gives v to a setting of this kind, whatever the settings are, and nothing is rounded off
 unfoldable gives : Kind → ℤ → Given → Bool
 gives bool v (Word n) = same_z (pos n) v
-gives bool v (Figure d) = same_z (if switched_on d then pos 1 else pos 0) v
+gives bool v (Figure d) = same_z (if switched_on d then pos 1 otherwise pos 0) v
 gives (words ws) v (Word n) = same_z (pos n) v
 gives (words ws) v (Figure d) = false
 gives (number k low high) v (Word n) = false
@@ -76,10 +76,10 @@ tested q k = non_neg (lowest_of k) && below (suc (size_of k)) (λ n. reads_back 
 unfoldable covered : Quantity → Kind → Bool
 covered q bool = tested q bool
 covered q (words ws) = tested q (words ws)
-covered q (number k low high) = if eqb k 10 then ltb (size_of (number k low high)) (10 ^ most_digits) else tested q (number k low high)
+covered q (number k low high) = if eqb k 10 then ltb (size_of (number k low high)) (10 ^ most_digits) otherwise tested q (number k low high)
 
 all-covered : below count (λ i. covered (quantity_of i) (kind_of i)) ≡ true
-unfolding covered tested reads_back plain_text read_to gives same_z if◌then◌else◌ bytes same printable white digit letter word_byte small capital
+unfolding covered tested reads_back plain_text read_to gives same_z if◌then◌otherwise◌ bytes same printable white digit letter word_byte small capital
     ◌>>=◌ ◌>>◌ check short_form long_form matches after_sign fraction_of after_fraction exponent_of after_exponent lowering written numeral_from decimal_of
     value_of scaled suffixes no_suffix power_in remains read_number switched_on nearest size_in rounded size_side side_in in_places decimal slots table setting_at answer_of find_word read_word read_figure parameter
 all-covered = refl
@@ -168,7 +168,7 @@ module _ (v : ℤ) (h : nat_abs v < 10 ^ most_digits) where
       rw (tenths-some v, tenths-bytes plain_byte refl refl digit-plain v h, le-leb (length (signed_text tenths v)) 30 (omega arith))
 
   by-law : (q : Quantity) (low high : ℤ) → reads_back q (number 10 low high) v ≡ true
-  unfolding reads_back read_to gives answer_of if◌then◌else◌
+  unfolding reads_back read_to gives answer_of if◌then◌otherwise◌
   by-law q low high = rw (tenths-read limit_words q v h, tenths-on v, tenths-rounded v, same_z-same v) tenths-plain
 
 reads-back : (q : Quantity) (k : Kind) → covered q k ≡ true → (v : ℤ) → in_table k v ≡ true → reads_back q k v ≡ true
@@ -193,13 +193,13 @@ read-deed s i v (passed g) t w = rw (gives-value s i (kind_of i) v g t, gives-si
 
 -- a voltage within any range is in the table
 under_table : (s : Settings) (i : ℕ) (v : ℤ) → within s i v ≡ true → in_table (kind_of i) v ≡ true
-unfolding within in_table lowest highest narrow setting_at slots table if◌then◌else◌
+unfolding within in_table lowest highest narrow setting_at slots table if◌then◌otherwise◌
 under_table s i v w =
     let p = and_both (le_z (lowest_of (kind_of i)) v) _ w in
     rw p.0 (go (eqb i voltage) refl (eqb i voltage2) refl (not (wide_range s range)) (not (wide_range s range2)) p.1)
   where
     go : (t : Bool) → eqb i voltage ≡ t → (u : Bool) → eqb i voltage2 ≡ u → (m n : Bool)
-        → le_z v (if (t && m) || (u && n) then twelve_volts else highest_of (kind_of i)) ≡ true → le_z v (highest_of (kind_of i)) ≡ true
+        → le_z v (if (t && m) || (u && n) then twelve_volts otherwise highest_of (kind_of i)) ≡ true → le_z v (highest_of (kind_of i)) ≡ true
     go true q u r true n l = rw (eqb-true i voltage q) (under-wide false v l)
     go false q true r m true l = rw (eqb-true i voltage2 r) (under-wide false v l)
     go true q true r false n l = absurd (omega (arith, eqb-true i voltage q, eqb-true i voltage2 r))

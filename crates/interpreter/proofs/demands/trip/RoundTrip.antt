@@ -10,7 +10,7 @@ use lib.ListN.{length, length-append}
 use lib.Seq.{set-get_or}
 use lib.IntN.{pos}
 use borrow.Author.Tests.{lt-ltb, leb-true}
-use Rattle.registers.specs.Text.{Text, if◌then◌else◌, every, empty}
+use Rattle.registers.specs.Text.{Text, if◌then◌otherwise◌, every, empty}
 use Rattle.registers.specs.Check.{passed, check, ◌>>=◌, ◌>>◌}
 use Rattle.registers.specs.Settings.{count, kind_of, value_at, with_value, displayed, with_text, answer_of}
 use Rattle.registers.specs.Label.{padded, text_in}
@@ -61,7 +61,7 @@ module _ (q : queries.Query) (c : Core) (t : Trouble) (a u text : Text) (path : 
   answered : read_unit c.settings [] u ≡ passed (record { deed = Query q; text = text; path = path })
       → reply_to q (with_answer [] c) ≡ a → after_query q (with_answer [] c) ≡ with_answer [] c
       → finished (run_units (u ∷ []) [] (box (with_answer [] c) t)) ≡ box (with_answer (a ++ 10 ∷ []) c) t
-  unfolding run_units attempt permitted perform reply fits_answer joined finished check ◌>>=◌ ◌>>◌ if◌then◌else◌
+  unfolding run_units attempt permitted perform reply fits_answer joined finished check ◌>>=◌ ◌>>◌ if◌then◌otherwise◌
   answered e v k = rw (e, v, k, lt-ltb (length a) most_answer short, some)
 
 -- a setting's query answers it, and leaves the core
@@ -117,7 +117,7 @@ module _ (i : Which) (b : Box) (fit : Fit most_answer b) (q : Asks i b) where
   there = asked-there i s (read-allowed s [] b.core.line q.asks)
 
   query-line : end_line b ≡ box (with_answer (a ++ 10 ∷ []) (with_line [] false b.core)) (at_newline b).trouble
-  unfolding end_line run_line if◌then◌else◌
+  unfolding end_line run_line if◌then◌otherwise◌
   query-line =
       let f = fine b.core most_answer fit.core i there in
       let c = with_line [] false b.core in
@@ -211,7 +211,7 @@ module _ (i : Which) (b : Box) (fit : Fit most_answer b) (h : There i) (a : Text
       }
 
   back-line : (end_line b ≡ box c b.trouble) × (line_refusal b ≡ 0)
-  unfolding end_line run_line line_refusal if◌then◌else◌
+  unfolding end_line run_line line_refusal if◌then◌otherwise◌
   back-line =
       let n : at_newline b ≡ box c b.trouble = none-interrupted c b.trouble none in
       let x = back_to i b.core.settings in
@@ -226,7 +226,7 @@ module _ (i : Which) (b : Box) (fit : Fit most_answer b) (h : There i) (a : Text
 -- ---- the whole
 
 front_of : (t : Text) (x : ℕ) → front (t ++ x ∷ []) ≡ t
-unfolding if◌then◌else◌
+unfolding if◌then◌otherwise◌
 front_of [] x = refl
 front_of (b ∷ []) x = refl
 front_of (b ∷ c ∷ t) x = ap (λ (y : Text). b ∷ y) (front_of (c ∷ t) x)

@@ -9,7 +9,7 @@ use Prim.Native.Char.{code}
 use native.Mathlib.Omega.{arith}
 use lib.Dec.{leb, eqb}
 use borrow.Author.Tests.{not-true, leb-true, leb-false, le-leb, lt-leb, eqb-true, ne_eqb}
-use Rattle.registers.specs.Text.{Text, if◌then◌else◌, white, visible, printable, between, every, empty, first, start, after}
+use Rattle.registers.specs.Text.{Text, if◌then◌otherwise◌, white, visible, printable, between, every, empty, first, start, after}
 use Rattle.registers.specs.Check.{passed, check, ◌>>=◌, ◌>>◌}
 use Rattle.registers.specs.Label.{may_stand, text_in, quoted_text}
 use Rattle.registers.specs.declared.settings.Settings.{Settings}
@@ -38,19 +38,19 @@ unfolding solid
 solid-visible b e = not-true (white b) (and_both (not (white b)) _ e).0
 
 skip-white : (l t : Text) → every white l ≡ true → after white (l ++ t) ≡ after white t
-unfolding if◌then◌else◌
+unfolding if◌then◌otherwise◌
 skip-white [] t h = refl
 skip-white (b ∷ l) t h = let e = and_both (white b) (every white l) h in rw e.0 (skip-white l t e.1)
 
 -- a solid text has no white space at its start to pass over
 solid-stays : (h t : Text) → empty h ≡ false → every solid h ≡ true → after white (h ++ t) ≡ h ++ t
-unfolding if◌then◌else◌
+unfolding if◌then◌otherwise◌
 solid-stays [] t n h = absurd (false≢true (sym n))
 solid-stays (b ∷ h) t n e = rw (solid-visible b (and_both (solid b) (every solid h) e).0)
 
 -- a solid text ends where white space begins
 solid-start : (h g t : Text) → every solid h ≡ true → empty g ≡ false → every white g ≡ true → start visible (h ++ (g ++ t)) ≡ h
-unfolding if◌then◌else◌
+unfolding if◌then◌otherwise◌
 solid-start [] [] t e n w = absurd (false≢true (sym n))
 solid-start [] (x ∷ g) t e n w = rw (and_both (white x) (every white g) w).0
 solid-start (b ∷ h) g t e n w =
@@ -58,19 +58,19 @@ solid-start (b ∷ h) g t e n w =
     rw (solid-visible b p.0) (ap (λ (x : Text). b ∷ x) (solid-start h g t p.1 n w))
 
 solid-after : (h g t : Text) → every solid h ≡ true → empty g ≡ false → every white g ≡ true → after visible (h ++ (g ++ t)) ≡ g ++ t
-unfolding if◌then◌else◌
+unfolding if◌then◌otherwise◌
 solid-after [] [] t e n w = absurd (false≢true (sym n))
 solid-after [] (x ∷ g) t e n w = rw (and_both (white x) (every white g) w).0
 solid-after (b ∷ h) g t e n w =
     let p = and_both (solid b) (every solid h) e in rw (solid-visible b p.0) (solid-after h g t p.1 n w)
 
 white-end : (r : Text) → every white r ≡ true → trim_end r ≡ []
-unfolding trim_end if◌then◌else◌
+unfolding trim_end if◌then◌otherwise◌
 white-end [] h = refl
 white-end (b ∷ r) h = let e = and_both (white b) (every white r) h in rw (e.0, white-end r e.1)
 
 solid-end : (a r : Text) → every solid a ≡ true → every white r ≡ true → trim_end (a ++ r) ≡ a
-unfolding trim_end if◌then◌else◌
+unfolding trim_end if◌then◌otherwise◌
 solid-end [] r e w = white-end r w
 solid-end (b ∷ a) r e w =
     let p = and_both (solid b) (every solid a) e in
@@ -115,7 +115,7 @@ pub record Sendable (a : Text) : Type 0 where
 
 -- no white space is passed over at its start
 stays : (a t : Text) → Sendable a → after white (a ++ t) ≡ a ++ t
-unfolding if◌then◌else◌
+unfolding if◌then◌otherwise◌
 stays [] t s = absurd (false≢true (sym s.some))
 stays (b ∷ a) t s = rw s.starts
 
@@ -164,14 +164,14 @@ stands-other b e = go (eqb b 34) refl
     go false q = refl
 
 quote-ends : (t r : Text) → every white r ≡ true → trim_end ((t ++ 34 ∷ []) ++ r) ≡ t ++ 34 ∷ []
-unfolding trim_end white if◌then◌else◌
+unfolding trim_end white if◌then◌otherwise◌
 quote-ends [] r v = ap (λ (x : Text). 34 ∷ x) (white-end r v)
 quote-ends (b ∷ t) r v =
     let ih = quote-ends t r v in
     rw (ih, some_after t 34 [], and-false (white b))
 
 pub quoted-sendable : (t : Text) → every may_stand t ≡ true → Sendable (quoted_text t)
-unfolding white printable undivided quote_next free if◌then◌else◌
+unfolding white printable undivided quote_next free if◌then◌otherwise◌
 quoted-sendable t e =
     let other-quote = every_map may_stand (other 34) stands-other t e in
     let whites : (r : Text) → every white r ≡ true → undivided (code ";") 0 r ≡ true =
@@ -203,7 +203,7 @@ visible-line (x ∷ l) h t n e = and-fails (white x) _ (visible-line l h t n e)
 
 -- a setting takes one parameter
 takes_one : (i : Which) → (greatest (role_of i) false ≡ 1) × (least (role_of i) false ≡ 1)
-unfolding greatest least if◌then◌else◌
+unfolding greatest least if◌then◌otherwise◌
 takes_one (tabled i) = (refl, refl)
 takes_one display = (refl, refl)
 
@@ -230,7 +230,7 @@ module _ (i : Which) (left h gap a right : Text) (l : Line i left h gap a right)
 
   -- "alone in its line"
   pub alone : units_of line ≡ line ∷ []
-  unfolding units_of free if◌then◌else◌
+  unfolding units_of free if◌then◌otherwise◌
   alone =
       let j : (t : Text) → every white t ≡ true → free (code ";") t ≡ true = λ t w. every_map white (other (code ";")) white-joins t w in
       let k : (t : Text) → every white t ≡ true → every unquoted t ≡ true = λ t w. every_map white unquoted white-unquoted t w in
@@ -264,7 +264,7 @@ module _ (i : Which) (left h gap a right : Text) (l : Line i left h gap a right)
       ∙ trimmed gap right l.gap_white l.right_white
 
   one-parameter : parameters a ≡ a ∷ []
-  unfolding parameters if◌then◌else◌
+  unfolding parameters if◌then◌otherwise◌
   one-parameter =
       let t : trim a ≡ a = ap trim (sym (append-nil a)) ∙ trimmed [] [] refl refl in
       rw (l.sendable.some, cut-one (code ",") 0 a l.sendable.one) (ap (λ (x : Text). x ∷ []) t)

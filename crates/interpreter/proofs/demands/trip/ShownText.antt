@@ -6,7 +6,7 @@ use Prim.Native.Nat.{ℕ, ◌≤◌}
 use lib.Dec.{eqb}
 use lib.ListN.{length}
 use borrow.Author.Tests.{ne_eqb, le-leb}
-use Rattle.registers.specs.Text.{Text, if◌then◌else◌, every}
+use Rattle.registers.specs.Text.{Text, if◌then◌otherwise◌, every}
 use Rattle.registers.specs.Check.{passed, check, ◌>>◌}
 use Rattle.registers.specs.Label.{most_text, may_stand, closes, undoubled, text_in, quoted_text}
 use Rattle.registers.proofs.Tests.{and_both}
@@ -24,11 +24,11 @@ quoted-closes [] e = refl
 quoted-closes (b ∷ t) e = let p = and_both (may_stand b) (every may_stand t) e in ap (λ (x : Bool). closes 34 x (t ++ 34 ∷ [])) (no-quote b p.0) ∙ quoted-closes t p.1
 
 pub quoted-means : (t : Text) → every may_stand t ≡ true → text_in (quoted_text t) ≡ t
-unfolding undoubled if◌then◌else◌
+unfolding undoubled if◌then◌otherwise◌
 quoted-means [] e = refl
 quoted-means (b ∷ t) e =
     let p = and_both (may_stand b) (every may_stand t) e in rw (no-quote b p.0) (ap (λ (x : Text). b ∷ x) (quoted-means t p.1))
 
 pub label-sets : (t : Text) → every may_stand t ≡ true → length t ≤ most_text → label_deed (quoted_text t) ≡ passed (Change Label)
-unfolding label_deed check ◌>>◌ if◌then◌else◌
+unfolding label_deed check ◌>>◌ if◌then◌otherwise◌
 label-sets t e h = rw (quoted-closes t e, quoted-means t e, e, le-leb (length t) most_text h)

@@ -11,7 +11,7 @@ use lib.Dec.{ltb, eqb}
 use lib.IntN.{ℤ, pos, negsuc, nat_abs}
 use lib.Signed.{non_neg}
 use borrow.Author.Tests.{ltb-true, lt-ltb, le-leb, lt-leb, ne_eqb}
-use Rattle.registers.specs.Text.{Text, if◌then◌else◌, digit, small, letter, capital, every, empty, first, start, after}
+use Rattle.registers.specs.Text.{Text, if◌then◌otherwise◌, digit, small, letter, capital, every, empty, first, start, after}
 use Rattle.registers.specs.Check.{passed, check, ◌>>=◌, ◌>>◌}
 use Rattle.registers.specs.Number.{sign, point, after_sign, fraction_of, after_fraction, exponent_of, after_exponent, lowering, written, numeral_from, numeral, decimal_of, value_of, scaled, number, most_digits}
 use Rattle.registers.specs.Suffix.{remains}
@@ -71,7 +71,7 @@ whole n h = makes-places 20 (n / 10) (omega arith)
 
 -- the whole part ends at the point
 to-point : (ds r : Text) → every digit ds ≡ true → (start digit (ds ++ 46 ∷ r) ≡ ds) × (after digit (ds ++ 46 ∷ r) ≡ 46 ∷ r)
-unfolding if◌then◌else◌ digit
+unfolding if◌then◌otherwise◌ digit
 to-point [] r h = (refl, refl)
 to-point (d ∷ ds) r h =
     let p = and_both (digit d) (every digit ds) h in
@@ -82,7 +82,7 @@ to-point (d ∷ ds) r h =
 number-tenths : (q : Quantity) (t : Text) (n : ℕ) → n < 10 ^ most_digits → after_sign t ≡ tenths n
     → number q t ≡ passed (record { minus = eqb (first t) 45; digits = n; up = 0; down = 1 })
 unfolding number written value_of decimal_of scaled remains fraction_of after_fraction exponent_of after_exponent lowering numeral_from
-    check ◌>>=◌ ◌>>◌ if◌then◌else◌ letter small capital
+    check ◌>>=◌ ◌>>◌ if◌then◌otherwise◌ letter small capital
 number-tenths q t n h e =
     let w = whole n h in
     let ds = decimal (n / 10) in
@@ -119,7 +119,7 @@ as_tenths v = record { minus = not (non_neg v); digits = nat_abs v; up = 0; down
 
 -- checks 5 and 6
 pub tenths-read : (ws : List String) (q : Quantity) (v : ℤ) → nat_abs v < 10 ^ most_digits → parameter ws true q (signed_text tenths v) ≡ passed (Figure (as_tenths v))
-unfolding parameter read_word read_figure after_sign digit letter small if◌then◌else◌ check ◌>>◌ ◌>>=◌
+unfolding parameter read_word read_figure after_sign digit letter small if◌then◌otherwise◌ check ◌>>◌ ◌>>=◌
 tenths-read ws q (pos n) h =
     let s : Starts (first (tenths n)) = rw (tenths-is n) (starts (decimal (n / 10)) _ (whole n h).all) in
     let e : after_sign (tenths n) ≡ tenths n = rw (s.no_plus, s.no_minus) in

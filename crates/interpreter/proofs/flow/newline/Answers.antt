@@ -6,7 +6,7 @@ use native.Mathlib.Nat.{sub-zero}
 use native.Mathlib.Omega.{arith}
 use lib.ListN.{length, take}
 use borrow.Author.Rules.{rules}
-use Rattle.registers.specs.Text.{if◌then◌else◌}
+use Rattle.registers.specs.Text.{if◌then◌otherwise◌}
 use Rattle.interpreter.specs.Box.{memory, most_answer}
 use Rattle.interpreter.specs.Line.{byte, piece, newlines}
 use Rattle.interpreter.proofs.line.Newline.{ended}
@@ -22,7 +22,7 @@ pub shape_of-store : goal.shape_of-store
 shape_of-store c = c.run_line-next.auto.store
 
 pub returns : goal.returns
-unfolding piece byte newlines if◌then◌else◌
+unfolding piece byte newlines if◌then◌otherwise◌
 returns c =
     let a = c.args in
     let f = a.flow in

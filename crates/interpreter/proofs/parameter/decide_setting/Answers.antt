@@ -5,7 +5,7 @@ use mathlib.Core.Bool.{Bool, not, ◌&&◌}
 use Prim.Native.Nat.{ℕ, ◌<◌, ◌≤◌}
 use native.Mathlib.Omega.{arith}
 use lib.ListN.{length}
-use Rattle.registers.specs.Text.{Text, if◌then◌else◌}
+use Rattle.registers.specs.Text.{Text, if◌then◌otherwise◌}
 use Rattle.registers.specs.Check.{Checked, passed, refused, ◌>>=◌}
 use Rattle.registers.specs.Settings.{count, kind_of, quantity_of}
 use Rattle.registers.specs.declared.rounding.Fit.TheVariants.{Within}
@@ -36,7 +36,7 @@ put s row asked g = put_fit s row asked (fit_in s row (value_given s row (kind_o
 module _ (s : Settings) (row : ℕ) (asked : Bool) (t : Text) (within : row < count) (some : length t ≡ 0 → ⊥)
     (most : length (parts_of t) ≤ greatest (Setting row) asked) where
   deed-is : deed_of s (Setting row) asked (parts_of t) ≡ (given row asked t >>= put s row asked)
-  unfolding if◌then◌else◌
+  unfolding if◌then◌otherwise◌
   deed-is =
       let one = some_bytes t some in
       let few = rw one at most in
@@ -60,7 +60,7 @@ module _ (row : ℕ) (asked : Bool) (t : Text) (k : Takes) (p : Parameter) (take
   placed n told = word-placed _ _ _ t n (word-by read_is told)
 
 pub returns-then-text-eq0 : goal.returns-then-text-eq0
-unfolding if◌then◌else◌
+unfolding if◌then◌otherwise◌
 returns-then-text-eq0 c =
     let a = c.args in
     let none = no_bytes a.text.now c.if-text-eq0.true in

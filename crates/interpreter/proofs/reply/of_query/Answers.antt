@@ -2,7 +2,7 @@
 use mathlib.Core.Path.{refl}
 use mir.Syntax.{w32}
 use mir.Val.{SFits}
-use Rattle.registers.specs.Text.{if◌then◌else◌, bytes}
+use Rattle.registers.specs.Text.{if◌then◌otherwise◌, bytes}
 use Rattle.registers.specs.Answer.{in_places, decimal}
 use Rattle.interpreter.specs.Reply.{reply_to}
 use Rattle.interpreter.specs.ReplyParts.{text_of}
@@ -14,11 +14,11 @@ unfolding text_of reply_to
 returns-in-Identity c = rw c.in-Identity.is (record { is = refl; some = refl })
 
 pub returns-in-SelfTest : goal.returns-in-SelfTest
-unfolding text_of reply_to decimal in_places bytes if◌then◌else◌
+unfolding text_of reply_to decimal in_places bytes if◌then◌otherwise◌
 returns-in-SelfTest c = rw c.in-SelfTest.is (record { is = refl; some = refl })
 
 pub returns-in-Completed : goal.returns-in-Completed
-unfolding text_of reply_to decimal in_places bytes if◌then◌else◌
+unfolding text_of reply_to decimal in_places bytes if◌then◌otherwise◌
 returns-in-Completed c = rw c.in-Completed.is (record { is = refl; some = refl })
 
 pub returns-in-Limit : goal.returns-in-Limit

@@ -2,7 +2,7 @@ use Prim.Native.Char.{code}
 use native.Mathlib.Omega.{arith}
 use lib.Dec.{leb, leb→le}
 use mir.Facts.{and_yes}
-use Rattle.registers.specs.Text.{capital, small, if◌then◌else◌}
+use Rattle.registers.specs.Text.{capital, small, if◌then◌otherwise◌}
 use Rattle.registers.proofs.text.in_capitals.Goals as goal
 
 pub overflow_sub-result : goal.overflow_sub-result
@@ -12,9 +12,9 @@ overflow_sub-result c =
     omega arith
 
 pub returns-then-b : goal.returns-then-b
-unfolding capital small if◌then◌else◌
+unfolding capital small if◌then◌otherwise◌
 returns-then-b c = rw c.if-b.true
 
 pub returns-else-b : goal.returns-else-b
-unfolding capital small if◌then◌else◌
+unfolding capital small if◌then◌otherwise◌
 returns-else-b c = rw c.if-b.false
