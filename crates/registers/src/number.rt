@@ -55,17 +55,17 @@ fn read_digits(text: &[u8], at: usize, from: u64) -> Digits
     ensures { DigitsRead text.now at from result }
 {
     let mut value = from;
-    let mut i = at;
-    while i < text.len() {
+    for i in at..text.len() {
         let b = text[i];
         if !text::is_digit(b) {
             return Digits { value, end: i };
         }
-        let next = value * 10 + (b - b'0') as u64;
-        value = if next < HELD { next } else { HELD };
-        i += 1;
+        value = (value * 10 + u64::from(b - b'0')).min(HELD);
     }
-    Digits { value, end: i }
+    Digits {
+        value,
+        end: text.len(),
+    }
 }
 
 // Reads digits with an optional point, and counts those after it: each lowers the value by ten.
@@ -119,13 +119,6 @@ fn read_exponent(text: &[u8], at: usize) -> Exponent
     }
 }
 
-// Tells how far a number is above another, 0 where it is not: powers of ten have no sign here.
-fn above(a: u64, b: u64) -> u64
-    ensures { result ≡ a - b }
-{
-    if b < a { a - b } else { 0 }
-}
-
 // Ends check 6: -124 for too many digits, then -123 for too large an exponent, then the exact value,
 // scaled by the suffix.
 fn value_of(
@@ -146,8 +139,8 @@ fn value_of(
         return Err(Error::ExponentTooLarge);
     }
     let places = mantissa.places as u64;
-    let up = power.up as u32;
-    let down = power.down as u64;
+    let up = u32::from(power.up);
+    let down = u64::from(power.down);
     if exponent.lowers {
         return Ok(Decimal {
             minus,
@@ -159,8 +152,8 @@ fn value_of(
     Ok(Decimal {
         minus,
         digits,
-        up: above(size, places) as u32 + up,
-        down: above(places, size) + down,
+        up: size.saturating_sub(places) as u32 + up,
+        down: places.saturating_sub(size) + down,
     })
 }
 
