@@ -1,9 +1,8 @@
 -- What the writers' own functions say. Nothing of 01 is defined here: see Answer.antt.
-use Rattle.std.specs.Prelude.{◌≡◌, [], ◌∷◌, ℕ, zero, suc, ◌+◌, length, ℤ, pos, negsuc, nat_abs}
+use Rattle.std.specs.Prelude.{◌≡◌, [], ◌∷◌, ℕ, zero, suc, ◌+◌, length, ℤ, pos, negsuc}
 use Prim.Native.Char.{code}
 use Rattle.registers.specs.Text.{Text}
 use Rattle.registers.specs.Answer.{over}
-use Rattle.registers.specs.declared.answer.Sign.{Sign}
 
 -- how far into a tail a text is laid at most, so that no place wraps
 abbrev pub farthest : ℕ
@@ -24,8 +23,3 @@ pub record LaidAt (at : ℕ) (text before : Text) (r : ℕ) (tail : Text) : Type
 abbrev pub sign_text : ℤ → Text
 sign_text (pos n) = []
 sign_text (negsuc n) = code "-" ∷ []
-
--- a number's sign was written from the start, and r is where it ends and the number without it
-pub record SignLaid (z : ℤ) (before : Text) (r : Sign) (tail : Text) : Type 0 where
-  pub laid : LaidAt 0 (sign_text z) before r.end tail
-  pub size : r.size ≡ nat_abs z

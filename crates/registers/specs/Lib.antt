@@ -6,7 +6,6 @@ pub mod Words
 pub mod Answer
 pub mod AnswerParts
 pub mod Error
-pub mod ErrorParts
 pub mod Queue
 pub mod Suffix
 pub mod SuffixParts

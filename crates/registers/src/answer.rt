@@ -1,15 +1,9 @@
 // What answers are made of, each written over the start of a lent tail. A writer's result is the
 // length of its text; a tail that is shorter gets as much of the text as it holds.
-ghost use Rattle.std.specs.Prelude.{◌≡◌, ◌≤◌, set};
+ghost use Rattle.std.specs.Prelude.{◌≡◌, ◌≤◌, ◌<◌, set};
 ghost use Rattle.registers.specs.Answer.{decimal, tenths, signed_text, Laid};
-ghost use Rattle.registers.specs.AnswerParts.{farthest, LaidAt, SignLaid};
-
-// Where a number's sign ends, and the number without it.
-#[derive(Clone, Copy)]
-struct Sign {
-    end: usize,
-    size: u32,
-}
+ghost use Rattle.registers.specs.AnswerParts.{farthest, LaidAt, sign_text};
+ghost use Rattle.registers.specs.Label.{quoted_text};
 
 // Writes one byte; a place past the end is left out, since a tail may be shorter than its text.
 pub(crate) fn put(tail: &mut [u8], at: usize, b: u8)
@@ -25,12 +19,21 @@ pub(crate) fn text_at(text: &[u8], tail: &mut [u8], at: usize) -> usize
     requires { at ≤ farthest }
     ensures { LaidAt at text.now tail.old result tail.new }
 {
-    let mut i = 0;
-    while i < text.len() {
-        put(tail, at + i, text[i]);
-        i += 1;
+    for (i, b) in text.iter().enumerate() {
+        put(tail, at + i, *b);
     }
-    at + i
+    at + text.len()
+}
+
+// Writes a text in double quotes.
+pub(crate) fn quoted_at(text: &[u8], tail: &mut [u8], at: usize) -> usize
+    requires { at < farthest }
+    ensures { LaidAt at (quoted_text text.now) tail.old result tail.new }
+{
+    put(tail, at, b'"');
+    let end = text_at(text, tail, at + 1);
+    put(tail, end, b'"');
+    end + 1
 }
 
 // Writes a number in decimal: first the digits before the last, by a call with a tenth of it.
@@ -57,21 +60,15 @@ fn tenths_at(n: u32, tail: &mut [u8], at: usize) -> usize
     decimal_at(n % 10, tail, end + 1)
 }
 
-// Writes a minus where the value is below zero. The size is unsigned, so that the lowest i32 has one too.
-fn sign_of(value: i32, tail: &mut [u8]) -> Sign
-    ensures { SignLaid value tail.old result tail.new }
+// Writes a minus where the value is below zero, and gives where it ends.
+fn sign_of(value: i32, tail: &mut [u8]) -> usize
+    ensures { LaidAt 0 (sign_text value) tail.old result tail.new }
 {
     if value < 0 {
         put(tail, 0, b'-');
-        return Sign {
-            end: 1,
-            size: (0 - (value as i64)) as u32,
-        };
+        return 1;
     }
-    Sign {
-        end: 0,
-        size: value as u32,
-    }
+    0
 }
 
 // Writes a text that needs no conversion.
@@ -92,14 +89,14 @@ pub fn write_decimal(n: u32, tail: &mut [u8]) -> usize
 pub fn write_whole(value: i32, tail: &mut [u8]) -> usize
     ensures { Laid (signed_text decimal value) tail.old result tail.new }
 {
-    let sign = sign_of(value, tail);
-    decimal_at(sign.size, tail, sign.end)
+    let at = sign_of(value, tail);
+    decimal_at(value.unsigned_abs(), tail, at)
 }
 
 // Writes a value in tenths: "one decimal for step 0.1", and "never `-0.0`", since zero has no sign.
 pub fn write_tenths(value: i32, tail: &mut [u8]) -> usize
     ensures { Laid (signed_text tenths value) tail.old result tail.new }
 {
-    let sign = sign_of(value, tail);
-    tenths_at(sign.size, tail, sign.end)
+    let at = sign_of(value, tail);
+    tenths_at(value.unsigned_abs(), tail, at)
 }

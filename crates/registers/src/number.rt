@@ -1,10 +1,11 @@
 // Check 6: the number that a parameter starts with, exactly, scaled by the suffix after it.
 ghost use Rattle.std.specs.Prelude.{◌≡◌, ◌-◌, ◌^◌, ◌≤◌, ◌<◌, length};
-ghost use Rattle.registers.specs.Number.{number, meant};
+ghost use Rattle.registers.specs.Error.{meant};
+ghost use Rattle.registers.specs.Number.{number};
 ghost use Rattle.registers.specs.NumberParts.{held, DigitsRead, MantissaRead, ExponentRead, value_read};
 
 use crate::error::Error;
-use crate::suffix::{Power, Quantity, Scale};
+use crate::suffix::{Power, Quantity};
 use crate::{suffix, text};
 
 // A number's exact value: its digits, times 10 to the power up, over 10 to the power down.
@@ -14,13 +15,6 @@ pub struct Decimal {
     pub digits: u64,
     pub up: u32,
     pub down: u64,
-}
-
-// What check 6 says of a parameter.
-#[derive(Clone, Copy)]
-pub enum ReadNumber {
-    Refused(Error),
-    Number(Decimal),
 }
 
 // Digits as a number, held, and where they end.
@@ -61,17 +55,17 @@ fn read_digits(text: &[u8], at: usize, from: u64) -> Digits
     ensures { DigitsRead text.now at from result }
 {
     let mut value = from;
-    let mut i = at;
-    while i < text.len() {
+    for i in at..text.len() {
         let b = text[i];
         if !text::is_digit(b) {
             return Digits { value, end: i };
         }
-        let next = value * 10 + (b - b'0') as u64;
-        value = if next < HELD { next } else { HELD };
-        i += 1;
+        value = (value * 10 + u64::from(b - b'0')).min(HELD);
     }
-    Digits { value, end: i }
+    Digits {
+        value,
+        end: text.len(),
+    }
 }
 
 // Reads digits with an optional point, and counts those after it: each lowers the value by ten.
@@ -125,59 +119,54 @@ fn read_exponent(text: &[u8], at: usize) -> Exponent
     }
 }
 
-// Tells how far a number is above another, 0 where it is not: powers of ten have no sign here.
-fn above(a: u64, b: u64) -> u64
-    ensures { result ≡ a - b }
-{
-    if b < a { a - b } else { 0 }
-}
-
 // Ends check 6: -124 for too many digits, then -123 for too large an exponent, then the exact value,
 // scaled by the suffix.
-fn value_of(minus: bool, mantissa: Mantissa, exponent: Exponent, power: Power) -> ReadNumber
+fn value_of(
+    minus: bool,
+    mantissa: Mantissa,
+    exponent: Exponent,
+    power: Power,
+) -> Result<Decimal, Error>
     requires { mantissa.places < 2 ^ 63 }
     ensures { meant result ≡ value_read minus mantissa exponent power }
 {
     let digits = mantissa.value;
     if HELD <= digits {
-        return ReadNumber::Refused(Error::TooManyDigits);
+        return Err(Error::TooManyDigits);
     }
     let size = exponent.size;
     if MOST_EXPONENT < size {
-        return ReadNumber::Refused(Error::ExponentTooLarge);
+        return Err(Error::ExponentTooLarge);
     }
     let places = mantissa.places as u64;
-    let up = power.up as u32;
-    let down = power.down as u64;
+    let up = u32::from(power.up);
+    let down = u64::from(power.down);
     if exponent.lowers {
-        return ReadNumber::Number(Decimal {
+        return Ok(Decimal {
             minus,
             digits,
             up,
             down: places + size + down,
         });
     }
-    ReadNumber::Number(Decimal {
+    Ok(Decimal {
         minus,
         digits,
-        up: above(size, places) as u32 + up,
-        down: above(places, size) + down,
+        up: size.saturating_sub(places) as u32 + up,
+        down: places.saturating_sub(size) + down,
     })
 }
 
 // Reads a parameter that starts with a digit, a sign or a point, for a row of some quantity.
-pub fn read(text: &[u8], quantity: Quantity) -> ReadNumber
+pub fn read(text: &[u8], quantity: Quantity) -> Result<Decimal, Error>
     ensures { meant result ≡ number quantity text.now }
 {
     let sign = text::byte_at(text, 0);
     let mantissa = read_mantissa(text, ((sign == b'+') | (sign == b'-')) as usize);
     if mantissa.count == 0 {
-        return ReadNumber::Refused(Error::InvalidCharacterInNumber);
+        return Err(Error::InvalidCharacterInNumber);
     }
     let exponent = read_exponent(text, mantissa.end);
-    let scale = suffix::read(text, text::white_end(text, exponent.end), quantity);
-    match scale {
-        Scale::Refused(e) => return ReadNumber::Refused(e),
-        Scale::By(power) => return value_of(sign == b'-', mantissa, exponent, power),
-    }
+    let power = suffix::read(text, text::white_end(text, exponent.end), quantity)?;
+    value_of(sign == b'-', mantissa, exponent, power)
 }

@@ -18,15 +18,7 @@ const QUEUEABLE: [u16; 24] = [
 fn may_be_queued(number: u16) -> bool
     ensures { result ≡ may_be_queued number }
 {
-    let numbers = QUEUEABLE;
-    let mut i: usize = 0;
-    while i < numbers.len() {
-        if numbers[i] == number {
-            return true;
-        }
-        i += 1;
-    }
-    false
+    QUEUEABLE.contains(&number)
 }
 
 // Refusal 4 tests every number that waits.
@@ -34,14 +26,7 @@ pub(crate) fn may_all_be_queued(errors: [u16; MOST], count: usize) -> bool
     requires { count ≤ most }
     ensures { result ≡ every may_be_queued (take count errors) }
 {
-    let mut i: usize = 0;
-    while i < count {
-        if !may_be_queued(errors[i]) {
-            return false;
-        }
-        i += 1;
-    }
-    true
+    errors[..count].iter().all(|number| may_be_queued(*number))
 }
 
 // When the oldest number is removed the others move up, and a 0 fills the last place.
@@ -49,10 +34,6 @@ pub(crate) fn shifted(errors: [u16; MOST]) -> [u16; MOST]
     ensures { result ≡ drop 1 errors ++ 0 ∷ [] }
 {
     let mut next = [0u16; MOST];
-    let mut i: usize = 0;
-    while i < LAST {
-        next[i] = errors[i + 1];
-        i += 1;
-    }
+    next[..LAST].copy_from_slice(&errors[1..]);
     next
 }

@@ -6,13 +6,6 @@ ghost use Rattle.registers.specs.RoundingParts.{beyond, sized_over, held_over, h
 
 use crate::number::Decimal;
 
-// A value in steps, or none.
-#[derive(Clone, Copy)]
-pub enum Fit {
-    Within(i32),
-    Outside,
-}
-
 // How the exact value stands to the one that it was rounded to: the same, below it or above it.
 #[derive(Clone, Copy)]
 pub enum Side {
@@ -21,24 +14,17 @@ pub enum Side {
     Above,
 }
 
-// What check 7 says of a value, and what was rounded off. The side is that of the rounded value, within the limits or not.
+// What check 7 says of a value: it in steps, or none outside the limits; and what was rounded off. The side is that of the rounded value, within the limits or not.
 #[derive(Clone, Copy)]
 pub struct Rounded {
-    pub fit: Fit,
+    pub fit: Option<i32>,
     pub side: Side,
 }
 
-// A size in steps, and how the exact size stands to it.
+// How many steps a size or a value is, rounded, and how the exact one stands to that.
 #[derive(Clone, Copy)]
-struct Sized {
-    size: u64,
-    side: Side,
-}
-
-// A value in steps, and how the exact value stands to it.
-#[derive(Clone, Copy)]
-struct Stepped {
-    value: i64,
+struct Stepped<T> {
+    count: T,
     side: Side,
 }
 
@@ -51,63 +37,61 @@ fn times_tens(x: u64, n: u64) -> u64
     ensures { result ≡ min beyond (x * 10 ^ n) }
 {
     let mut y = x;
-    let mut i = n;
-    while (0 < i) & (y < BEYOND) {
-        y = y * 10;
-        i -= 1;
+    for _turn in 0..n {
+        if BEYOND <= y {
+            return BEYOND;
+        }
+        y *= 10;
     }
-    if y < BEYOND { y } else { BEYOND }
+    y.min(BEYOND)
 }
 
 // Divides by 10 to the power n + 1 and rounds: only the last digit that is cut off decides. The size
 // is exact where every digit that is cut off is 0.
-fn over_tens(x: u64, n: u64) -> Sized
+fn over_tens(x: u64, n: u64) -> Stepped<u64>
     ensures { result ≡ sized_over x (10 ^ (n + 1)) }
 {
     let mut y = x;
-    let mut i = n;
     let mut exact = true;
-    while 0 < i {
-        exact = exact & (y % 10 == 0);
-        y = y / 10;
-        i -= 1;
+    for _turn in 0..n {
+        exact &= y % 10 == 0;
+        y /= 10;
     }
     let last = y % 10;
     let whole = y / 10;
     if 5 <= last {
-        return Sized {
-            size: whole + 1,
+        return Stepped {
+            count: whole + 1,
             side: Side::Below,
         };
     }
     if exact & (last == 0) {
-        return Sized {
-            size: whole,
+        return Stepped {
+            count: whole,
             side: Side::On,
         };
     }
-    Sized {
-        size: whole,
+    Stepped {
+        count: whole,
         side: Side::Above,
     }
 }
 
 // Rounds x times 10 to the power up over 10 to the power down. Only how far one power is above the
 // other matters, so one loop runs and no power is computed.
-fn size_of(x: u64, up: u64, down: u64) -> Sized
+fn size_of(x: u64, up: u64, down: u64) -> Stepped<u64>
     ensures { result ≡ held_over (x * 10 ^ up) (10 ^ down) }
 {
     if down <= up {
-        return Sized {
-            size: times_tens(x, up - down),
+        return Stepped {
+            count: times_tens(x, up - down),
             side: Side::On,
         };
     }
     let low = over_tens(x, down - up - 1);
     let side = low.side;
-    // Times 10 to the power 0: only held.
-    Sized {
-        size: times_tens(low.size, 0),
+    Stepped {
+        count: low.count.min(BEYOND),
         side,
     }
 }
@@ -125,22 +109,22 @@ fn turned(side: Side) -> Side
 
 // Counts a value in steps of which 10 to the power tens make one. It stays held, in 64 bits, so that
 // the sign can't wrap it.
-fn steps(d: Decimal, tens: u32) -> Stepped
+fn steps(d: Decimal, tens: u32) -> Stepped<i64>
     ensures { result ≡ held_in (10 ^ tens) d }
 {
-    let up = d.up as u64 + tens as u64;
+    let up = u64::from(d.up) + u64::from(tens);
     let down = d.down;
     let digits = d.digits;
     let sized = size_of(digits, up, down);
-    let size = sized.size as i64;
+    let size = sized.count as i64;
     let side = sized.side;
     if d.minus {
         return Stepped {
-            value: 0 - size,
+            count: -size,
             side: turned(side),
         };
     }
-    Stepped { value: size, side }
+    Stepped { count: size, side }
 }
 
 // Makes check 7 for a row of which 10 to the power tens steps make one: it rounds, and only then
@@ -149,24 +133,21 @@ pub fn round_in(d: Decimal, tens: u32, low: i32, high: i32) -> Rounded
     ensures { RoundedIn (10 ^ tens) low high d result }
 {
     let stepped = steps(d, tens);
-    let v = stepped.value;
+    let v = stepped.count;
     let side = stepped.side;
-    if (low as i64 <= v) & (v <= high as i64) {
+    if (i64::from(low) <= v) & (v <= i64::from(high)) {
         return Rounded {
-            fit: Fit::Within(v as i32),
+            fit: Some(v as i32),
             side,
         };
     }
-    Rounded {
-        fit: Fit::Outside,
-        side,
-    }
+    Rounded { fit: None, side }
 }
 
 // A number given for a bool is rounded to a whole one: zero is off, any other is on.
 pub fn switches_on(d: Decimal) -> bool
     ensures { result ≡ switched_on d }
 {
-    let sized = size_of(d.digits, d.up as u64, d.down);
-    sized.size != 0
+    let sized = size_of(d.digits, u64::from(d.up), d.down);
+    sized.count != 0
 }

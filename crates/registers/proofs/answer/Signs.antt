@@ -16,8 +16,7 @@ use mir.Facts.{to_z-of_z, to_z_pos, sfits_widen, Fits-nat_abs}
 use borrow.Author.Tests.{ltb-true}
 use Rattle.registers.specs.Text.{Text}
 use Rattle.registers.specs.Answer.{signed_text, Laid}
-use Rattle.registers.specs.AnswerParts.{LaidAt, sign_text, SignLaid}
-use Rattle.registers.specs.declared.answer.Sign.{Sign}
+use Rattle.registers.specs.AnswerParts.{LaidAt, sign_text}
 use Rattle.registers.proofs.answer.Laws.{laid-whole, laid_then}
 
 -- ---- what the test `value < 0` tells
@@ -77,6 +76,11 @@ module _ (n : ℕ) (h : n < 2 ^ 31) where
   pub minus-made : to_z w32 (of_z w32 (pos 0 -ℤ to_z w32 n)) ≡ neg_ℤ (pos n)
   minus-made = rw (to_z_pos w32 {n = n} h, minus_is) (to_z-of_z {w = w32} (neg-fits w32 (pos n) h))
 
+-- - z of the same number as a signed one
+module _ {n : ℕ} (h : n < 2 ^ 31) {z : ℤ} (e : z ≡ pos n) where
+  pub minus-of : to_z w32 (of_z w32 (pos 0 -ℤ to_z w32 (of_z w32 z))) ≡ neg_ℤ (pos n)
+  minus-of = rw (e, to_z-of_z {w = w32} {z = pos n} (record { sfits = h }), minus_is) (to_z-of_z {w = w32} (neg-fits w32 (pos n) h))
+
 -- ---- the text
 
 pub signed-text : (f : ℕ → Text) (z : ℤ) → signed_text f z ≡ sign_text z ++ f (nat_abs z)
@@ -87,12 +91,13 @@ sign-length : (z : ℤ) → length (sign_text z) ≤ 1
 sign-length (pos n) = omega arith
 sign-length (negsuc n) = omega arith
 
-pub sign-short : {z : ℤ} {r : Sign} {a b : Text} → SignLaid z a r b → r.end ≤ 1
-sign-short {z} p = let e = p.laid.end in let l = sign-length z in omega arith
-
 -- a sign's writer and then a size's writer, each at a value that came as its bits, write the signed number
-pub laid-signed : (f : ℕ → Text) {z : ℤ} → SFits w32 z → {r : Sign} {s : ℕ} {a b c : Text} → SignLaid (to_z w32 (of_z w32 z)) a r b
-    → LaidAt r.end (f r.size) b s c → Laid (signed_text f z) a s c
-laid-signed f h p q =
-    let k = to_z-of_z {w = w32} h in
-    rw signed-text (laid-whole (laid_then (rw k at p.laid) (rw (p.size, k) at q)))
+module _ {z : ℤ} (h : SFits w32 z) {r : ℕ} {a b : Text} (p : LaidAt 0 (sign_text (to_z w32 (of_z w32 z))) a r b) where
+  pub sign-short : r ≤ 1
+  sign-short = let e = p.end in let l = sign-length (to_z w32 (of_z w32 z)) in omega arith
+
+  pub laid-signed : (f : ℕ → Text) {n s : ℕ} {c : Text} → n ≡ nat_abs (to_z w32 (of_z w32 z)) → LaidAt r (f n) b s c
+      → Laid (signed_text f z) a s c
+  laid-signed f e q =
+      let k = to_z-of_z {w = w32} h in
+      rw signed-text (laid-whole (laid_then (rw k at p) (rw (e, k) at q)))

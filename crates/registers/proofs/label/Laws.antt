@@ -35,13 +35,13 @@ every-one-more p (x ∷ t) b = ap (λ (w : Bool). p x && w) (every-one-more p t 
 pub record Reading (t : Text) (q : ℕ) (bytes : Text) (count : ℕ) (allowed pending good : Bool) (i : ℕ) : Type 0 where
   pub few : count ≤ i
   pub taken : Text
-  pub all : taken ++ undoubled q pending (drop i t) ≡ undoubled q false (drop 1 t)
+  pub all : taken ++ undoubled q pending (drop i t) ≡ undoubled q false t
   pub held : bytes ≡ padded most_text taken
   pub many : count ≡ length taken
   pub fine : allowed ≡ every may_stand taken
-  pub shut : (good && closes q pending (drop i t)) ≡ closes q false (drop 1 t)
+  pub shut : (good && closes q pending (drop i t)) ≡ closes q false t
 
-pub reading-start : (t : Text) (q : ℕ) → Reading t q (replicate most_text 0) 0 true false true 1
+pub reading-start : (t : Text) (q : ℕ) → Reading t q (replicate most_text 0) 0 true false true 0
 unfolding padded
 reading-start t q = record { few = omega arith; taken = []; all = refl; held = refl; many = refl; fine = refl; shut = refl }
 
@@ -86,7 +86,7 @@ module _ {t : Text} {q : ℕ} {bytes : Text} {count : ℕ} {allowed pending good
       let more = drop (i + 1) t in
       let m = byte-means q b pending good more e in
       let few = w.few in
-      let was : w.taken ++ (b ∷ undoubled q false more) ≡ undoubled q false (drop 1 t) = rw (here, m.0) at w.all in
+      let was : w.taken ++ (b ∷ undoubled q false more) ≡ undoubled q false t = rw (here, m.0) at w.all in
       let many = w.many in
       record {
         few = omega arith;
@@ -98,17 +98,19 @@ module _ {t : Text} {q : ℕ} {bytes : Text} {count : ℕ} {allowed pending good
         shut = m.1 ∙ (rw here at w.shut);
       }
 
-pub reading-end : (t : Text) {q : ℕ} {bytes : Text} {count : ℕ} {allowed pending good : Bool} {i : ℕ} → Reading t q bytes count allowed pending good i
-    → length t ≤ i → q ≡ first t → LabelRead t (record { closed = good && pending; allowed = allowed; count = count; bytes = bytes })
+-- t is the string without its opening quote
+pub reading-end : (string : Text) {t : Text} {q : ℕ} {bytes : Text} {count : ℕ} {allowed pending good : Bool} {i : ℕ}
+    → Reading t q bytes count allowed pending good i → length t ≤ i → q ≡ first string → t ≡ drop 1 string
+    → LabelRead string (record { closed = good && pending; allowed = allowed; count = count; bytes = bytes })
 unfolding undoubled closes
-reading-end t {q} {bytes} {count} {allowed} {pending} {good} {i} w h e =
+reading-end string {t} {q} {bytes} {count} {allowed} {pending} {good} {i} w h e f =
     let none : drop i t ≡ [] = drop_of_length-le t h in
-    let behind : rest t ≡ drop 1 t = rest_at t 0 in
+    let behind : t ≡ rest string = f ∙ sym (rest_at string 0) in
     let m = ended q pending in
-    let all : w.taken ≡ undoubled (first t) false (rest t) =
-    sym (append-nil w.taken) ∙ (rw (none, m.0) at w.all) ∙ ap (λ (x : ℕ). undoubled x false (drop 1 t)) e ∙ ap (undoubled (first t) false) (sym behind) in
+    let all : w.taken ≡ undoubled (first string) false (rest string) =
+    sym (append-nil w.taken) ∙ (rw (none, m.0) at w.all) ∙ rw (e, behind) in
     record {
-      closed = (rw (none, m.1) at w.shut) ∙ ap (λ (x : ℕ). closes x false (drop 1 t)) e ∙ ap (closes (first t) false) (sym behind);
+      closed = (rw (none, m.1) at w.shut) ∙ rw (e, behind);
       allowed = w.fine ∙ ap (every may_stand) all;
       count = w.many ∙ ap length all;
       bytes = w.held ∙ ap (padded most_text) all;

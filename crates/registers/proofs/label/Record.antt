@@ -1,67 +1,54 @@
 -- The text in the settings' record. Refusal 4's test goes byte by byte (`Testing`); a text that is accepted is held as it is and passes the test;
 -- and a record that passes it is its text with zeros after it.
 use mathlib.Core.Path.{◌≡◌, refl, sym, ◌∙◌, ap}
-use mathlib.Core.Bool.{Bool, true, false, not, ◌&&◌, ◌||◌, false≢true}
+use mathlib.Core.Bool.{Bool, true, false, not, ◌&&◌, false≢true}
 use mathlib.Core.List.{[], ◌∷◌}
-use Prim.Native.Nat.{ℕ, zero, suc, ◌+◌, ◌-◌, ◌≤◌, ◌<◌}
-use native.Mathlib.Nat.{sub-zero}
+use Prim.Native.Nat.{ℕ, zero, suc, ◌+◌, ◌≤◌}
+use native.Mathlib.Nat.{zero-add}
 use native.Mathlib.Omega.{arith}
-use native.Mathlib.Numerals.{add-one}
 use lib.Dec.{eqb}
-use lib.ListN.{length, get_or, set, take, drop, drop_of_length-le}
-use lib.Seq.{drop-cons}
+use lib.ListN.{length, take, drop}
 use borrow.Author.Tests.{eqb-true, ne_eqb}
-use Rattle.registers.specs.Text.{Text, if◌then◌otherwise◌, every}
-use Rattle.registers.specs.Label.{may_stand, padded, of_text, held_in, possible_text, quoted_text}
-use Rattle.registers.specs.Answer.{Laid}
-use Rattle.registers.specs.AnswerParts.{LaidAt}
-use Rattle.registers.proofs.Tests.{and_both}
-use Rattle.registers.proofs.text.Laws.{take-start}
-use Rattle.registers.proofs.answer.Laws.{laid-whole, laid_one, laid_then}
+use Rattle.registers.specs.Text.{Text, if◌then◌otherwise◌, every, after, index_of}
+use Rattle.registers.specs.Label.{may_stand, padded, of_text, held_in, possible_text}
+use Rattle.registers.proofs.Tests.{and_both, and_assoc}
+use Rattle.registers.proofs.text.Laws.{take-start, drop-start, index-start}
 
--- ---- refusal 4's test
+-- ---- refusal 4's test, in its two parts
 
-abbrev is_zero : ℕ → Bool
+abbrev pub is_zero : ℕ → Bool
 is_zero b = eqb b 0
 
--- what is left to test once the text has ended, or not
-abbrev left_of : Bool → Text → Bool
-left_of true t = every is_zero t
-left_of false t = possible_text t
-
-abbrev pub Testing : Text → Bool → Bool → ℕ → Type 0
-Testing t ended all i = (all && left_of ended (drop i t)) ≡ possible_text t
-
-step : (all ended : Bool) (b : ℕ) (bs : Text)
-    → ((all && (eqb b 0 || (not ended && may_stand b))) && left_of (ended || eqb b 0) bs) ≡ (all && left_of ended (b ∷ bs))
+pub possible-parts : (t : Text) → (every may_stand (held_in t) && every is_zero (after of_text t)) ≡ possible_text t
 unfolding possible_text if◌then◌otherwise◌
-step false ended b bs = refl
-step true true b bs = go (eqb b 0)
+possible-parts [] = refl
+possible-parts (b ∷ t) = go (eqb b 0) refl (possible-parts t)
   where
-    go : (z : Bool) → ((z || false) && every is_zero bs) ≡ (z && every is_zero bs)
-    go true = refl
-    go false = refl
-step true false b bs = go (eqb b 0)
-  where
-    go : (z : Bool) → ((z || may_stand b) && left_of z bs) ≡ (if z then every is_zero bs otherwise may_stand b && possible_text bs)
-    go true = refl
-    go false = refl
+    go : (z : Bool) → eqb b 0 ≡ z → (every may_stand (held_in t) && every is_zero (after of_text t)) ≡ possible_text t
+        → (every may_stand (if not z then b ∷ held_in t otherwise []) && every is_zero (if not z then after of_text t otherwise b ∷ t))
+        ≡ (if z then every is_zero t otherwise may_stand b && possible_text t)
+    go true q ih = rw q
+    go false q ih = and_assoc (may_stand b) _ _ ∙ ap (λ (p : Bool). may_stand b && p) ih
 
-pub testing-on : (t : Text) (ended all : Bool) (i : ℕ) → Testing t ended all i → i < length t
-    → Testing t (ended || eqb (get_or t i 0) 0) (all && (eqb (get_or t i 0) 0 || (not ended && may_stand (get_or t i 0)))) (i + 1)
-testing-on t ended all i w h =
-    let here : drop i t ≡ get_or t i 0 ∷ drop (i + 1) t = rw (drop-cons t i 0 h, add-one i) in
-    step all ended (get_or t i 0) (drop (i + 1) t) ∙ (rw here at w)
+-- ---- its text, as the part of the record before the first zero
 
-pub testing-end : (t : Text) (ended all : Bool) (i : ℕ) → Testing t ended all i → length t ≤ i → all ≡ possible_text t
-unfolding possible_text
-testing-end t ended all i w h = go ended all (rw (drop_of_length-le t h) at w)
-  where
-    go : (e a : Bool) → (a && left_of e []) ≡ possible_text t → a ≡ possible_text t
-    go true true k = k
-    go true false k = k
-    go false true k = k
-    go false false k = k
+module _ (t : Text) (n : ℕ) (is : n ≡ 0 + index_of 0 t) where
+  pub end_is : n ≡ length (held_in t)
+  end_is = is ∙ zero-add (index_of 0 t) ∙ sym (index-start 0 t)
+
+  pub front : take n t ≡ held_in t
+  front = rw end_is (take-start of_text t)
+
+  parts : (every may_stand (take n t) && every is_zero (drop n t)) ≡ possible_text t
+  parts = rw (front, end_is, drop-start of_text t) (possible-parts t)
+
+  -- refusal 4's test as it is made: of the text, and then of what stands after it
+  module _ {a : Bool} (e : a ≡ every may_stand (take n t)) where
+    pub possible_is : a ≡ true → {z : Bool} → z ≡ every is_zero (drop n t) → z ≡ possible_text t
+    possible_is k f = f ∙ rw (← e, k) at parts
+
+    pub impossible_is : a ≡ false → a ≡ possible_text t
+    impossible_is k = k ∙ rw (← e, k) at parts
 
 -- ---- a text that is accepted
 
@@ -137,16 +124,3 @@ held-right (b ∷ t) e = go (eqb b 0) refl e (λ k. held-right t k)
           short = rw q (omega arith);
           whole = rw q (ap (λ (l : Text). b ∷ l) w.whole);
         }
-
--- ---- its answer: the text, as the part of the record before its end, between two quotes
-
-module _ (t : Text) (n : ℕ) (is : n ≡ length (held_in t)) where
-  front : take (n - 0) t ≡ held_in t
-  front = rw (sub-zero, is) (take-start of_text t)
-
-  pub quoted-short : length (take (n - 0) t) ≡ length (held_in t)
-  quoted-short = ap length front
-
-  pub quoted-laid : {a b c d : Text} {end : ℕ} → b ≡ set a 0 34 → LaidAt 1 (take (n - 0) t) b end c → d ≡ set c end 34
-      → Laid (quoted_text (held_in t)) a (end + 1) d
-  quoted-laid first text last = laid-whole (laid_then (laid_one first) (laid_then (rw front at text) (laid_one last)))

@@ -9,8 +9,6 @@ use native.Mathlib.Omega.{arith}
 use native.Mathlib.Nat.{pow-suc, pow-le-pow_right, mul-le-mul_right}
 use lib.Dec.{T, leb, ltb, eqb}
 use lib.ListN.{length, get_or, drop}
-use mir.Syntax.{w64}
-use mir.Val.{Fits}
 use mir.Facts.{and_yes}
 use borrow.Author.Tests.{le-leb, lt-leb, leb-true, leb-false, eqb-true, eqb-false}
 use Rattle.registers.specs.Text.{Text, if◌then◌otherwise◌, digit, every, start, after}
@@ -85,25 +83,6 @@ few-digits (d ∷ ds) t = go (eqb (code "0") d) refl (few-digits ds both.1)
         let b = digit-bounds d both.0 in
         let z : 0 * 10 + (d - code "0") ≡ d - code "0" = omega arith in
         rw z (few (d - code "0") (omega arith) (omega arith))
-
--- ---- one digit more, held
-
-module _ {n v : ℕ} where
-  pub next-below : n < held → v ≡ n → v ≡ min held n
-  next-below h e = omega arith
-
-  pub next-held : held ≤ n → v ≡ held → v ≡ min held n
-  next-held h e = omega arith
-
-module _ {n b : ℕ} (low : n ≤ held) (digit : (code "0" ≤ b) × (b ≤ code "9")) where
-  pub tens-fit : Fits w64 (n * 10)
-  tens-fit = omega arith
-
-  pub digit-fits : Fits w64 (b - code "0")
-  digit-fits = omega arith
-
-  pub next_fits : Fits w64 (n * 10 + (b - code "0"))
-  next_fits = omega arith
 
 -- ---- the loop over digits, by what is left to read
 

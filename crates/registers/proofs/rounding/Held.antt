@@ -7,20 +7,18 @@ use lib.Dec.{T, leb, eqb, leb→le}
 use lib.IntN.{ℤ, pos, negsuc, ◌-ℤ◌}
 use lib.Signed.{le_z}
 use mir.Syntax.{w32, w64}
-use mir.Val.{SFits, to_z}
-use mir.Facts.{to_z_pos, and_yes}
+use mir.Val.{SFits, to_z, of_z}
+use mir.Facts.{to_z_pos, to_z-of_z, and_yes}
 use borrow.Author.Tests.{leb-true, leb-false, lt-leb, ne_eqb}
 use Rattle.registers.specs.Check.{Checked, passed, ◌>>◌, check}
 use Rattle.registers.specs.Rounding.{nearest, signed, size_in, rounded, fitted, turned, side_in, exactly, wholly, Stands, RoundedIn}
 use Rattle.registers.specs.RoundingParts.{beyond, held_over, held_in}
 use Rattle.registers.specs.declared.number.Decimal.{Decimal}
-use Rattle.registers.specs.declared.rounding.Fit.{Fit}
-use Rattle.registers.specs.declared.rounding.Fit.TheVariants.{Within, Outside}
+use Rattle.std.specs.Prelude.{Option, Some, None}
 use Rattle.registers.specs.declared.rounding.Rounded.{Rounded}
 use Rattle.registers.specs.declared.rounding.Side.{Side}
-use Rattle.registers.specs.declared.rounding.Sized.{Sized}
 use Rattle.registers.specs.declared.rounding.Stepped.{Stepped}
-use Rattle.registers.proofs.answer.Signs.{minus_is}
+use Rattle.registers.proofs.answer.Signs.{minus_is, widened}
 use Rattle.registers.proofs.rounding.Tens.{tens-add}
 use Rattle.registers.proofs.rounding.Exact.{tells}
 
@@ -31,28 +29,38 @@ signed-fits true zero h = record { sfits = omega arith }
 signed-fits true (suc n) h = record { sfits = omega arith }
 signed-fits false n h = record { sfits = omega arith }
 
-pub held_fits : (k : ℕ) (d : Decimal) → SFits w64 (held_in k d).value
+pub held_fits : (k : ℕ) (d : Decimal) → SFits w64 (held_in k d).count
 unfolding held_in
 held_fits k d = signed-fits d.minus (min beyond (size_in k d)) (omega arith)
 
-pub sized-small : (num den : ℕ) (r : Sized) → r ≡ held_over num den → r.size ≤ beyond
-unfolding held_over
-sized-small num den r e = rw e (omega arith)
+abbrev pub stepped : ℤ → Side → Stepped ℤ
+stepped z x = record { count = z; side = x }
 
-abbrev pub stepped : ℤ → Side → Stepped
-stepped z x = record { value = z; side = x }
+-- a size that is held, r, becomes the value
+module _ (tens : ℕ) (d : Decimal) {up : ℕ} (e : up ≡ d.up + tens) (r : Stepped ℕ) (is : r ≡ held_over (d.digits * 10 ^ up) (10 ^ d.down)) where
+  low : r.count ≤ beyond
+  unfolding held_over
+  low = rw is (omega arith)
 
-module _ (tens : ℕ) (d : Decimal) (r : Sized) (is : r ≡ held_over (d.digits * 10 ^ (d.up + tens)) (10 ^ d.down)) where
-  pub held-minus : d.minus ≡ true → stepped (signed true r.size) (turned true r.side) ≡ held_in (10 ^ tens) d
+  minus_bits : pos 0 -ℤ to_z w64 r.count ≡ signed true r.count
+  minus_bits = let l = low in rw (to_z_pos w64 {n = r.count} (omega arith)) (minus_is (pos r.count))
+
+  pub size_fits : SFits w64 (pos r.count)
+  size_fits = signed-fits false r.count low
+
+  pub minus_fits : SFits w64 (pos 0 -ℤ to_z w64 r.count)
+  minus_fits = rw minus_bits (signed-fits true r.count low)
+
+  pub held-minus : d.minus ≡ true → {x : Side} → x ≡ turned true r.side
+      → stepped (to_z w64 (of_z w64 (pos 0 -ℤ to_z w64 r.count))) x ≡ held_in (10 ^ tens) d
   unfolding held_in held_over size_in side_in
-  held-minus e = rw (is, tens-add d.digits d.up tens, e)
+  held-minus m s =
+      rw (minus_bits, to_z-of_z {w = w64} {z = signed true r.count} (signed-fits true r.count low), s)
+      (rw (is, e, tens-add d.digits d.up tens, m))
 
-  pub held-plus : d.minus ≡ false → stepped (pos r.size) r.side ≡ held_in (10 ^ tens) d
+  pub held-plus : d.minus ≡ false → stepped (to_z w64 r.count) r.side ≡ held_in (10 ^ tens) d
   unfolding held_in held_over size_in side_in
-  held-plus e = rw (is, tens-add d.digits d.up tens, e)
-
-pub minus-bits : (n : ℕ) → n ≤ beyond → pos 0 -ℤ to_z w64 n ≡ signed true n
-minus-bits n h = rw (to_z_pos w64 {n = n} (omega arith)) (minus_is (pos n))
+  held-plus m = let l = low in rw (to_z_pos w64 {n = r.count} (omega arith)) (rw (is, e, tens-add d.digits d.up tens, m))
 
 -- ---- limits of 32 bits
 
@@ -79,15 +87,15 @@ far low high l h true zero k = absurd (omega arith)
 far (pos a) high l h true (suc n) k = refl
 far (negsuc a) high l h true (suc n) k = rw (lt-leb n a (omega arith))
 
-abbrev outcome : Fit → Side → Rounded
+abbrev outcome : Option ℤ → Side → Rounded
 outcome f x = record { fit = f; side = x }
 
 -- so a held value is within such limits exactly where the value itself is, and is then that value
-module _ (k : ℕ) (d : Decimal) (low high : ℤ) (l : SFits w32 low) (h : SFits w32 high) (r : Stepped) (is : r ≡ held_in k d) where
+module _ (k : ℕ) (d : Decimal) (low high : ℤ) (l : SFits w32 low) (h : SFits w32 high) (r : Stepped ℤ) (is : r ≡ held_in k d) where
   chosen : ℤ → Checked ℤ
   chosen z = check 222 (inside low high z) >> passed z
 
-  fitted-held : fitted k low high d ≡ chosen r.value
+  fitted-held : fitted k low high d ≡ chosen r.count
   unfolding fitted rounded held_in chosen check ◌>>◌
   fitted-held = rw is (go (size_in k d) (leb (size_in k d) beyond) refl)
     where
@@ -103,16 +111,31 @@ module _ (k : ℕ) (d : Decimal) (low high : ℤ) (l : SFits w32 low) (h : SFits
   unfolding held_in
   side-held = rw is (tells k d).stands
 
-  pub fit-yes : inside low high r.value ≡ true → RoundedIn k low high d (outcome (Within r.value) r.side)
-  unfolding chosen check ◌>>◌
-  fit-yes e = record { fit = rw (fitted-held, e); side = side-held }
+  abbrev back : ℤ → ℤ
+  back z = to_z w64 (of_z w64 z)
 
-  pub fit-no : inside low high r.value ≡ false → RoundedIn k low high d (outcome Outside r.side)
-  unfolding chosen check ◌>>◌
-  fit-no e = record { fit = rw (fitted-held, e); side = side-held }
+  same : back r.count ≡ r.count
+  same = to_z-of_z {w = w64} {z = r.count} (rw is (held_fits k d))
+
+  -- what the code compares: the limits widened to 64 bits
+  module _ {a b : ℤ} (p : a ≡ to_z w32 (of_z w32 low)) (q : b ≡ to_z w32 (of_z w32 high)) where
+    tested : inside (back a) (back b) (back r.count) ≡ inside low high r.count
+    tested = rw (p, q, widened l, widened h, same)
+
+    pub fit-yes : inside (back a) (back b) (back r.count) ≡ true
+        → RoundedIn k low high d (outcome (Some (to_z w32 (of_z w32 (back r.count)))) r.side)
+    unfolding chosen check ◌>>◌
+    fit-yes e =
+        let in_limits = sym tested ∙ e in
+        let fits = inside-fits low high r.count l h (rw in_limits tt) in
+        rw (same, to_z-of_z {w = w32} fits) (record { fit = rw (fitted-held, in_limits); side = side-held })
+
+    pub fit-no : inside (back a) (back b) (back r.count) ≡ false → RoundedIn k low high d (outcome None r.side)
+    unfolding chosen check ◌>>◌
+    fit-no e = record { fit = rw (fitted-held, sym tested ∙ e); side = side-held }
 
 -- a size is held at zero exactly where it is zero: for a bool
-pub held-zero : (d : Decimal) (r : Sized) → r ≡ held_over (d.digits * 10 ^ d.up) (10 ^ d.down) → eqb r.size 0 ≡ eqb (size_in 1 d) 0
+pub held-zero : (d : Decimal) (r : Stepped ℕ) → r ≡ held_over (d.digits * 10 ^ d.up) (10 ^ d.down) → eqb r.count 0 ≡ eqb (size_in 1 d) 0
 unfolding size_in held_over
 held-zero d r e =
     let one : d.digits * 10 ^ d.up * 1 ≡ d.digits * 10 ^ d.up = omega arith in

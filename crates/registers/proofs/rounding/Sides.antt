@@ -14,12 +14,12 @@ use Rattle.registers.specs.Rounding.{nearest, size_side}
 use Rattle.registers.specs.RoundingParts.{beyond, sized_over, held_over}
 use Rattle.registers.specs.declared.rounding.Side.{Side}
 use Rattle.registers.specs.declared.rounding.Side.TheVariants.{On, Below, Above}
-use Rattle.registers.specs.declared.rounding.Sized.{Sized}
+use Rattle.registers.specs.declared.rounding.Stepped.{Stepped}
 use Rattle.registers.proofs.rounding.Laws.{nearest-only}
 use Rattle.registers.proofs.rounding.Tens.{ten-positive, tens-add, nearest-up, nearest-down}
 
-abbrev pub sized : ℕ → Side → Sized
-sized n x = record { size = n; side = x }
+abbrev pub sized : ℕ → Side → Stepped ℕ
+sized n x = record { count = n; side = x }
 
 -- ---- the three cases
 
@@ -117,68 +117,45 @@ module _ (x y q : ℕ) (some : 0 < q) (low : y * q ≤ x) (high : x < (y + 1) * 
           go true t = ltb-true m x t
           go false t = let g = ltb-false m x t in absurd (n (omega arith))
 
--- ---- what the loop that lowers keeps: y is x without its last n - i digits, and exact says that these are all 0
+-- ---- what the loop that lowers keeps: y is x without its last k digits, and exact says that these are all 0
 
-pub record Lowering (x n y i : ℕ) (exact : Bool) : Type 0 where
-  pub room : i ≤ n
-  pub low : y * 10 ^ (n - i) ≤ x
-  pub high : x < (y + 1) * 10 ^ (n - i)
-  pub told : exact ≡ eqb (y * 10 ^ (n - i)) x
+pub record Lowering (x y k : ℕ) (exact : Bool) : Type 0 where
+  pub low : y * 10 ^ k ≤ x
+  pub high : x < (y + 1) * 10 ^ k
+  pub told : exact ≡ eqb (y * 10 ^ k) x
 
-pub lower-start : (x n : ℕ) → Lowering x n x n true
-lower-start x n =
-    let z : n - n ≡ 0 = omega arith in
-    record {
-      room = omega arith;
-      low = rw z (omega arith);
-      high = rw z (omega arith);
-      told = rw z (sym (eq-eqb (x * 1) x (omega arith)));
-    }
+pub lower-start : (x : ℕ) → Lowering x x 0 true
+lower-start x = record { low = omega arith; high = omega arith; told = sym (eq-eqb (x * 1) x (omega arith)) }
 
-pub lower-turn : {x n y i : ℕ} {exact : Bool} → 0 < i → Lowering x n y i exact → Lowering x n (y / 10) (i - 1) (exact && eqb (y % 10) 0)
-lower-turn {x} {n} {y} {i} {exact} h k =
-    let r = k.room in
-    let e : n - (i - 1) ≡ suc (n - i) = omega arith in
-    let p : 10 ^ (n - (i - 1)) ≡ 10 * 10 ^ (n - i) = ap (λ (m : ℕ). 10 ^ m) e ∙ pow-suc 10 (n - i) ∙ omega arith in
-    let q = 10 ^ (n - i) in
-    let t = ten-positive (n - i) in
-    record {
-      room = omega arith;
-      low = rw p (cut_low x y q t k.low k.high);
-      high = rw p (cut_high x y q t k.low k.high);
-      told = rw (p, k.told) (cut-told x y q t k.low k.high (eqb (y * q) x) refl (eqb (y % 10) 0) refl);
-    }
+module _ {x y k : ℕ} {exact : Bool} (l : Lowering x y k exact) where
+  tens : 10 ^ (k + 1) ≡ 10 * 10 ^ k
+  tens = rw (add-one k) (pow-suc 10 k ∙ omega arith)
 
-pub lower-small : {x n y i : ℕ} {exact : Bool} → Lowering x n y i exact → y ≤ x
-lower-small {x} {n} {y} {i} k = let l = k.low in let m = mul-le-mul_right y (ten-positive (n - i)) in omega arith
+  pub lower-turn : Lowering x (y / 10) (k + 1) (exact && eqb (y % 10) 0)
+  lower-turn =
+      let t = ten-positive k in
+      record {
+        low = rw tens (cut_low x y (10 ^ k) t l.low l.high);
+        high = rw tens (cut_high x y (10 ^ k) t l.low l.high);
+        told = rw (tens, l.told) (cut-told x y (10 ^ k) t l.low l.high (eqb (y * 10 ^ k) x) refl (eqb (y % 10) 0) refl);
+      }
 
--- where it ends, the last digit that is cut off decides
-module _ {x n y i : ℕ} {exact : Bool} (k : Lowering x n y i exact) (done : i ≤ 0) where
-  all : n - i ≡ n
-  all = omega arith
+  pub lower-small : y ≤ x
+  lower-small = let h = l.low in let m = mul-le-mul_right y (ten-positive k) in omega arith
 
-  tens : 10 ^ (n + 1) ≡ 10 * 10 ^ n
-  tens = rw (add-one n) (pow-suc 10 n ∙ omega arith)
+  -- where it ends, the last digit that is cut off decides
+  told : exact && eqb (y % 10) 0 ≡ eqb (y / 10 * (10 * 10 ^ k)) x
+  told = rw tens at lower-turn.told
 
-  low : y * 10 ^ n ≤ x
-  low = rw all at k.low
+  module _ {n : ℕ} (done : k ≡ n) where
+    pub lower-up : 5 ≤ y % 10 → sized (y / 10 + 1) Below ≡ sized_over x (10 ^ (n + 1))
+    lower-up h = rw (← done, tens) (cut_up x y (10 ^ k) (ten-positive k) l.low l.high h)
 
-  high : x < (y + 1) * 10 ^ n
-  high = rw all at k.high
+    pub lower-on : y % 10 < 5 → exact && eqb (y % 10) 0 ≡ true → sized (y / 10) On ≡ sized_over x (10 ^ (n + 1))
+    lower-on h e = rw (← done, tens) (cut_on x y (10 ^ k) (ten-positive k) l.low l.high (sym told ∙ e) h)
 
-  told : exact && eqb (y % 10) 0 ≡ eqb (y / 10 * (10 * 10 ^ n)) x
-  told =
-      let e : exact ≡ eqb (y * 10 ^ n) x = rw all at k.told in
-      rw e (cut-told x y (10 ^ n) (ten-positive n) low high (eqb (y * 10 ^ n) x) refl (eqb (y % 10) 0) refl)
-
-  pub lower-up : 5 ≤ y % 10 → sized (y / 10 + 1) Below ≡ sized_over x (10 ^ (n + 1))
-  lower-up h = rw tens (cut_up x y (10 ^ n) (ten-positive n) low high h)
-
-  pub lower-on : y % 10 < 5 → exact && eqb (y % 10) 0 ≡ true → sized (y / 10) On ≡ sized_over x (10 ^ (n + 1))
-  lower-on h e = rw tens (cut_on x y (10 ^ n) (ten-positive n) low high (sym told ∙ e) h)
-
-  pub lower-above : y % 10 < 5 → exact && eqb (y % 10) 0 ≡ false → sized (y / 10) Above ≡ sized_over x (10 ^ (n + 1))
-  lower-above h e = rw tens (cut-above x y (10 ^ n) (ten-positive n) low high (sym told ∙ e) h)
+    pub lower-above : y % 10 < 5 → exact && eqb (y % 10) 0 ≡ false → sized (y / 10) Above ≡ sized_over x (10 ^ (n + 1))
+    lower-above h e = rw (← done, tens) (cut-above x y (10 ^ k) (ten-positive k) l.low l.high (sym told ∙ e) h)
 
 -- ---- a power of ten over another
 
@@ -190,7 +167,7 @@ held_up x up down n h e =
     let p : x * 10 ^ up ≡ x * 10 ^ (up - down) * 10 ^ down = ap (λ (m : ℕ). x * 10 ^ m) u ∙ tens-add x (up - down) down in
     rw (near, side-on (x * 10 ^ up) (10 ^ down) (x * 10 ^ (up - down)) p, e)
 
-pub held_down : (x up down n : ℕ) (s : Sized) → up < down → s ≡ sized_over x (10 ^ (down - up - 1 + 1)) → n ≡ min beyond s.size
+pub held_down : (x up down n : ℕ) (s : Stepped ℕ) → up < down → s ≡ sized_over x (10 ^ (down - up - 1 + 1)) → n ≡ min beyond s.count
     → sized n s.side ≡ held_over (x * 10 ^ up) (10 ^ down)
 unfolding held_over sized_over
 held_down x up down n s h e f =
@@ -200,5 +177,5 @@ held_down x up down n s h e f =
     let m = 10 ^ (down - up - 1 + 1) in
     let side : s.side ≡ size_side (x * 10 ^ up) (10 ^ down) (nearest (x * 10 ^ up) (10 ^ down)) =
     rw e (side-scaled x m (nearest x m) (10 ^ up) (ten-positive up) ∙ rw (near, p)) in
-    let size : n ≡ min beyond (nearest (x * 10 ^ up) (10 ^ down)) = f ∙ ap (min beyond) (ap (λ (r : Sized). r.size) e ∙ near) in
+    let size : n ≡ min beyond (nearest (x * 10 ^ up) (10 ^ down)) = f ∙ ap (min beyond) (ap (λ (r : Stepped ℕ). r.count) e ∙ near) in
     rw (size, side)

@@ -1,12 +1,10 @@
 -- Rounding over powers of ten, held at a bound: what raising keeps and leaves, and a power of ten over another.
 use mathlib.Core.Path.{◌≡◌, ap, sym, ◌∙◌}
-use mathlib.Core.Bool.{Bool, false, ◌&&◌, and-true}
-use Prim.Native.Nat.{ℕ, suc, ◌+◌, ◌-◌, ◌*◌, ◌^◌, min, ◌≤◌, ◌<◌}
+use Prim.Native.Nat.{ℕ, ◌+◌, ◌-◌, ◌*◌, ◌^◌, min, ◌≤◌, ◌<◌}
 use native.Mathlib.Omega.{arith}
-use native.Mathlib.Nat.{pow-suc, mul-div-mul_right, one-le-pow, mul-le-mul_right, mul_assoc}
-use lib.Dec.{ltb}
+use native.Mathlib.Numerals.{add-one}
+use native.Mathlib.Nat.{pow-suc, pow-le-pow_right, mul-div-mul_right, one-le-pow, mul-le-mul_right, mul_assoc}
 use lib.Pow.{pow-add}
-use borrow.Author.Tests.{ltb-false, lt-ltb}
 use Rattle.registers.specs.Rounding.{nearest}
 use Rattle.registers.specs.RoundingParts.{beyond}
 use Rattle.registers.proofs.rounding.Laws.{nearest-only}
@@ -14,23 +12,14 @@ use Rattle.registers.proofs.rounding.Laws.{nearest-only}
 pub ten-positive : (n : ℕ) → 0 < 10 ^ n
 ten-positive n = one-le-pow n 10 (omega arith)
 
-pub ten-times : (i : ℕ) → 0 < i → 10 ^ i ≡ 10 * 10 ^ (i - 1)
-ten-times i h = let e : i ≡ suc (i - 1) = omega arith in ap (λ (n : ℕ). 10 ^ n) e ∙ pow-suc 10 (i - 1) ∙ omega arith
-
 -- ---- raising
 
-pub raise-turn : (y i : ℕ) → 0 < i → y * 10 * 10 ^ (i - 1) ≡ y * 10 ^ i
-raise-turn y i h = rw (ten-times i h) (omega arith)
+pub raise-turn : (x k : ℕ) → x * 10 ^ k * 10 ≡ x * 10 ^ (k + 1)
+raise-turn x k = rw (add-one k, pow-suc 10 k) (omega arith)
 
--- the loop ends at a power of 0 or at a size beyond every limit
-pub raise-end : (y i : ℕ) → ltb 0 i && ltb y beyond ≡ false → y < beyond → y ≡ min beyond (y * 10 ^ i)
-raise-end y i e h =
-    let k = ltb-false 0 i (sym (and-true (ltb 0 i)) ∙ ap (λ (b : Bool). ltb 0 i && b) (sym (lt-ltb y beyond h)) ∙ e) in
-    let z : i ≡ 0 = omega arith in
-    rw z (omega arith)
-
-pub raise-beyond : (y i : ℕ) → beyond ≤ y → beyond ≡ min beyond (y * 10 ^ i)
-raise-beyond y i h = let p = ten-positive i in let m = mul-le-mul_right (10 ^ i) h in omega arith
+-- once a size is beyond every limit, it stays there
+pub raise-beyond : (x k n : ℕ) {y : ℕ} → y ≡ x * 10 ^ k → beyond ≤ y → k ≤ n → beyond ≡ min beyond (x * 10 ^ n)
+raise-beyond x k n e b h = let p = pow-le-pow_right {n = 10} (omega arith) {i = k} {j = n} h in let m = mul-le-mul_right x p in omega arith
 
 -- ---- a power of ten over another
 

@@ -1,9 +1,9 @@
 -- Laws of a text read from a place, over any test of a byte: its first byte, the longest start that passes, and what stands after
 -- it. `OnWay` is the invariant of every scan: from its place a scan finds the end that the start of the text has.
 use mathlib.Core.Path.{◌≡◌, refl, ap, sym, ◌∙◌}
-use mathlib.Core.Bool.{Bool, true, false, false≢true, not}
-use mathlib.Core.List.{[], ◌∷◌}
-use Prim.Native.Nat.{ℕ, zero, suc, ◌+◌, ◌≤◌, ◌<◌}
+use mathlib.Core.Bool.{Bool, true, false, false≢true, not, cond, ◌&&◌}
+use mathlib.Core.List.{List, [], ◌∷◌}
+use Prim.Native.Nat.{ℕ, zero, suc, ◌+◌, ◌-◌, ◌≤◌, ◌<◌}
 use Prim.Native.Char.{code}
 use native.Mathlib.Numerals.{add-one}
 use native.Mathlib.Omega.{arith}
@@ -12,7 +12,23 @@ use lib.ListN.{length, get_or, take, drop, length-drop, drop_of_length-le, get_o
 use lib.Seq.{drop-cons, drop-drop}
 use mir.Facts.{and_yes}
 use borrow.Author.Tests.{ltb-true, ltb-false}
-use Rattle.registers.specs.Text.{Text, if◌then◌otherwise◌, digit, every, empty, first, rest, start, after, index_of, index_after}
+use denote.Param.Members.{Mut}
+use denote.Ref.{Bor}
+use Rattle.std.proofs.iter.Yields.{fronts}
+use Rattle.std.proofs.lemmas.Iterator.{YieldsList-from_slice}
+use Rattle.std.proofs.lemmas.Iterator.Search.{YieldsList-from_take_while}
+use Rattle.std.proofs.lemmas.Iterator.Consumers.{count_from_yields_List}
+use Rattle.std.specs.Fn.{CalledAt}
+use Rattle.std.specs.Iterator.{Drains}
+use Rattle.std.specs.Iterator.Adapters.{take_while_source, take_while_done, take_while_callee, take_while_steps}
+use Rattle.std.specs.Slice.Iter.{iter_rest}
+use Rattle.std.specs.declared.iter.TakeWhile.{TakeWhile}
+use Rattle.std.specs.declared.slice.Iter.{Iter}
+use Rattle.std.specs.Char.{to_ascii_uppercase}
+use Rattle.std.specs.List.{take_while}
+use Rattle.std.proofs.lemmas.List.Sums.{take_while-cons}
+use Rattle.registers.proofs.Tests.{lt_not}
+use Rattle.registers.specs.Text.{Text, if◌then◌otherwise◌, digit, small, capital, every, empty, first, rest, start, after, index_of, index_after}
 
 -- ---- at a place
 
@@ -100,6 +116,16 @@ start-passes p (b ∷ bs) = go (p b) refl (start-passes p bs)
     go true q ih = rw q ih
     go false q ih = tt
 
+-- as std has it
+pub start-while : (p : ℕ → Bool) (t : Text) → take_while p t ≡ start p t
+unfolding if◌then◌otherwise◌
+start-while p [] = refl
+start-while p (b ∷ bs) = rw (take_while-cons, start-while p bs) (go (p b))
+  where
+    go : (e : Bool) → cond e (b ∷ start p bs) [] ≡ (if e then b ∷ start p bs otherwise [])
+    go true = refl
+    go false = refl
+
 -- where it ends
 module _ (p : ℕ → Bool) (l : Text) (i e : ℕ) (is : e ≡ i + length (start p (drop i l))) where
   pub end-drop : drop e l ≡ after p (drop i l)
@@ -124,6 +150,17 @@ module _ (p : ℕ → Bool) (l : Text) (at i : ℕ) (w : OnWay p l at i) where
   pub way_end : length l ≤ i → i ≡ at + length (start p (drop at l))
   way_end h = let k : i + 0 ≡ at + length (start p (drop at l)) = rw (start-end p l i h) at w in omega arith
 
+-- ---- counting that start: bytes are taken as long as a closure's test passes, which is p
+
+module _ {F : Type 0} {g : Mut F (Bor (Bor ℕ) × Unit {0}) Bool} (p : ℕ → Bool) (t : Text) (s : TakeWhile (Iter ℕ) F) where
+  pub counted : (r : ℕ) → (xs : List (Bor ℕ)) × Drains (take_while_steps fronts g) s xs × (r ≡ length xs)
+      → iter_rest (take_while_source s) ≡ t → take_while_done s ≡ false
+      → ((x : Bor ℕ) (b : Bool) (q : F) → CalledAt g (take_while_callee s) x b q → (q ≡ take_while_callee s) × (b ≡ p x.now))
+      → r ≡ length (start p t)
+  counted r ran rest-is more k =
+      count_from_yields_List s r ran (YieldsList-from_take_while g p (YieldsList-from_slice t rest-is) refl more k)
+      ∙ ap length (start-while p t)
+
 -- ---- the first byte of a kind: the bytes before it are the longest start of others
 
 abbrev pub other : ℕ → ℕ → Bool
@@ -139,7 +176,17 @@ index-start b (x ∷ xs) = go (eqb x b) (index-start b xs)
     go true ih = refl
     go false ih = ap suc ih
 
--- ---- digits
+-- ---- kinds of bytes
+
+-- as std has it: a letter is told by two bounds, one after the other
+pub capital-is : (b : ℕ) → to_ascii_uppercase b ≡ capital b
+unfolding capital small if◌then◌otherwise◌
+capital-is b = rw (lt_not b 97, leb-suc-suc b 122) (go (leb 97 b) (leb b 122))
+  where
+    go : (x y : Bool) → cond (not x) b (cond y (b - 32) b) ≡ (if x && y then b - 32 otherwise b)
+    go true true = refl
+    go true false = refl
+    go false y = refl
 
 pub digit-bounds : (b : ℕ) → T (digit b) → (code "0" ≤ b) × (b ≤ code "9")
 unfolding digit

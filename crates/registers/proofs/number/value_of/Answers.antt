@@ -1,10 +1,8 @@
--- The two refusals compute from their tests. Where neither comes (`within`), the value is the definition's by the sign of the
--- exponent: powers of ten only ever add up, or one is taken from the other as far as it goes.
-use mathlib.Core.Path.{◌≡◌}
+-- The two refusals compute from their tests. Where neither comes, the value is the definition's by the sign of the exponent: powers of
+-- ten only ever add up, or one is taken from the other as far as it goes.
 use native.Mathlib.Nat.{zero-add}
-use native.Mathlib.Omega.{arith}
 use borrow.Author.Tests.{lt-leb, le-leb, lt-ltb, le-ltb}
-use Rattle.registers.specs.Check.{passed, check, ◌>>◌}
+use Rattle.registers.specs.Check.{check, ◌>>◌}
 use Rattle.registers.specs.Number.{most_exponent, decimal_of, scaled}
 use Rattle.registers.specs.NumberParts.{held, value_read}
 use Rattle.registers.specs.Text.{if◌then◌otherwise◌}
@@ -23,16 +21,26 @@ returns-then-size-gt-MOST_EXPONENT c =
 pub returns-then-exponent : goal.returns-then-exponent
 unfolding decimal_of scaled if◌then◌otherwise◌ value_read check ◌>>◌
 returns-then-exponent c =
-    let within : let a = c.args in value_read a.minus a.mantissa a.exponent a.power ≡ passed (scaled a.power (decimal_of a.minus a.mantissa.value a.mantissa.places a.exponent.lowers a.exponent.size)) = let a = c.args in
-    rw (lt-ltb a.mantissa.value held c.if-digits-ge-HELD.false, le-leb a.exponent.size most_exponent c.if-size-gt-MOST_EXPONENT.false) in
-    rw (within, c.if-exponent.true, zero-add c.args.power.up)
-
-pub overflow_cast-result : goal.overflow_cast-result
-overflow_cast-result c = rw c.above.ensures (omega arith)
+    let a = c.args in
+    rw (
+      lt-ltb a.mantissa.value held c.if-digits-ge-HELD.false,
+      le-leb a.exponent.size most_exponent c.if-size-gt-MOST_EXPONENT.false,
+      c.if-exponent.true,
+      zero-add a.power.up,
+      c.from-up.ensures,
+      c.from-down.ensures,
+    )
 
 pub returns : goal.returns
 unfolding decimal_of scaled if◌then◌otherwise◌ value_read check ◌>>◌
 returns c =
-    let within : let a = c.args in value_read a.minus a.mantissa a.exponent a.power ≡ passed (scaled a.power (decimal_of a.minus a.mantissa.value a.mantissa.places a.exponent.lowers a.exponent.size)) = let a = c.args in
-    rw (lt-ltb a.mantissa.value held c.if-digits-ge-HELD.false, le-leb a.exponent.size most_exponent c.if-size-gt-MOST_EXPONENT.false) in
-    rw (within, c.if-exponent.false, c.above.ensures, c.above-2.ensures)
+    let a = c.args in
+    rw (
+      lt-ltb a.mantissa.value held c.if-digits-ge-HELD.false,
+      le-leb a.exponent.size most_exponent c.if-size-gt-MOST_EXPONENT.false,
+      c.if-exponent.false,
+      c.saturating_sub.ensures,
+      c.saturating_sub-2.ensures,
+      c.from-up.ensures,
+      c.from-down.ensures,
+    )

@@ -1,8 +1,5 @@
 use Rattle.registers.proofs.rounding.Sides.{Lowering}
 use Rattle.registers.proofs.rounding.over_tens.Given as goal
 
-abbrev pub invariant-loop-i : goal.invariant-loop-i
-invariant-loop-i l = Lowering l.x l.n l.y l.i l.exact
-
-abbrev pub decreases-loop-i : goal.decreases-loop-i
-decreases-loop-i l = l.i
+abbrev pub invariant-loop-turn : goal.invariant-loop-turn
+invariant-loop-turn l = Lowering l.x l.y l._turn l.exact

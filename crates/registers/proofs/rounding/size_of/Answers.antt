@@ -1,7 +1,4 @@
-use mathlib.Core.Path.{◌≡◌, ap, ◌∙◌}
-use Prim.Native.Nat.{◌*◌, ◌^◌, min}
 use native.Mathlib.Omega.{arith}
-use Rattle.registers.specs.RoundingParts.{beyond}
 use Rattle.registers.proofs.rounding.Sides.{held_up, held_down}
 use Rattle.registers.proofs.rounding.size_of.Goals as goal
 
@@ -14,5 +11,4 @@ pub returns : goal.returns
 returns c =
     let a = c.args in
     let l = c.over_tens-low in
-    let same : l.result.size * 10 ^ 0 ≡ l.result.size = omega arith in
-    held_down a.x a.up a.down c.times_tens-2.result l.result (omega arith) l.ensures (c.times_tens-2.ensures ∙ ap (min beyond) same)
+    held_down a.x a.up a.down c.min.result l.result (omega arith) l.ensures (omega arith)

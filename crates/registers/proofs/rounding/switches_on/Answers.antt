@@ -6,4 +6,4 @@ use Rattle.registers.proofs.rounding.switches_on.Goals as goal
 
 pub returns : goal.returns
 unfolding switched_on
-returns c = let d = c.args.d in ap not (held-zero d c.size_of-sized.result c.size_of-sized.ensures)
+returns c = ap not (held-zero c.args.d c.size_of-sized.result (rw c.from.ensures at c.size_of-sized.ensures))

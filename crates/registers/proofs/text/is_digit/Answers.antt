@@ -1,7 +1,6 @@
-use mathlib.Core.Path.{refl}
 use Rattle.registers.specs.Text.{digit}
 use Rattle.registers.proofs.text.is_digit.Goals as goal
 
 pub returns : goal.returns
 unfolding digit
-returns c = refl
+returns c = c.is_ascii_digit.ensures.value
