@@ -280,8 +280,8 @@ impl Settings {
     fn values_possible(self) -> bool
         ensures { result ≡ possible_values self }
     {
-        for (slot, value) in self.values.iter().enumerate() {
-            if !self.within(slot, *value) {
+        for slot in 0..Settings::COUNT {
+            if !self.within(slot, self.value(slot)) {
                 return false;
             }
         }

@@ -10,13 +10,13 @@ use Rattle.registers.proofs.settings.Settings.values_possible.Goals as goal
 
 pub returns-then-not-within : goal.returns-then-not-within
 returns-then-not-within c =
-    let back = to_z-of_z {w = w32} {z = value_at c.args.self c.loop-slot.slot} (search rules) in
-    outside-fails c.args.self c.loop-slot.slot (omega arith) (sym (rw back at c.if-not-within.ensures))
+    let back = to_z-of_z {w = w32} {z = c.value.result} (search rules) in
+    outside-fails c.args.self c.loop-slot.slot (omega arith) (sym (rw (back, c.value.ensures) at c.if-not-within.ensures))
 
 pub loop-slot-preserved : goal.loop-slot-preserved
 loop-slot-preserved c =
-    let back = to_z-of_z {w = w32} {z = value_at c.args.self c.loop-slot.slot} (search rules) in
-    below_more c.loop-slot.slot (λ k. within c.args.self k (value_at c.args.self k)) c.loop-slot.invariant (sym (rw back at c.if-not-within.ensures))
+    let back = to_z-of_z {w = w32} {z = c.value.result} (search rules) in
+    below_more c.loop-slot.slot (λ k. within c.args.self k (value_at c.args.self k)) c.loop-slot.invariant (sym (rw (back, c.value.ensures) at c.if-not-within.ensures))
 
 pub returns : goal.returns
 returns c = all-within c.args.self c.loop-slot.slot (omega arith) c.loop-slot.invariant
