@@ -44,7 +44,7 @@ fn holds(block: &[u8]) -> bool
     if block.len() != BLOCK {
         return false;
     }
-    let Some((contents, sum)) = block.split_last_chunk() else {
+    let Some((contents, sum)) = block.split_last_chunk::<4>() else {
         return false;
     };
     weigh(contents) == u32::from_le_bytes(*sum)
@@ -92,7 +92,7 @@ fn settings_in(block: &[u8]) -> Settings
     requires { length block.now ≡ block_size }
     ensures { result ≡ settings_in block.now }
 {
-    if (block[0] == MARK) & (block[1] == MARK) {
+    if block.starts_with(&[MARK; MARKED]) {
         return read(&block[MARKED..BLOCK], Settings::COUNT);
     }
     read(block, Settings::ROWS)

@@ -11,10 +11,12 @@ use lib.Seq.{set_at, take_at, drop_at, take-suc-set, take_all, append_snoc, drop
 use lib.IntN.{ℤ, pos, negsuc, neg_ℤ, nat_abs, ◌+ℤ◌, ◌-ℤ◌}
 use mir.Syntax.{w32}
 use mir.Val.{SFits}
-use borrow.Author.Tests.{eqb-true, leb-true, leb-false}
+use borrow.Author.Tests.{eqb-true, eqb-false, eq-eqb, ne_eqb, leb-true, leb-false}
 use borrow.Rule.Slice.PartMut.{put_mid}
 use Rattle.std.specs.Prelude.{Result, Ok, Err}
 use Rattle.std.specs.Result.{OkIff, result_unwrap_or}
+use Rattle.std.specs.List.{starts_with}
+use Rattle.std.proofs.Math.Bool.{and-true}
 use Rattle.std.specs.Int.{FitsUnsignedBits}
 use Rattle.std.proofs.lemmas.Int.{ints}
 use Rattle.registers.specs.Text.{Text, if◌then◌otherwise◌}
@@ -23,7 +25,7 @@ use Rattle.registers.specs.Settings.{at_reset, count, table_count, value_at}
 use Rattle.registers.specs.Setup.{block_size, checked_size, weighted, in_bytes, checks, shifted, unshifted, value_in, values_in, saved_text, read_in, mark_byte, mark_size, marked, settings_in, bytes_of, unused, body, contents, block_of}
 use Rattle.registers.specs.declared.settings.Settings.{Settings}
 use Rattle.registers.proofs.Tests.{and_both}
-use Rattle.registers.proofs.setup.Laws.{bytes-long, contents-long, padded-whole, unmarked-means}
+use Rattle.registers.proofs.setup.Laws.{bytes-long, contents-long, padded-whole}
 
 -- ---- a value shifted
 
@@ -90,12 +92,26 @@ read-end n b values text row g e is =
     (is ∙ ap₂ (λ (x y : ℕ). take x (drop y b)) k m)
 
 -- by the mark
-pub said-marked : (b : Text) → length b ≡ block_size → marked b ≡ true → read_in count (take (block_size - mark_size) (drop mark_size b)) ≡ settings_in b
-unfolding settings_in if◌then◌otherwise◌
-said-marked b l e = rw e (ap (read_in count) (take_all (block_size - mark_size) (drop mark_size b) (rw length-drop (omega arith))))
+eqb-either : (a b : ℕ) → eqb a b ≡ eqb b a
+eqb-either a b = go (eqb b a) refl
+  where
+    go : (t : Bool) → eqb b a ≡ t → eqb a b ≡ t
+    go true e = eq-eqb a b (sym (eqb-true b a e))
+    go false e = ne_eqb a b (λ f. eqb-false b a e (sym f))
 
-pub said-unmarked : (b : Text) → marked b ≡ false → read_in table_count b ≡ settings_in b
-said-unmarked b e = sym (unmarked-means b e)
+begins : (b : Text) → length b ≡ block_size → starts_with eqb b (mark_byte ∷ mark_byte ∷ []) ≡ marked b
+unfolding marked
+begins [] h = absurd (omega arith)
+begins (x ∷ []) h = absurd (omega arith)
+begins (x ∷ y ∷ b) h = rw (and-true, eqb-either mark_byte x, eqb-either mark_byte y)
+
+pub said-marked : (b : Text) → length b ≡ block_size → true ≡ starts_with eqb b (mark_byte ∷ mark_byte ∷ []) → read_in count (take (block_size - mark_size) (drop mark_size b)) ≡ settings_in b
+unfolding settings_in if◌then◌otherwise◌
+said-marked b l e = rw (← begins b l, ← e) (ap (read_in count) (take_all (block_size - mark_size) (drop mark_size b) (rw length-drop (omega arith))))
+
+pub said-unmarked : (b : Text) → length b ≡ block_size → false ≡ starts_with eqb b (mark_byte ∷ mark_byte ∷ []) → read_in table_count b ≡ settings_in b
+unfolding settings_in if◌then◌otherwise◌
+said-unmarked b l e = rw (← begins b l, ← e)
 
 -- ---- a block filled
 
