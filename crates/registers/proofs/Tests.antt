@@ -11,6 +11,7 @@ use lib.Dec.{T, leb, ltb, eqb}
 use lib.IntN.{ℤ, pos, negsuc}
 use lib.Signed.{le_z, lt_z}
 use borrow.Author.Tests.{eqb-true, eqb-false, leb-true, leb-false, le-leb, ne_eqb, lt-ltb, le-ltb}
+use Rattle.std.specs.List.{list_all}
 use Rattle.registers.specs.Text.{if◌then◌otherwise◌, every, below, empty, rest}
 
 -- a test that holds, as a fact and as an equation
@@ -63,7 +64,14 @@ pub below-from : (n : ℕ) (p : ℕ → Bool) → ((k : ℕ) → k < n → p k �
 below-from zero p h = refl
 below-from (suc n) p h = rw (below-from n p (λ k l. h k (omega arith)), h n (omega arith))
 
--- ---- every member of a list, by the place
+-- ---- every member of a list
+
+-- as std has it
+pub every-all : {A : Type 0} (p : A → Bool) (l : List A) → list_all p l ≡ every p l
+every-all p [] = refl
+every-all p (x ∷ l) = ap (λ b. p x && b) (every-all p l)
+
+-- by the place
 
 module _ (p : ℕ → Bool) (l : List ℕ) (i : ℕ) (h : i < length l) where
   pub every-skip : p (get_or l i 0) ≡ true → every p (drop i l) ≡ every p (drop (i + 1) l)
