@@ -115,7 +115,8 @@ impl Channel {
     };
 }
 
-// Gives a slot's kind; one past the last counts as a bool.
+// Gives a slot's kind. One past the last counts as a bool, here and in the readers below, so that each answers for any slot,
+// as specs/Settings does, and no caller needs an Option.
 fn kind_at(slot: usize) -> Kind
     ensures values { meant_values result.values ≡ sort_of (kind_of slot) }
     ensures quantity { result.quantity ≡ quantity_of slot }
@@ -146,7 +147,8 @@ impl Settings {
     // 12.0 V in steps.
     pub const TWELVE_VOLTS: i32 = 120;
 
-    // Each slot's limits in steps; the voltage's highest is that of range R24V.
+    // Each slot's limits in steps; the voltage's highest is that of range R24V. They stand beside the kinds, as arrays of
+    // signed numbers, since the customer's form has associated limits and the negative peak limit in signed tenths.
     pub const LOWEST: [i32; SLOTS] = [
         0, 0, 0, 0, 0, 0, 400, 1, 0, 0, 1, 1, 5, -80, 0, 0, 0, 0, 0, 0, 0, 0, 400, 1, 0, 0, 1, 1,
         5, -80,
@@ -170,7 +172,7 @@ impl Settings {
         }
     }
 
-    // Tells what a slot's values are; one past the last counts as a bool.
+    // Tells what a slot's values are.
     pub fn values_of(slot: usize) -> Values
         ensures { meant_values result ≡ sort_of (kind_of slot) }
     {

@@ -10,6 +10,7 @@ use crate::error::Error;
 use crate::group::Group;
 use crate::{error, group, queue};
 
+// The customer's form: sixteen numbers and how many of them wait, and the three groups by value.
 #[derive(Clone, Copy)]
 pub struct Status {
     pub events: u16,
@@ -20,7 +21,7 @@ pub struct Status {
     pub errors: [u16; Status::MOST],
 }
 
-// The register sets STATus:OPERation, STATus:LOCK and STATus:WARNing.
+// The register sets STATus:OPERation, STATus:LOCK and STATus:WARNing, in the order of their groups.
 #[derive(Clone, Copy)]
 pub enum RegisterSet {
     Operation,
