@@ -1,18 +1,6 @@
-use Prim.Native.Nat.{◌+◌}
 use native.Mathlib.Omega.{arith}
-use Rattle.registers.proofs.setup.Laws.{term}
-use Rattle.registers.proofs.setup.Weighing.{weigh-start, weigh-on, weigh-end}
+use Rattle.registers.proofs.setup.Weighing.{weigh-on, weigh-end}
 use Rattle.registers.proofs.setup.weigh.Goals as goal
-
-pub loop-i-init : goal.loop-i-init
-loop-i-init c = weigh-start _
-
-pub overflow_add-sum-in-loop-i : goal.overflow_add-sum-in-loop-i
-overflow_add-sum-in-loop-i c =
-    let small = c.loop-i.invariant.small in
-    let byte = c.type_inv.text c.loop-i.i in
-    let t = term (c.loop-i.i + 1) c.from.result (omega arith) (omega arith) in
-    omega arith
 
 pub loop-i-preserved : goal.loop-i-preserved
 loop-i-preserved c =

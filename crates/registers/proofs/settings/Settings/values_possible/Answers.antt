@@ -3,8 +3,6 @@ use native.Mathlib.Omega.{arith}
 use mir.Syntax.{w32}
 use mir.Facts.{to_z-of_z}
 use borrow.Author.Rules.{rules}
-use Rattle.registers.specs.Settings.{within, value_at}
-use Rattle.registers.proofs.Tests.{below_more}
 use Rattle.registers.proofs.settings.Laws.{outside-fails, all-within}
 use Rattle.registers.proofs.settings.Settings.values_possible.Goals as goal
 
@@ -12,11 +10,6 @@ pub returns-then-not-within : goal.returns-then-not-within
 returns-then-not-within c =
     let back = to_z-of_z {w = w32} {z = c.value.result} (search rules) in
     outside-fails c.args.self c.loop-slot.slot (omega arith) (sym (rw (back, c.value.ensures) at c.if-not-within.ensures))
-
-pub loop-slot-preserved : goal.loop-slot-preserved
-loop-slot-preserved c =
-    let back = to_z-of_z {w = w32} {z = c.value.result} (search rules) in
-    below_more c.loop-slot.slot (λ k. within c.args.self k (value_at c.args.self k)) c.loop-slot.invariant (sym (rw (back, c.value.ensures) at c.if-not-within.ensures))
 
 pub returns : goal.returns
 returns c = all-within c.args.self c.loop-slot.slot (omega arith) c.loop-slot.invariant
