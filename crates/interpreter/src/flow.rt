@@ -1,14 +1,14 @@
 // The bytes that come in: line by line, with the line and the waiting answer in place.
 ghost use Rattle.std.specs.Prelude.{◌≡◌, [], ◌∷◌, ◌+◌, ◌^◌, ◌≤◌, ◌<◌, min, length, drop};
 ghost use Rattle.registers.specs.Text.{Text};
-ghost use Rattle.interpreter.specs.TableParts.{command_table};
 ghost use Rattle.interpreter.specs.Box.{store_size, Memory, memory};
 ghost use Rattle.interpreter.specs.Line.{newlines};
 ghost use Rattle.interpreter.specs.FlowParts.{FlowFits, first_line, FlowFed};
 
 use crate::present::Present;
 use crate::sizes::{ANSWER, LINE};
-use crate::{line, memory, table};
+use crate::table::Table;
+use crate::{line, memory};
 use registers::text;
 
 // The small part of a state, and how many bytes and newlines were taken in; the two arrays are lent beside it.
@@ -45,13 +45,13 @@ fn hold(mut flow: Flow, line: &mut [u8; LINE], part: &[u8]) -> Flow
 
 // Ends a line: a waiting answer is first discarded, then the line that was held is run.
 fn newline(
-    table: &[u8],
+    table: &Table,
     flow: Flow,
     line: &[u8; LINE],
     out: &mut [u8; ANSWER],
     store: &mut [u8],
 ) -> Flow
-    requires { (table.now ≡ command_table) × FlowFits flow × (flow.read < 2 ^ 63) × (length store.old ≡ store_size) }
+    requires { FlowFits flow × (flow.read < 2 ^ 63) × (length store.old ≡ store_size) }
     ensures { FlowFed flow line.now out.old (memory store.old) (10 ∷ []) result line.now out.new (memory store.new) }
 {
     let filled = flow.filled;
@@ -69,14 +69,14 @@ fn newline(
 
 // Takes in the next line, its bytes with their newline, or all there are where none ends it.
 pub(crate) fn feed_line(
-    table: &[u8],
+    table: &Table,
     flow: Flow,
     line: &mut [u8; LINE],
     out: &mut [u8; ANSWER],
     store: &mut [u8],
     bytes: &[u8],
 ) -> Flow
-    requires { (table.now ≡ command_table) × FlowFits flow × (flow.read ≤ length bytes.now) × (length store.old ≡ store_size) }
+    requires { FlowFits flow × (flow.read ≤ length bytes.now) × (length store.old ≡ store_size) }
     ensures { FlowFed flow line.old out.old (memory store.old) (first_line (drop flow.read bytes.now)) result line.new out.new (memory store.new) }
 {
     let at = flow.read;
@@ -99,7 +99,7 @@ pub(crate) fn feed(
     requires { FlowFits flow × (flow.read ≡ 0) × (length store.old ≡ store_size) }
     ensures { FlowFed flow line.old out.old (memory store.old) bytes.now result line.new out.new (memory store.new) }
 {
-    let table = table::commands();
+    let table = Table::commands();
     while flow.read < bytes.len() {
         flow = feed_line(&table, flow, line, out, store, bytes);
     }

@@ -9,7 +9,6 @@ ghost use Rattle.interpreter.specs.Box.{most_answer, store_size, Memory, memory}
 ghost use Rattle.interpreter.specs.Perform.{permitted};
 ghost use Rattle.interpreter.specs.PresentParts.{core_in};
 ghost use Rattle.interpreter.specs.ReplyParts.{ordinary};
-ghost use Rattle.interpreter.specs.TableParts.{command_table};
 ghost use Rattle.interpreter.specs.HeaderParts.{Holds, Held};
 ghost use Rattle.interpreter.specs.UnitParts.{Allowed, AllowedText};
 ghost use Rattle.interpreter.specs.LineParts.{StoppedWith, CarriedOut, UnitRan, UnitsRan, LineRan};
@@ -18,6 +17,7 @@ use crate::deed::{Deed, Saving};
 use crate::header::MOST_NAMES;
 use crate::parameter::Decision;
 use crate::present::Present;
+use crate::table::Table;
 use crate::{cuts, memory, perform, reply, unit};
 use registers::error::Error;
 use registers::{setup, text};
@@ -125,14 +125,14 @@ fn carry_out(
 
 // Runs one unit after those before it: checks 1 to 7, and what it then does.
 fn run_unit(
-    table: &[u8],
+    table: &Table,
     done: Done,
     path: &mut [u64; MOST_NAMES],
     unit: &[u8],
     out: &mut [u8],
     store: &mut [u8],
 ) -> Done
-    requires table_value { (table.now ≡ command_table) × Held path.old done.used }
+    requires path_held { Held path.old done.used }
     requires answered_lt_most_answer { (done.present.answered < most_answer) × (length out.old ≡ most_answer) × (done.present.status.queued ≤ most) × (length store.old ≡ store_size) }
     ensures { (names : List Text) → Holds names path.old done.used → UnitRan done names unit.now out.old (memory store.old) result path.new out.new (memory store.new) }
 {
@@ -153,13 +153,13 @@ fn run_unit(
 // Runs the units of a line, which is cut at every `;` outside quotes, up to the first that is refused. The path lives as long as
 // its line: it starts at the root, and is gone at the newline.
 fn run_units(
-    table: &[u8],
+    table: &Table,
     present: Present,
     line: &[u8],
     out: &mut [u8],
     store: &mut [u8],
 ) -> Present
-    requires table_value { (table.now ≡ command_table) × (present.answered ≡ 0) }
+    requires answered_eq0 { present.answered ≡ 0 }
     requires out_len { (length out.old ≡ most_answer) × (present.status.queued ≤ most) × (length store.old ≡ store_size) }
     ensures { UnitsRan present line.now (memory store.old) result out.new (memory store.new) }
 {
@@ -184,14 +184,14 @@ fn run_units(
 // Runs a line at its newline: an overlong one raises -363 "and no unit runs", a blank one does nothing, and
 // answers are ended by a newline.
 pub(crate) fn run_line(
-    table: &[u8],
+    table: &Table,
     present: Present,
     line: &[u8],
     overlong: bool,
     out: &mut [u8],
     store: &mut [u8],
 ) -> Present
-    requires table_value { (table.now ≡ command_table) × (present.answered ≡ 0) }
+    requires answered_eq0 { present.answered ≡ 0 }
     requires out_len { (length out.old ≡ most_answer) × (present.status.queued ≤ most) × (length store.old ≡ store_size) }
     ensures { LineRan present line.now overlong (memory store.old) result out.new (memory store.new) }
 {

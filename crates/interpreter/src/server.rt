@@ -9,7 +9,8 @@ ghost use Rattle.interpreter.specs.ServerParts.{FlowServed};
 use crate::flow::Flow;
 use crate::sizes::{ANSWER, LINE, STORE};
 use crate::state::{Outcome, State};
-use crate::{flow, memory, state, table};
+use crate::table::Table;
+use crate::{flow, memory, state};
 
 // How far a chunk was served: bytes read of the input, and written of the output.
 #[derive(Clone, Copy)]
@@ -40,7 +41,7 @@ fn lines(
     requires { FlowFits flow × (flow.read ≡ 0) × (length store.old ≡ store_size) }
     ensures { FlowServed flow line.old out.old (memory store.old) input.now output.old result line.new out.new (memory store.new) output.new }
 {
-    let table = table::commands();
+    let table = Table::commands();
     let mut written: usize = 0;
     while (flow.read < input.len()) & (ANSWER <= output.len() - written) {
         flow = flow::feed_line(&table, flow, line, out, store, input);

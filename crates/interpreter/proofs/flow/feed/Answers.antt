@@ -8,7 +8,7 @@ loop-flow-init c =
     feed-begun a.flow a.line.now a.out.now a.store.now a.bytes.now c.requires.0 c.requires.1 c.requires.2
 
 pub feed_line-flow-requires : goal.feed_line-flow-requires
-feed_line-flow-requires c = (c.commands-table.ensures, c.loop-flow.invariant.fed.fits, c.loop-flow.invariant.within, c.loop-flow.invariant.sized)
+feed_line-flow-requires c = (c.loop-flow.invariant.fed.fits, c.loop-flow.invariant.within, c.loop-flow.invariant.sized)
 
 pub loop-flow-smaller : goal.loop-flow-smaller
 loop-flow-smaller c =

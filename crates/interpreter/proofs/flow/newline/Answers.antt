@@ -16,7 +16,7 @@ pub slice_bounds-run_line-count : goal.slice_bounds-run_line-count
 slice_bounds-run_line-count c = zero-le
 
 pub run_line-next-requires : goal.run_line-next-requires
-run_line-next-requires c = record { table_value = (c.requires.0, c.discard-present.ensures.gone); out_len = (search rules, c.discard-present.ensures.queued c.requires.1.queued, c.requires.3) }
+run_line-next-requires c = record { answered_eq0 = c.discard-present.ensures.gone; out_len = (search rules, c.discard-present.ensures.queued c.requires.0.queued, c.requires.2) }
 
 pub shape_of-store : goal.shape_of-store
 shape_of-store c = c.run_line-next.auto.store
@@ -28,7 +28,7 @@ returns c =
     let f = a.flow in
     let outs : length a.out.now ≡ most_answer = search rules in
     let room : 0 < length a.out.now = omega arith in
-    let few = c.requires.1.few in
+    let few = c.requires.0.few in
     let w = c.run_line-next.ensures in record {
       fits = record { filled = zero-le; waiting = c.run_line-next.ensures.room; queued = c.run_line-next.ensures.queued; few = omega arith };
       box = rw (← ended f.present a.out.now (memory a.store.now) c.discard-present.result c.discard-present.ensures room (take f.filled a.line.now) f.overlong) (rw sub-zero at c.run_line-next.ensures.box);

@@ -20,7 +20,7 @@ returns-then-overlong c =
     let a = c.args in
     let s = c.well_formed.1.0.1.1.1.0.1.1 in
     let long : length a.present.status.errors ≡ most = search rules in
-    let raised = c.raise.ensures in let none = c.requires.table_value.1 in
+    let raised = c.raise.ensures in let none = c.requires.answered_eq0 in
     record {
       queued = rw raised (raised-short InputBufferOverrun a.present long c.requires.out_len.1);
       room = rw (raised, none) (omega arith);
@@ -30,7 +30,7 @@ returns-then-overlong c =
 pub returns-then-white_end-line : goal.returns-then-white_end-line
 returns-then-white_end-line c =
     let a = c.args in
-    let none = c.requires.table_value.1 in
+    let none = c.requires.answered_eq0 in
     record {
       queued = c.requires.out_len.1;
       room = rw none (omega arith);

@@ -5,7 +5,7 @@ use Rattle.interpreter.proofs.line.run_units.Goals as goal
 pub loop-path-init : goal.loop-path-init
 loop-path-init c =
     let a = c.args in
-    going_start a.present _ a.line.now _ a.out.now a.store.now c.requires.table_value.1 c.requires.out_len.1 c.requires.out_len.0 c.requires.out_len.2
+    going_start a.present _ a.line.now _ a.out.now a.store.now c.requires.answered_eq0 c.requires.out_len.1 c.requires.out_len.0 c.requires.out_len.2
 
 pub part_end-end-requires : goal.part_end-end-requires
 part_end-end-requires c = c.loop-path.invariant.within
@@ -14,7 +14,7 @@ pub slice_bounds-run_unit-count : goal.slice_bounds-run_unit-count
 slice_bounds-run_unit-count c = omega (arith, c.part_end-end.ensures.0)
 
 pub run_unit-done-requires : goal.run_unit-done-requires
-run_unit-done-requires c = record { table_value = (c.requires.table_value.0, (c.loop-path.invariant.path, c.loop-path.invariant.holds)); answered_lt_most_answer = (c.loop-path.invariant.answers, c.loop-path.invariant.long, c.loop-path.invariant.queued, c.loop-path.invariant.sized) }
+run_unit-done-requires c = record { path_held = (c.loop-path.invariant.path, c.loop-path.invariant.holds); answered_lt_most_answer = (c.loop-path.invariant.answers, c.loop-path.invariant.long, c.loop-path.invariant.queued, c.loop-path.invariant.sized) }
 
 pub shape_of-out-then-not-more : goal.shape_of-out-then-not-more
 shape_of-out-then-not-more c =

@@ -15,7 +15,7 @@ pub overflow_sub-output : goal.overflow_sub-output
 overflow_sub-output c = let wrote = c.loop-flow.invariant.wrote in omega arith
 
 pub feed_line-flow-requires : goal.feed_line-flow-requires
-feed_line-flow-requires c = (c.commands-table.ensures, c.loop-flow.invariant.fits, c.loop-flow.invariant.read-in, c.loop-flow.invariant.sized)
+feed_line-flow-requires c = (c.loop-flow.invariant.fits, c.loop-flow.invariant.read-in, c.loop-flow.invariant.sized)
 
 pub paste-written-requires : goal.paste-written-requires
 paste-written-requires c =
