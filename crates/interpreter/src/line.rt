@@ -17,7 +17,6 @@ use crate::deed::{Deed, Saving};
 use crate::header::MOST_NAMES;
 use crate::parameter::Decision;
 use crate::present::Present;
-use crate::reply::Told;
 use crate::table::Table;
 use crate::{cuts, memory, perform, reply, unit};
 use registers::error::Error;
@@ -89,16 +88,15 @@ fn do_deed(present: Present, deed: Deed, string: &[u8], used: usize, out: &mut [
     ensures { (m : Memory) → CarriedOut deed (text_in string.now) used present out.old m result out.new m }
 {
     let mut next = perform::after(present, deed, string);
-    let told = reply::answer(present, deed, out);
-    match told {
-        Told::Refused(error) => return stop(present, error),
-        Told::Until(end) => {
+    match reply::answer(present, deed, out) {
+        Err(error) => stop(present, error),
+        Ok(end) => {
             next.answered = end;
-            return Done {
+            Done {
                 present: next,
                 used,
                 obeyed: true,
-            };
+            }
         }
     }
 }

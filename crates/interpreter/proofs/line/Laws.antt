@@ -21,8 +21,7 @@ use Rattle.interpreter.specs.PresentParts.{core_in, box_at}
 use Rattle.interpreter.specs.PerformParts.{After}
 use Rattle.interpreter.specs.ReplyParts.{Answered}
 use Rattle.interpreter.specs.LineParts.{StoppedWith, carried, CarriedOut, UnitRan}
-use Rattle.interpreter.specs.declared.reply.Told.{Told}
-use Rattle.interpreter.specs.declared.reply.Told.TheVariants.{Until, Refused as no_answer}
+use Rattle.std.specs.Prelude.{Result, Ok, Err}
 use Rattle.interpreter.specs.declared.deed.Deed.{Deed}
 use Rattle.interpreter.specs.declared.present.Present.{Present}
 use Rattle.interpreter.specs.declared.parameter.Decision.{Decision}
@@ -60,19 +59,19 @@ module _ (p : Present) (d : Deed) (t : Text) (used : ℕ) (out : Text) (m : Memo
     unfolding ◌>>◌
     deed-barred l = stopped out (rw (seen l)) refl
 
-    pub deed-unanswered : permitted d (core_in p.settings p.status) ≡ passed tt → (left : Text) (told : Told) → told ≡ no_answer e → Answered d t p out told left
+    pub deed-unanswered : permitted d (core_in p.settings p.status) ≡ passed tt → (left : Text) (told : Result ℕ Error) → told ≡ Err e → Answered d t p out told left
         → CarriedOut d t used p out m r left m
     unfolding ◌>>◌
     deed-unanswered l left told q says =
-        let a = subst (λ (x : Told). Answered d t p out x left) q says in stopped left (rw (seen l, (a m).0)) (a m).1
+        let a = subst (λ (x : Result ℕ Error). Answered d t p out x left) q says in stopped left (rw (seen l, (a m).0)) (a m).1
 
   pub deed-done : permitted d (core_in p.settings p.status) ≡ passed tt → Allowed p.settings d
-      → (next : Present) → After d t p next → (end : ℕ) (left : Text) (told : Told) → told ≡ Until end → Answered d t p out told left
+      → (next : Present) → After d t p next → (end : ℕ) (left : Text) (told : Result ℕ Error) → told ≡ Ok end → Answered d t p out told left
       → CarriedOut d t used p out m
       (record { present = record { settings = next.settings; status = next.status; answered = end }; used = used; obeyed = true }) left m
   unfolding ◌>>◌
   deed-done l allowed next s end left told q says =
-      let a = subst (λ (x : Told). Answered d t p out x left) q says in
+      let a = subst (λ (x : Result ℕ Error). Answered d t p out x left) q says in
       record {
         queued = s.status.queued;
         room = a.0;

@@ -8,17 +8,17 @@ use Rattle.interpreter.proofs.line.do_deed.Goals as goal
 pub after-next-requires : goal.after-next-requires
 after-next-requires c = (c.requires.status_value.1, (lets _ _ c.requires.status_value.0).clear, c.requires.answered_lt_most_answer.2, c.requires.answered_lt_most_answer.3)
 
-pub answer-told-requires : goal.answer-told-requires
-answer-told-requires c = (c.requires.answered_lt_most_answer.0, search rules, c.requires.status_value.2)
+pub answer-requires : goal.answer-requires
+answer-requires c = (c.requires.answered_lt_most_answer.0, search rules, c.requires.status_value.2)
 
-pub returns-in-Refused : goal.returns-in-Refused
-returns-in-Refused c =
+pub returns-in-Err : goal.returns-in-Err
+returns-in-Err c =
     let a = c.args in
     λ m. deed-unanswered a.present a.deed (text_in a.string.now) a.used a.out.now m c.requires.answered_lt_most_answer.2 c.requires.answered_lt_most_answer.0 _ c.stop.result c.stop.ensures c.requires.status_value.0 _
-    c.answer-told.result c.in-Refused.is (c.answer-told.ensures (text_in a.string.now))
+    c.answer.result c.in-Err.is (c.answer.ensures (text_in a.string.now))
 
-pub returns-in-Until : goal.returns-in-Until
-returns-in-Until c =
+pub returns-in-Ok : goal.returns-in-Ok
+returns-in-Ok c =
     let a = c.args in
     λ m. deed-done a.present a.deed (text_in a.string.now) a.used a.out.now m c.requires.status_value.0 c.requires.status_value.1 c.after-next.result c.after-next.ensures _ _
-    c.answer-told.result c.in-Until.is (c.answer-told.ensures (text_in a.string.now))
+    c.answer.result c.in-Ok.is (c.answer.ensures (text_in a.string.now))
