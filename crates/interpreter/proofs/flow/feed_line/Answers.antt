@@ -22,10 +22,7 @@ newline-requires c =
     let n = held.read in
     let more = c.if-end-bytes.true in
     let l = part-read a.bytes.now a.flow.read c.find-end.result c.find-end.ensures.place (c.find-end.ensures.within c.requires.1) c.requires.1 in
-    (held.fits, omega (arith, small, n, l, more), c.requires.2)
-
-pub shape_of-store-then-end-bytes : goal.shape_of-store-then-end-bytes
-shape_of-store-then-end-bytes c = c.newline.auto.store
+    (held.fits, omega (arith, small, n, l, more))
 
 pub returns-then-end-bytes : goal.returns-then-end-bytes
 returns-then-end-bytes c =
