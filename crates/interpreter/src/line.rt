@@ -9,13 +9,13 @@ ghost use Rattle.interpreter.specs.Box.{most_answer, store_size, Memory, memory}
 ghost use Rattle.interpreter.specs.Perform.{permitted};
 ghost use Rattle.interpreter.specs.PresentParts.{core_in};
 ghost use Rattle.interpreter.specs.ReplyParts.{ordinary};
-ghost use Rattle.interpreter.specs.HeaderParts.{Holds, Held};
+ghost use Rattle.interpreter.specs.HeaderParts.{IsPath, Held};
 ghost use Rattle.interpreter.specs.UnitParts.{Allowed, AllowedText};
 ghost use Rattle.interpreter.specs.LineParts.{StoppedWith, CarriedOut, UnitRan, UnitsRan, LineRan};
 
 use crate::deed::{Deed, Saving};
-use crate::header::MOST_NAMES;
 use crate::parameter::Decision;
+use crate::path::Path;
 use crate::present::Present;
 use crate::reply::Told;
 use crate::table::Table;
@@ -23,11 +23,10 @@ use crate::{cuts, memory, perform, reply, unit};
 use registers::error::Error;
 use registers::{setup, text};
 
-// What the units so far leave: how many names the path has, and whether the last one was obeyed.
+// What the units so far leave, and whether the last one was obeyed.
 #[derive(Clone, Copy)]
 struct Done {
     present: Present,
-    used: usize,
     obeyed: bool,
 }
 
@@ -37,16 +36,15 @@ fn stop(present: Present, error: Error) -> Done
 {
     Done {
         present: present.refuse(error),
-        used: 0,
         obeyed: false,
     }
 }
 
 // Carries out *SAV or *RCL, which the lock let pass: the settings go to their block of the store, or come from it.
-fn set_up(present: Present, saving: Saving, place: usize, used: usize, store: &mut [u8]) -> Done
+fn set_up(present: Present, saving: Saving, place: usize, store: &mut [u8]) -> Done
     requires status_value { (permitted (Deed.Saving saving place) (core_in present.settings present.status) ≡ passed tt) × (place < places) × (length store.old ≡ store_size) }
     requires answered_lt_most_answer { (present.answered < most_answer) × (present.status.queued ≤ most) }
-    ensures { (t out : Text) → CarriedOut (Deed.Saving saving place) t used present out (memory store.old) result out (memory store.new) }
+    ensures { (t out : Text) → CarriedOut (Deed.Saving saving place) t present out (memory store.old) result out (memory store.new) }
 {
     let at = place * setup::BLOCK;
     match saving {
@@ -55,7 +53,6 @@ fn set_up(present: Present, saving: Saving, place: usize, used: usize, store: &m
             memory::paste(&block, setup::BLOCK, store, at);
             return Done {
                 present,
-                used,
                 obeyed: true,
             };
         }
@@ -74,7 +71,6 @@ fn set_up(present: Present, saving: Saving, place: usize, used: usize, store: &m
                     status,
                     answered: present.answered,
                 },
-                used,
                 obeyed: true,
             };
         }
@@ -83,10 +79,10 @@ fn set_up(present: Present, saving: Saving, place: usize, used: usize, store: &m
 
 // Carries out any other unit that the lock and check 8 let pass: what it does, and check 9. Where check 9 refuses, "the query isn't
 // performed", and what it would have left is forgotten. The string is the unit's parameter, if it has one.
-fn do_deed(present: Present, deed: Deed, string: &[u8], used: usize, out: &mut [u8]) -> Done
+fn do_deed(present: Present, deed: Deed, string: &[u8], out: &mut [u8]) -> Done
     requires status_value { (permitted deed (core_in present.settings present.status) ≡ passed tt) × Allowed present.settings deed × (ordinary deed ≡ true) }
     requires answered_lt_most_answer { (present.answered < most_answer) × (length out.old ≡ most_answer) × (present.status.queued ≤ most) × AllowedText deed (text_in string.now) }
-    ensures { (m : Memory) → CarriedOut deed (text_in string.now) used present out.old m result out.new m }
+    ensures { (m : Memory) → CarriedOut deed (text_in string.now) present out.old m result out.new m }
 {
     let mut next = perform::after(present, deed, string);
     let told = reply::answer(present, deed, out);
@@ -96,7 +92,6 @@ fn do_deed(present: Present, deed: Deed, string: &[u8], used: usize, out: &mut [
             next.answered = end;
             return Done {
                 present: next,
-                used,
                 obeyed: true,
             };
         }
@@ -104,24 +99,17 @@ fn do_deed(present: Present, deed: Deed, string: &[u8], used: usize, out: &mut [
 }
 
 // Carries out a unit that was read, after those before it: the lock and check 8, and what it does.
-fn carry_out(
-    present: Present,
-    deed: Deed,
-    string: &[u8],
-    used: usize,
-    out: &mut [u8],
-    store: &mut [u8],
-) -> Done
+fn carry_out(present: Present, deed: Deed, string: &[u8], out: &mut [u8], store: &mut [u8]) -> Done
     requires allowed { Allowed present.settings deed × (present.answered < most_answer) × AllowedText deed (text_in string.now) }
     requires out_len { (length out.old ≡ most_answer) × (present.status.queued ≤ most) × (length store.old ≡ store_size) }
-    ensures { CarriedOut deed (text_in string.now) used present out.old (memory store.old) result out.new (memory store.new) }
+    ensures { CarriedOut deed (text_in string.now) present out.old (memory store.old) result out.new (memory store.new) }
 {
     if !perform::is_permitted(present, deed) {
         return stop(present, Error::SettingsConflict);
     }
     match deed {
-        Deed::Saving { saving, place } => return set_up(present, saving, place, used, store),
-        _ => return do_deed(present, deed, string, used, out),
+        Deed::Saving { saving, place } => return set_up(present, saving, place, store),
+        _ => return do_deed(present, deed, string, out),
     }
 }
 
@@ -129,17 +117,17 @@ fn carry_out(
 fn run_unit(
     table: &Table,
     done: Done,
-    path: &mut [u64; MOST_NAMES],
+    path: &mut Path,
     unit: &[u8],
     out: &mut [u8],
     store: &mut [u8],
 ) -> Done
-    requires path_held { Held path.old done.used }
+    requires path_held { Held path.old }
     requires answered_lt_most_answer { (done.present.answered < most_answer) × (length out.old ≡ most_answer) × (done.present.status.queued ≤ most) × (length store.old ≡ store_size) }
-    ensures { (names : List Text) → Holds names path.old done.used → UnitRan done names unit.now out.old (memory store.old) result path.new out.new (memory store.new) }
+    ensures { (names : List Text) → IsPath names path.old → UnitRan done names unit.now out.old (memory store.old) result path.new out.new (memory store.new) }
 {
     let present = done.present;
-    let reading = unit::read(table, present.settings, path, done.used, unit);
+    let reading = unit::read(table, present.settings, path, unit);
     let decision = reading.decision;
     match decision {
         Decision::Refused(error) => return stop(present, error),
@@ -147,7 +135,7 @@ fn run_unit(
             let given = reading.given;
             let from = given.from;
             let to = given.to;
-            return carry_out(present, deed, &unit[from..to], reading.used, out, store);
+            return carry_out(present, deed, &unit[from..to], out, store);
         }
     }
 }
@@ -167,10 +155,9 @@ fn run_units(
 {
     let mut done = Done {
         present,
-        used: 0,
         obeyed: true,
     };
-    let mut path = [0u64; MOST_NAMES];
+    let mut path = Path::root();
     let mut at: usize = 0;
     loop {
         let end = cuts::part_end(line, at, b';');
