@@ -11,11 +11,11 @@ use Rattle.interpreter.specs.Cuts.{cut_open}
 use Rattle.interpreter.specs.Box.{Memory, Box, box, most_answer}
 use Rattle.interpreter.specs.Perform.{permitted, perform}
 use Rattle.interpreter.specs.Line.{attempt, refuse, run_units, run_line}
-use Rattle.interpreter.specs.HeaderParts.{Holds}
+use Rattle.interpreter.specs.HeaderParts.{IsPath}
 use Rattle.interpreter.specs.PresentParts.{box_in, box_at}
 use Rattle.interpreter.specs.declared.deed.Deed.{Deed}
 use Rattle.interpreter.specs.declared.present.Present.{Present}
-use Rattle.interpreter.specs.declared.line.Done.{Done}
+use Rattle.interpreter.specs.declared.path.Path.{Path}
 
 -- while a line runs its answers leave room for the newline, and the errors fit their queue
 pub record Running (p : Present) : Type 0 where
@@ -34,13 +34,10 @@ abbrev pub CarriedOut : Deed → Text → Present → Text → Memory → Result
 CarriedOut d t p out m (Ok r) out' m' = Running r × (carried d t (box_at p out m) ≡ passed (box_at r out' m'))
 CarriedOut d t p out m (Err e) out' m' = (carried d t (box_at p out m) ≡ refused (number_of e)) × Left e p out m out' m'
 
-abbrev pub UnitRan : Present → List Text → Text → Text → Memory → Result Done Error → List ℕ → Text → Memory → Type 0
-UnitRan p path unit out m (Ok r) keys out' m' =
-    Running r.present
-    × ((names : List Text)
-    × (attempt path (box_at p out m) unit ≡ passed (record { path = names; box = box_at r.present out' m' }))
-    × Holds names keys r.used)
-UnitRan p path unit out m (Err e) keys out' m' = (attempt path (box_at p out m) unit ≡ refused (number_of e)) × Left e p out m out' m'
+abbrev pub UnitRan : Present → List Text → Text → Text → Memory → Result Present Error → Path → Text → Memory → Type 0
+UnitRan p path unit out m (Ok r) way out' m' =
+    Running r × ((names : List Text) × (attempt path (box_at p out m) unit ≡ passed (record { path = names; box = box_at r out' m' })) × IsPath names way)
+UnitRan p path unit out m (Err e) way out' m' = (attempt path (box_at p out m) unit ≡ refused (number_of e)) × Left e p out m out' m'
 
 pub record UnitsRan (p : Present) (line : Text) (m : Memory) (r : Present) (out' : Text) (m' : Memory) : Type 0 where
   pub running : Running r

@@ -13,6 +13,7 @@ mod header;
 mod line;
 mod name;
 mod parameter;
+mod path;
 mod perform;
 mod present;
 mod quoted;

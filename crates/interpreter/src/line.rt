@@ -9,26 +9,19 @@ ghost use Rattle.interpreter.specs.Box.{Memory, memory};
 ghost use Rattle.interpreter.specs.Perform.{permitted};
 ghost use Rattle.interpreter.specs.PresentParts.{core_in};
 ghost use Rattle.interpreter.specs.ReplyParts.{ordinary};
-ghost use Rattle.interpreter.specs.HeaderParts.{Holds, Held};
+ghost use Rattle.interpreter.specs.HeaderParts.{IsPath, Held};
 ghost use Rattle.interpreter.specs.UnitParts.{Allowed, AllowedText};
 ghost use Rattle.interpreter.specs.LineParts.{Running, CarriedOut, UnitRan, UnitsRan, LineRan};
 
 use crate::deed::{Deed, Saving};
-use crate::header::MOST_NAMES;
 use crate::parameter::Decision;
+use crate::path::Path;
 use crate::present::Present;
 use crate::sizes::{ANSWER, STORE};
 use crate::table::Table;
 use crate::{cuts, perform, reply, unit};
 use registers::error::Error;
 use registers::{setup, text};
-
-// What the obeyed units so far leave, and how many names the path has.
-#[derive(Clone, Copy)]
-struct Done {
-    present: Present,
-    used: usize,
-}
 
 // Carries out *SAV or *RCL, which the lock let pass: the settings go to their block of the store, or come from it.
 fn set_up(
@@ -100,28 +93,23 @@ fn carry_out(
 // Runs one unit after those before it: checks 1 to 7, and what it then does.
 fn run_unit(
     table: &Table,
-    done: Done,
-    path: &mut [u64; MOST_NAMES],
+    present: Present,
+    path: &mut Path,
     unit: &[u8],
     out: &mut [u8; ANSWER],
     store: &mut [u8; STORE],
-) -> Result<Done, Error>
-    requires path_held { Held path.old done.used }
-    requires running { Running done.present }
-    ensures { (names : List Text) → Holds names path.old done.used → UnitRan done.present names unit.now out.old (memory store.old) result path.new out.new (memory store.new) }
+) -> Result<Present, Error>
+    requires path_held { Held path.old }
+    requires running { Running present }
+    ensures { (names : List Text) → IsPath names path.old → UnitRan present names unit.now out.old (memory store.old) result path.new out.new (memory store.new) }
 {
-    let reading = unit::read(table, done.present.settings, path, done.used, unit);
+    let reading = unit::read(table, present.settings, path, unit);
     let decision = reading.decision;
     match decision {
         Decision::Refused(error) => Err(error),
         Decision::Obey(deed) => {
             let given = reading.given;
-            let string = &unit[given.from..given.to];
-            let present = carry_out(done.present, deed, string, out, store)?;
-            Ok(Done {
-                present,
-                used: reading.used,
-            })
+            carry_out(present, deed, &unit[given.from..given.to], out, store)
         }
     }
 }
@@ -130,7 +118,7 @@ fn run_unit(
 // its line: it starts at the root, and is gone at the newline.
 fn run_units(
     table: &Table,
-    present: Present,
+    mut present: Present,
     line: &[u8],
     out: &mut [u8; ANSWER],
     store: &mut [u8; STORE],
@@ -139,17 +127,16 @@ fn run_units(
     requires queued { present.status.queued ≤ most }
     ensures { UnitsRan present line.now (memory store.old) result out.new (memory store.new) }
 {
-    let mut done = Done { present, used: 0 };
-    let mut path = [0u64; MOST_NAMES];
+    let mut path = Path::root();
     let mut at: usize = 0;
     loop {
         let end = cuts::part_end(line, at, b';');
-        match run_unit(table, done, &mut path, &line[at..end], out, store) {
-            Ok(next) => done = next,
-            Err(error) => return done.present.refuse(error),
+        match run_unit(table, present, &mut path, &line[at..end], out, store) {
+            Ok(next) => present = next,
+            Err(error) => return present.refuse(error),
         }
         if line.len() <= end {
-            return done.present;
+            return present;
         }
         at = end + 1;
     }

@@ -6,7 +6,7 @@ ghost use Rattle.interpreter.specs.Parameter.{Word, Figure, parameter, words_of,
 ghost use Rattle.interpreter.specs.WordsParts.{word_count, words_in};
 ghost use Rattle.interpreter.specs.ParameterParts.{meant_given, meant_deed, CountedIn, TakesOf, rounded_to, put_fit, register_to, saving_to, parts_of};
 
-use crate::deed::{Change, Deed, Heading, Query, Role, Saving};
+use crate::deed::{Change, Deed, Query, Role, Saving};
 use crate::table::Table;
 use crate::words::{FIRST_WITH_NUMBERS, Words};
 use crate::{cuts, words};
@@ -200,16 +200,15 @@ fn obey_query(query: Query) -> Decision
 }
 
 // Decides on a value of a setting: the limits let it pass or not, and so does exam mode. A query asks for it.
-fn decide_value(settings: Settings, heading: Heading, rounded: Rounded) -> Decision
-    ensures { meant_deed result ≡ put_fit settings heading.place heading.asked rounded.fit rounded.side }
+fn decide_value(settings: Settings, row: usize, asked: bool, rounded: Rounded) -> Decision
+    ensures { meant_deed result ≡ put_fit settings row asked rounded.fit rounded.side }
 {
-    let row = heading.place;
     let fit = rounded.fit;
     let side = rounded.side;
     match fit {
         Fit::Outside => return Decision::Refused(Error::DataOutOfRange),
         Fit::Within(value) => {
-            if heading.asked {
+            if asked {
                 return obey_query(Query::Limit { row, value });
             }
             if !settings.accepts(side) {
@@ -241,18 +240,18 @@ fn decide_figure(register: Register, d: Decimal) -> Decision
 pub(crate) fn decide_setting(
     table: &Table,
     settings: Settings,
-    heading: Heading,
+    row: usize,
+    asked: bool,
     text: &[u8],
 ) -> Decision
-    requires place_lt_count { heading.place < count }
-    requires asked_in_bounds { (least (Role.Setting heading.place) heading.asked ≤ length (parts_of text.now)) × (length (parts_of text.now) ≤ greatest (Role.Setting heading.place) heading.asked) }
-    ensures { meant_deed result ≡ deed_of settings (Role.Setting heading.place) heading.asked (parts_of text.now) }
+    requires row_lt_count { row < count }
+    requires asked_in_bounds { (least (Role.Setting row) asked ≤ length (parts_of text.now)) × (length (parts_of text.now) ≤ greatest (Role.Setting row) asked) }
+    ensures { meant_deed result ≡ deed_of settings (Role.Setting row) asked (parts_of text.now) }
 {
-    let row = heading.place;
     if text.len() == 0 {
         return obey_query(Query::Value(row));
     }
-    let parameter = read_parameter(table, setting_takes(row), heading.asked, text);
+    let parameter = read_parameter(table, setting_takes(row), asked, text);
     match parameter {
         Parameter::Refused(e) => return Decision::Refused(e),
         Parameter::Word(word) => {
@@ -260,10 +259,10 @@ pub(crate) fn decide_setting(
                 fit: Fit::Within(word_value(settings, row, word)),
                 side: Side::On,
             };
-            return decide_value(settings, heading, within);
+            return decide_value(settings, row, asked, within);
         }
         Parameter::Figure(d) => {
-            return decide_value(settings, heading, figure_value(settings, row, d));
+            return decide_value(settings, row, asked, figure_value(settings, row, d));
         }
     }
 }

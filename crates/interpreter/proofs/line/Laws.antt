@@ -18,9 +18,10 @@ use Rattle.interpreter.specs.PresentParts.{core_in, box_at}
 use Rattle.interpreter.specs.PerformParts.{After}
 use Rattle.interpreter.specs.ReplyParts.{Answered}
 use Rattle.interpreter.specs.LineParts.{carried, CarriedOut, UnitRan}
-use Rattle.std.specs.Prelude.{Ok, Err}
+use Rattle.std.specs.Prelude.{Result, Ok, Err}
 use Rattle.interpreter.specs.declared.deed.Deed.{Deed}
 use Rattle.interpreter.specs.declared.present.Present.{Present}
+use Rattle.interpreter.specs.declared.path.Path.{Path}
 use Rattle.interpreter.specs.declared.parameter.Decision.TheVariants.{Refused}
 use Rattle.interpreter.proofs.Checks.{first-check}
 use Rattle.interpreter.proofs.unit.Allowed.{read-allowed, text-allowed}
@@ -62,12 +63,12 @@ module _ (path : List Text) (b : Box) (u : Text) where
   unfolding attempt ◌>>=◌
   attempt-carried r e = rw e (sym (first-check (permitted r.deed b.core) (perform r.deed r.text b) (λ c. passed (record { path = r.path; box = c }))))
 
-module _ (p : Present) (path : List Text) (unit : Text) (keys : List ℕ) (given : Span) (used : ℕ) where
-  pub unit-refused : (e : Error) → UnitRead p.settings path unit (Refused e) given used keys → (out : Text) (m : Memory)
-      → UnitRan p path unit out m (Err e) keys out m
+module _ (p : Present) (path : List Text) (unit : Text) (way : Path) (given : Span) where
+  pub unit-refused : (e : Error) → UnitRead p.settings path unit (Refused e) given way → (out : Text) (m : Memory)
+      → UnitRan p path unit out m (Err e) way out m
   unit-refused e read out m = (attempt-read path (box_at p out m) unit (number_of e) read, refl)
 
-  module _ (d : Deed) (read : Accepted p.settings path unit d given used keys) where
+  module _ (d : Deed) (read : Accepted p.settings path unit d given way) where
     -- the text that its parameter gives
     abbrev said : Text
     said = text_in (part_of given.from given.to unit)
@@ -78,11 +79,7 @@ module _ (p : Present) (path : List Text) (unit : Text) (keys : List ℕ) (given
     pub unit-said : AllowedText d said
     unit-said = text-allowed p.settings path unit read.is
 
-    pub unit-barred : (e : Error) (out left : Text) (m m' : Memory) → CarriedOut d said p out m (Err e) left m' → UnitRan p path unit out m (Err e) keys left m'
+    pub unit-carried : (r : Result Present Error) (out left : Text) (m m' : Memory) → CarriedOut d said p out m r left m' → UnitRan p path unit out m r way left m'
     unfolding ◌>>=◌
-    unit-barred e out left m m' c = (attempt-carried path (box_at p out m) unit _ read.is ∙ rw c.0, c.1)
-
-    pub unit-carried : (r : Present) (out left : Text) (m m' : Memory) → CarriedOut d said p out m (Ok r) left m'
-        → UnitRan p path unit out m (Ok (record { present = r; used = used })) keys left m'
-    unfolding ◌>>=◌
-    unit-carried r out left m m' c = (c.0, (read.left, attempt-carried path (box_at p out m) unit _ read.is ∙ rw c.1, read.holds))
+    unit-carried (Ok r) out left m m' c = (c.0, (read.left, attempt-carried path (box_at p out m) unit _ read.is ∙ rw c.1, read.holds))
+    unit-carried (Err e) out left m m' c = (attempt-carried path (box_at p out m) unit _ read.is ∙ rw c.0, c.1)

@@ -1,11 +1,11 @@
 use native.Mathlib.Omega.{arith}
-use Rattle.interpreter.proofs.line.Units.{going_start, going_stopped, going_less, going_on, going_end}
+use Rattle.interpreter.proofs.line.Units.{going_start, going_stopped, going_on, going_end}
 use Rattle.interpreter.proofs.line.run_units.Goals as goal
 
 pub loop-next-init : goal.loop-next-init
 loop-next-init c =
     let a = c.args in
-    going_start a.present a.line.now _ a.out.now a.store.now c.requires.answered_eq0 c.requires.queued
+    going_start a.present a.line.now c.root-path.result a.out.now a.store.now c.root-path.ensures c.requires.answered_eq0 c.requires.queued
 
 pub part_end-end-requires : goal.part_end-end-requires
 part_end-end-requires c = c.loop-next.invariant.within
@@ -34,15 +34,13 @@ returns-then-line-end c =
     let w = c.in-Ok.ensures g.path g.holds in
     record {
       running = w.0;
-      box = going_end _ _ _ _ _ _ _ g c.part_end-end.result c.part_end-end.ensures.0 c.part_end-end.ensures.1 _ _ _ c.in-Ok.next w c.if-line-end.true;
+      box = going_end _ _ _ _ _ _ _ g c.part_end-end.result c.part_end-end.ensures.0 c.part_end-end.ensures.1 c.run_unit.new.path _ _ c.in-Ok.next w c.if-line-end.true;
     }
 
 pub loop-next-smaller : goal.loop-next-smaller
-loop-next-smaller c =
-    let g = c.loop-next.invariant in
-    going_less _ _ _ _ _ _ _ g c.part_end-end.result c.part_end-end.ensures.0 c.part_end-end.ensures.1 _ _ _ c.in-Ok.next (c.in-Ok.ensures g.path g.holds) c.if-line-end.false
+loop-next-smaller c = omega (arith, c.part_end-end.ensures.0)
 
 pub loop-next-preserved : goal.loop-next-preserved
 loop-next-preserved c =
     let g = c.loop-next.invariant in
-    going_on _ _ _ _ _ _ _ g c.part_end-end.result c.part_end-end.ensures.0 c.part_end-end.ensures.1 _ _ _ c.in-Ok.next (c.in-Ok.ensures g.path g.holds) c.if-line-end.false
+    going_on _ _ _ _ _ _ _ g c.part_end-end.result c.part_end-end.ensures.0 c.part_end-end.ensures.1 c.run_unit.new.path _ _ c.in-Ok.next (c.in-Ok.ensures g.path g.holds) c.if-line-end.false
