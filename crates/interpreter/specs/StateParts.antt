@@ -3,24 +3,15 @@ use Rattle.std.specs.Prelude.{◌≡◌, true, false, length, Result, Ok, Err}
 use Rattle.registers.specs.Text.{Text}
 use Rattle.registers.specs.Settings.{AsLong}
 use Rattle.registers.specs.Queue.{most}
-use Rattle.interpreter.specs.Box.{store_size, most_answer}
-use Rattle.interpreter.specs.State.{possible_state}
+use Rattle.interpreter.specs.Box.{Memory, store_size, most_answer}
+use Rattle.interpreter.specs.State.{box_of, possible_state}
+use Rattle.interpreter.specs.FlowParts.{flow_box}
 use Rattle.interpreter.specs.declared.state.State.{State}
 use Rattle.interpreter.specs.declared.state.Refusal.{Refusal}
 use Rattle.interpreter.specs.declared.state.Refusal.TheVariants.{BufferTooShort, NoAnswer, ConditionTooWide, ImpossibleState, WrongStore}
 use Rattle.interpreter.specs.declared.flow.Flow.{Flow}
 
--- a state's small part, and a state put together
-abbrev pub flow_of : State → Flow
-flow_of s =
-    record {
-      present = record { settings = s.settings; status = s.status; answered = s.waiting };
-      filled = s.filled;
-      overlong = s.overlong;
-      read = 0;
-      count = 0;
-    }
-
+-- a state put together
 abbrev pub state_of : Flow → Text → Text → State
 state_of f line answer =
     record {
@@ -40,7 +31,8 @@ pub record Admits (s : State) (store : Text) (f : Flow) : Type 0 where
   pub errors : length s.status.errors ≡ most
   pub answer : length s.answer ≡ most_answer
   pub sized : length store ≡ store_size
-  pub is : f ≡ flow_of s
+  pub box : (m : Memory) → flow_box f s.line s.answer m ≡ box_of s m
+  pub begun : (f.read ≡ 0) × (f.count ≡ 0)
 
 -- number 5, tested before number 4
 abbrev pub Admitted : State → Text → Result Flow Refusal → Type 0

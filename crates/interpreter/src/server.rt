@@ -2,11 +2,9 @@
 ghost use Rattle.std.specs.Prelude.{◌≡◌};
 ghost use Rattle.interpreter.specs.Box.{memory};
 ghost use Rattle.interpreter.specs.State.{number_of};
-ghost use Rattle.interpreter.specs.FlowParts.{FlowFits};
 ghost use Rattle.interpreter.specs.Server.{Serves};
 ghost use Rattle.interpreter.specs.ServerParts.{FlowServed};
 
-use crate::flow;
 use crate::flow::Flow;
 use crate::sizes::{ANSWER, LINE, STORE};
 use crate::state::{Refusal, State};
@@ -38,18 +36,18 @@ fn lines(
     input: &[u8],
     output: &mut [u8],
 ) -> Progress
-    requires { FlowFits flow × (flow.read ≡ 0) }
+    requires { flow.read ≡ 0 }
     ensures { FlowServed flow line.old out.old (memory store.old) input.now output.old result line.new out.new (memory store.new) output.new }
 {
     let table = Table::commands();
     let mut written: usize = 0;
     while (flow.read < input.len()) & (ANSWER <= output.len() - written) {
-        flow = flow::feed_line(&table, flow, line, out, store, input);
-        let waiting = flow.present.answered;
+        let fed = flow.feed_line(&table, line, out, store, input);
+        let waiting = fed.present.answered;
         let end = written + waiting;
         output[written..end].copy_from_slice(&out[..waiting]);
         written = end;
-        flow.present.answered = 0;
+        flow = fed.without_answer();
     }
     Progress { flow, written }
 }

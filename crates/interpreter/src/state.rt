@@ -7,7 +7,7 @@ ghost use Rattle.interpreter.specs.StateParts.{Admitted, state_of};
 
 use crate::flow::Flow;
 use crate::present::Present;
-use crate::{flow, sizes};
+use crate::sizes;
 use registers::error::Error;
 use registers::group::Group;
 use registers::settings::Settings;
@@ -136,7 +136,7 @@ impl State {
     {
         let begun = self.admit(store)?;
         let store = store.as_mut_array::<STORE>().unwrap();
-        let flow = flow::feed(begun, &mut self.line, &mut self.answer, store, bytes);
+        let flow = begun.feed(&mut self.line, &mut self.answer, store, bytes);
         self.keep(flow);
         Ok(flow.count)
     }

@@ -63,12 +63,12 @@ module _ (s : State) (store input output : Text) where
       let u = state_of r.flow lines left in
       let b = box_of s (memory store) in
       let serving : service (box_of u (memory stored)) r.flow.read (take r.written outputs) (drop r.written outputs)
-      ≡ serves (service b 0 [] output) (lines_of input) = rw w.is at d.service in
+      ≡ serves (service b 0 [] output) (lines_of input) = rw (w.box (memory store)) at d.service in
       let still = serves-fit (service b 0 [] output) (lines_of input) (fit-from b w.values (box-from s (memory store) w.could)) in
       let box : box_of u (memory stored) ≡ (serves (service b 0 [] output) (lines_of input)).box = ap (λ (v : Service). v.box) serving in
       record {
         possible = λ _ _. (
-          state-from u (memory stored) (short-of r.flow lines left d.fits) (rw (← box) at (fit-to _ still)),
+          state-from u (memory stored) (short-of r.flow lines left) (rw (← box) at (fit-to _ still)),
           refl,
           d.within,
           serving,

@@ -23,7 +23,7 @@ use Rattle.interpreter.specs.Box.{Memory, memory, store_size, right_size}
 use Rattle.interpreter.specs.Line.{newlines}
 use Rattle.interpreter.specs.Events.{Event, received, take as takes, condition, look, Result, result_of, happened, happens, taken, reported, lent}
 use Rattle.interpreter.specs.State.{refusal_number, number_of, value_of, box_of, possible_parts, possible_state, admitted, rightly, Happens}
-use Rattle.interpreter.specs.StateParts.{flow_of, state_of, Admits, Admitted}
+use Rattle.interpreter.specs.StateParts.{state_of, Admits, Admitted}
 use Rattle.interpreter.specs.FlowParts.{FlowFed}
 use Rattle.interpreter.specs.declared.state.State.{State}
 use Rattle.interpreter.specs.declared.state.Refusal.{Refusal}
@@ -157,8 +157,11 @@ start-possible = rw reset-possible
 
 -- ---- a piece
 
-pub piece-on : (s : State) (m : Memory) (bytes : Text) (r : Flow) (lines left : Text) (n : Memory)
-    → FlowFed (flow_of s) s.line s.answer m bytes r lines left n
-    → happened (result_of 0 r.count []) (box_of (state_of r lines left) n) ≡ happens (box_of s m) (received bytes)
+pub piece-on : (s : State) (store bytes : Text) (f : Flow) → Admits s store f → (r : Flow) (lines left : Text) (n : Memory)
+    → FlowFed f s.line s.answer (memory store) bytes r lines left n
+    → happened (result_of 0 r.count []) (box_of (state_of r lines left) n) ≡ happens (box_of s (memory store)) (received bytes)
 unfolding happens
-piece-on s m bytes r lines left k w = let n : r.count ≡ newlines bytes = let c = w.count in omega arith in rw (n, w.box)
+piece-on s store bytes f a r lines left n w =
+    let begun = a.begun.1 in
+    let k : r.count ≡ newlines bytes = let c = w.count in omega arith in
+    rw (k, w.box, a.box (memory store))

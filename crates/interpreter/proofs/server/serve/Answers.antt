@@ -3,7 +3,6 @@ use mathlib.Core.Path.{◌≡◌, refl, sym, ◌∙◌}
 use lib.ListN.{length}
 use borrow.Author.Rules.{rules}
 use Rattle.interpreter.specs.Box.{store_size}
-use Rattle.interpreter.proofs.state.Records.{flow-fits}
 use Rattle.interpreter.proofs.server.Chunks.{refused-chunk, served-chunk}
 use Rattle.interpreter.proofs.server.serve.Goals as goal
 
@@ -11,7 +10,7 @@ pub returns-in-Err : goal.returns-in-Err
 returns-in-Err c = let a = c.args in refused-chunk a.state a.store.now a.input.now a.output.now c.in-Err.refusal c.in-Err.ensures
 
 pub lines-done-requires : goal.lines-done-requires
-lines-done-requires c = (flow-fits _ _ _ c.in-Ok.ensures, rw c.in-Ok.ensures.is refl)
+lines-done-requires c = c.in-Ok.ensures.begun.0
 
 pub returns : goal.returns
 returns c =

@@ -5,11 +5,11 @@ use Rattle.interpreter.specs.Box.{most_line}
 use Rattle.interpreter.proofs.flow.Laws.{held-fed}
 use Rattle.interpreter.proofs.Lists.{pasted}
 use borrow.Author.Rules.{rules}
-use Rattle.interpreter.proofs.flow.hold.Goals as goal
+use Rattle.interpreter.proofs.flow.Flow.hold.Goals as goal
 
 pub returns : goal.returns
 returns c =
     let a = c.args in
     let long : length a.line.now ≡ most_line = search rules in
-    held-fed a.flow a.line.now a.part.now c.requires.0 long c.requires.2 c.min-n.result _ _ c.min-n.ensures refl
-    (pasted a.line.now a.flow.filled a.part.now c.min-n.result _ c.copy_from_slice.ensures.after)
+    held-fed a.self a.line.now a.part.now long c.requires.1 c.min-n.result _ _ c.min-n.ensures refl refl refl refl refl
+    (pasted a.line.now a.self.filled a.part.now c.min-n.result _ c.copy_from_slice.ensures.after)
