@@ -1,5 +1,5 @@
 -- What the line reader's own functions say. Nothing of 01 is defined here: see Line.antt.
-use Rattle.std.specs.Prelude.{◌≡◌, Bool, List, [], ℕ, ◌≤◌, ◌<◌, Result, Ok, Err}
+use Rattle.std.specs.Prelude.{◌≡◌, Bool, List, [], ◌≤◌, Result, Ok, Err}
 use Prim.Native.Char.{code}
 use Rattle.registers.specs.Text.{Text}
 use Rattle.registers.specs.Check.{Checked, refused, passed, ◌>>◌}
@@ -15,12 +15,8 @@ use Rattle.interpreter.specs.HeaderParts.{IsPath}
 use Rattle.interpreter.specs.PresentParts.{box_in, box_at}
 use Rattle.interpreter.specs.declared.deed.Deed.{Deed}
 use Rattle.interpreter.specs.declared.present.Present.{Present}
+use Rattle.interpreter.specs.declared.present.Running.{Running}
 use Rattle.interpreter.specs.declared.path.Path.{Path}
-
--- while a line runs its answers leave room for the newline, and the errors fit their queue
-pub record Running (p : Present) : Type 0 where
-  pub queued : p.status.queued ≤ most
-  pub room : p.answered < most_answer
 
 -- what comes of a unit that was read: the lock and check 8, and what it does with check 9
 abbrev pub carried : Deed → Text → Box → Checked Box
@@ -30,18 +26,17 @@ carried d t b = permitted d b.core >> perform d t b
 abbrev pub Left : Error → Present → Text → Memory → Text → Memory → Type 0
 Left e p out m out' m' = refuse (number_of e) (box_at p out' m') ≡ refuse (number_of e) (box_at p out m)
 
-abbrev pub CarriedOut : Deed → Text → Present → Text → Memory → Result Present Error → Text → Memory → Type 0
-CarriedOut d t p out m (Ok r) out' m' = Running r × (carried d t (box_at p out m) ≡ passed (box_at r out' m'))
+abbrev pub CarriedOut : Deed → Text → Present → Text → Memory → Result Running Error → Text → Memory → Type 0
+CarriedOut d t p out m (Ok r) out' m' = carried d t (box_at p out m) ≡ passed (box_at r.present out' m')
 CarriedOut d t p out m (Err e) out' m' = (carried d t (box_at p out m) ≡ refused (number_of e)) × Left e p out m out' m'
 
-abbrev pub UnitRan : Present → List Text → Text → Text → Memory → Result Present Error → Path → Text → Memory → Type 0
+abbrev pub UnitRan : Present → List Text → Text → Text → Memory → Result Running Error → Path → Text → Memory → Type 0
 UnitRan p path unit out m (Ok r) way out' m' =
-    Running r × ((names : List Text) × (attempt path (box_at p out m) unit ≡ passed (record { path = names; box = box_at r out' m' })) × IsPath names way)
+    (names : List Text) × (attempt path (box_at p out m) unit ≡ passed (record { path = names; box = box_at r.present out' m' })) × IsPath names way
 UnitRan p path unit out m (Err e) way out' m' = (attempt path (box_at p out m) unit ≡ refused (number_of e)) × Left e p out m out' m'
 
-pub record UnitsRan (p : Present) (line : Text) (m : Memory) (r : Present) (out' : Text) (m' : Memory) : Type 0 where
-  pub running : Running r
-  pub box : box_at r out' m' ≡ run_units (cut_open (code ";") 0 line) [] (box_in p [] m)
+abbrev pub UnitsRan : Present → Text → Memory → Present → Text → Memory → Type 0
+UnitsRan p line m r out' m' = box_at r out' m' ≡ run_units (cut_open (code ";") 0 line) [] (box_in p [] m)
 
 pub record LineRan (p : Present) (line : Text) (overlong : Bool) (m : Memory) (r : Present) (out' : Text) (m' : Memory) : Type 0 where
   pub queued : r.status.queued ≤ most

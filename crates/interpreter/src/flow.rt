@@ -11,7 +11,7 @@ use crate::sizes::{ANSWER, LINE, STORE};
 use crate::table::Table;
 use registers::text;
 
-// The small part of a state, and how many bytes and newlines were taken in; the two arrays are lent beside it.
+// The small part of a state, which goes by value, and how many bytes and newlines were taken in; the two arrays are lent beside it.
 #[derive(Clone, Copy)]
 pub(crate) struct Flow {
     pub(crate) present: Present,
@@ -61,9 +61,9 @@ impl Flow {
         requires { self.read < 2 ^ 63 }
         ensures { FlowFed self line.now out.old (memory store.old) (10 ∷ []) result line.now out.new (memory store.new) }
     {
-        let present = self.present.discard();
+        let running = self.present.discard();
         let held = &line[..self.filled];
-        let next = line::run_line(table, present, held, self.overlong, out, store);
+        let next = line::run_line(table, running, held, self.overlong, out, store);
         Flow {
             present: next,
             filled: 0,
@@ -94,7 +94,8 @@ impl Flow {
         held
     }
 
-    // Takes bytes in, line by line. The table is made once for all of them.
+    // Takes bytes in, line by line. The table is made once for all of them. The loop goes by the count of bytes read, which `serve`
+    // hands back; an iterator over the lines would count them a second time.
     pub(crate) fn feed(
         mut self,
         line: &mut [u8; LINE],

@@ -2,7 +2,6 @@
 ghost use Rattle.std.specs.Prelude.{◌≡◌, true, List, ◌≤◌, ◌<◌, length};
 ghost use Rattle.registers.specs.Text.{Text};
 ghost use Rattle.registers.specs.Check.{passed};
-ghost use Rattle.registers.specs.Queue.{most};
 ghost use Rattle.registers.specs.Setup.{places};
 ghost use Rattle.registers.specs.Label.{text_in};
 ghost use Rattle.interpreter.specs.Box.{Memory, memory};
@@ -11,12 +10,12 @@ ghost use Rattle.interpreter.specs.PresentParts.{core_in};
 ghost use Rattle.interpreter.specs.ReplyParts.{ordinary};
 ghost use Rattle.interpreter.specs.HeaderParts.{IsPath, Held};
 ghost use Rattle.interpreter.specs.UnitParts.{Allowed, AllowedText};
-ghost use Rattle.interpreter.specs.LineParts.{Running, CarriedOut, UnitRan, UnitsRan, LineRan};
+ghost use Rattle.interpreter.specs.LineParts.{CarriedOut, UnitRan, UnitsRan, LineRan};
 
 use crate::deed::{Deed, Saving};
 use crate::parameter::Decision;
 use crate::path::Path;
-use crate::present::Present;
+use crate::present::{Present, Running};
 use crate::sizes::{ANSWER, STORE};
 use crate::table::Table;
 use crate::{cuts, perform, reply, unit};
@@ -25,27 +24,28 @@ use registers::{setup, text};
 
 // Carries out *SAV or *RCL, which the lock let pass: the settings go to their block of the store, or come from it.
 fn set_up(
-    present: Present,
+    running: Running,
     saving: Saving,
     place: usize,
     store: &mut [u8; STORE],
-) -> Result<Present, Error>
-    requires let_pass { (permitted (Deed.Saving saving place) (core_in present.settings present.status) ≡ passed tt) × (place < places) }
-    requires running { Running present }
-    ensures { (t out : Text) → CarriedOut (Deed.Saving saving place) t present out (memory store.old) result out (memory store.new) }
+) -> Result<Running, Error>
+    requires { (permitted (Deed.Saving saving place) (core_in running.present.settings running.present.status) ≡ passed tt) × (place < places) }
+    ensures { (t out : Text) → CarriedOut (Deed.Saving saving place) t running.present out (memory store.old) result out (memory store.new) }
 {
     let at = place * setup::BLOCK;
     let end = at + setup::BLOCK;
     match saving {
         Saving::Save => {
-            let block = setup::block_of(present.settings);
+            let block = setup::block_of(running.present.settings);
             store[at..end].copy_from_slice(&block);
-            Ok(present)
+            Ok(running)
         }
         Saving::Recall => match setup::recall(&store[at..end]) {
-            Ok(settings) => Ok(Present {
-                settings,
-                ..present
+            Ok(settings) => Ok(Running {
+                present: Present {
+                    settings,
+                    ..running.present
+                },
             }),
             Err(_) => Err(Error::SaveRecallMemoryLost),
         },
@@ -55,88 +55,90 @@ fn set_up(
 // Carries out any other unit that the lock and check 8 let pass: what it does, and check 9. Where check 9 refuses, "the query isn't
 // performed", and what it would have left is forgotten. The string is the unit's parameter, if it has one.
 fn do_deed(
-    present: Present,
+    running: Running,
     deed: Deed,
     string: &[u8],
     out: &mut [u8; ANSWER],
-) -> Result<Present, Error>
-    requires let_pass { (permitted deed (core_in present.settings present.status) ≡ passed tt) × Allowed present.settings deed × AllowedText deed (text_in string.now) × (ordinary deed ≡ true) }
-    requires running { Running present }
-    ensures { (m : Memory) → CarriedOut deed (text_in string.now) present out.old m result out.new m }
+) -> Result<Running, Error>
+    requires { (permitted deed (core_in running.present.settings running.present.status) ≡ passed tt) × Allowed running.present.settings deed × AllowedText deed (text_in string.now) × (ordinary deed ≡ true) }
+    ensures { (m : Memory) → CarriedOut deed (text_in string.now) running.present out.old m result out.new m }
 {
-    let next = perform::after(present, deed, string);
-    let answered = reply::answer(present, deed, out)?;
-    Ok(Present { answered, ..next })
+    let next = perform::after(running.present, deed, string);
+    let answered = reply::answer(running.present, deed, out)?;
+    Ok(Running {
+        present: Present { answered, ..next },
+    })
 }
 
 // Carries out a unit that was read, after those before it: the lock and check 8, and what it does.
 fn carry_out(
-    present: Present,
+    running: Running,
     deed: Deed,
     string: &[u8],
     out: &mut [u8; ANSWER],
     store: &mut [u8; STORE],
-) -> Result<Present, Error>
-    requires allowed { Allowed present.settings deed × AllowedText deed (text_in string.now) }
-    requires running { Running present }
-    ensures { CarriedOut deed (text_in string.now) present out.old (memory store.old) result out.new (memory store.new) }
+) -> Result<Running, Error>
+    requires { Allowed running.present.settings deed × AllowedText deed (text_in string.now) }
+    ensures { CarriedOut deed (text_in string.now) running.present out.old (memory store.old) result out.new (memory store.new) }
 {
-    if !perform::is_permitted(present, deed) {
+    if !perform::is_permitted(running.present, deed) {
         return Err(Error::SettingsConflict);
     }
     match deed {
-        Deed::Saving { saving, place } => set_up(present, saving, place, store),
-        _ => do_deed(present, deed, string, out),
+        Deed::Saving { saving, place } => set_up(running, saving, place, store),
+        _ => do_deed(running, deed, string, out),
     }
 }
 
 // Runs one unit after those before it: checks 1 to 7, and what it then does.
 fn run_unit(
     table: &Table,
-    present: Present,
+    running: Running,
     path: &mut Path,
     unit: &[u8],
     out: &mut [u8; ANSWER],
     store: &mut [u8; STORE],
-) -> Result<Present, Error>
-    requires path_held { Held path.old }
-    requires running { Running present }
-    ensures { (names : List Text) → IsPath names path.old → UnitRan present names unit.now out.old (memory store.old) result path.new out.new (memory store.new) }
+) -> Result<Running, Error>
+    requires { Held path.old }
+    ensures { (names : List Text) → IsPath names path.old → UnitRan running.present names unit.now out.old (memory store.old) result path.new out.new (memory store.new) }
 {
-    let reading = unit::read(table, present.settings, path, unit);
+    let reading = unit::read(table, running.present.settings, path, unit);
     let decision = reading.decision;
     match decision {
         Decision::Refused(error) => Err(error),
         Decision::Obey(deed) => {
             let given = reading.given;
-            carry_out(present, deed, &unit[given.from..given.to], out, store)
+            carry_out(running, deed, &unit[given.from..given.to], out, store)
         }
     }
 }
 
 // Runs the units of a line, which is cut at every `;` outside quotes, up to the first that is refused. The path lives as long as
-// its line: it starts at the root, and is gone at the newline.
+// its line: it starts at the root, and is gone at the newline. std's split would cut inside quotes too.
 fn run_units(
     table: &Table,
-    mut present: Present,
+    mut running: Running,
     line: &[u8],
     out: &mut [u8; ANSWER],
     store: &mut [u8; STORE],
-) -> Present
-    requires answered_eq0 { present.answered ≡ 0 }
-    requires queued { present.status.queued ≤ most }
-    ensures { UnitsRan present line.now (memory store.old) result out.new (memory store.new) }
+) -> Running
+    requires { running.present.answered ≡ 0 }
+    ensures { UnitsRan running.present line.now (memory store.old) result.present out.new (memory store.new) }
 {
     let mut path = Path::root();
     let mut at: usize = 0;
     loop {
         let end = cuts::part_end(line, at, b';');
-        match run_unit(table, present, &mut path, &line[at..end], out, store) {
-            Ok(next) => present = next,
-            Err(error) => return present.refuse(error),
+        match run_unit(table, running, &mut path, &line[at..end], out, store) {
+            Ok(next) => running = next,
+            Err(error) => {
+                return Running {
+                    present: running.present.refuse(error),
+                };
+            }
         }
         if line.len() <= end {
-            return present;
+            return running;
         }
         at = end + 1;
     }
@@ -146,23 +148,22 @@ fn run_units(
 // answers are ended by a newline.
 pub(crate) fn run_line(
     table: &Table,
-    present: Present,
+    running: Running,
     line: &[u8],
     overlong: bool,
     out: &mut [u8; ANSWER],
     store: &mut [u8; STORE],
 ) -> Present
-    requires answered_eq0 { present.answered ≡ 0 }
-    requires queued { present.status.queued ≤ most }
-    ensures { LineRan present line.now overlong (memory store.old) result out.new (memory store.new) }
+    requires { running.present.answered ≡ 0 }
+    ensures { LineRan running.present line.now overlong (memory store.old) result out.new (memory store.new) }
 {
     if overlong {
-        return present.raise(Error::InputBufferOverrun);
+        return running.present.raise(Error::InputBufferOverrun);
     }
     if text::white_end(line, 0) == line.len() {
-        return present;
+        return running.present;
     }
-    let ran = run_units(table, present, line, out, store);
+    let ran = run_units(table, running, line, out, store).present;
     let answered = ran.answered;
     if answered == 0 {
         return ran;

@@ -1,5 +1,7 @@
 // What the units of a line change, and what an error does to it.
-ghost use Rattle.std.specs.Prelude.{◌≡◌};
+ghost use Rattle.std.specs.Prelude.{◌≡◌, ◌≤◌, ◌<◌};
+ghost use Rattle.registers.specs.Queue.{most};
+ghost use Rattle.interpreter.specs.Box.{most_answer};
 ghost use Rattle.interpreter.specs.PresentParts.{Tested, raised_with, RefusedWith, Discarded};
 
 use registers::error::Error;
@@ -13,6 +15,14 @@ pub(crate) struct Present {
     pub(crate) settings: Settings,
     pub(crate) status: Status,
     pub(crate) answered: usize,
+}
+
+// What goes from one unit of a line to the next: the answers so far leave room for the newline, and the errors fit their queue.
+#[derive(Clone, Copy)]
+pub(crate) struct Running {
+    pub(crate) present: Present,
+    ghost queue_fits: { present.status.queued ≤ most },
+    ghost room_left: { present.answered < most_answer },
 }
 
 impl Present {
@@ -48,16 +58,19 @@ impl Present {
     }
 
     // Empties the buffer for the answers of a new line: "a waiting answer is first discarded with -410".
-    pub(crate) fn discard(self) -> Present
-        ensures { Discarded self result }
+    pub(crate) fn discard(self) -> Running
+        requires { self.status.queued ≤ most }
+        ensures { Discarded self result.present }
     {
         if self.answered == 0 {
-            return self;
+            return Running { present: self };
         }
         let raised = self.raise(Error::QueryInterrupted);
-        Present {
-            answered: 0,
-            ..raised
+        Running {
+            present: Present {
+                answered: 0,
+                ..raised
+            },
         }
     }
 }

@@ -26,8 +26,8 @@ struct Progress {
     written: usize,
 }
 
-// Serves lines while the output has room for one answer more: each is received, and an answer that then waits is
-// taken after those before it.
+// Serves lines while the output has room for one answer more: each is received, and an answer that then waits is taken after those
+// before it. The loop goes by the bytes read, which are handed back, as Flow::feed does.
 fn lines(
     mut flow: Flow,
     line: &mut [u8; LINE],

@@ -21,7 +21,8 @@ pub const ANSWER: usize = sizes::ANSWER;
 // The store that every event but power-up is lent (02, #108): ten blocks of 512 bytes. Of another length it is refusal 5.
 pub const STORE: usize = sizes::STORE;
 
-// Everything that the box keeps from one event to the next.
+// Everything that the box keeps from one event to the next. Arrays with a length beside each, as number 4 tests a record made by hand
+// (State.possible_parts), and no heap.
 #[derive(Clone, Copy)]
 pub struct State {
     pub settings: Settings,

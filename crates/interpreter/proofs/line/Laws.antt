@@ -21,6 +21,7 @@ use Rattle.interpreter.specs.LineParts.{carried, CarriedOut, UnitRan}
 use Rattle.std.specs.Prelude.{Result, Ok, Err}
 use Rattle.interpreter.specs.declared.deed.Deed.{Deed}
 use Rattle.interpreter.specs.declared.present.Present.{Present}
+use Rattle.interpreter.specs.declared.present.Running.{Running}
 use Rattle.interpreter.specs.declared.path.Path.{Path}
 use Rattle.interpreter.specs.declared.parameter.Decision.TheVariants.{Refused}
 use Rattle.interpreter.proofs.Checks.{first-check}
@@ -47,9 +48,9 @@ module _ (p : Present) (d : Deed) (t out : Text) (m : Memory) where
     deed-unanswered e says = let a = says m in (rw (seen l, a.0), a.1)
 
     pub deed-done : Allowed p.settings d → (next : Present) → After d t p next → (end : ℕ) → Answered d t p out (Ok end) left
-        → CarriedOut d t p out m (Ok (record { settings = next.settings; status = next.status; answered = end })) left m
+        → carried d t b ≡ passed (box_at (record { settings = next.settings; status = next.status; answered = end }) left m)
     unfolding ◌>>◌
-    deed-done allowed next s end says = (record { queued = s.status.queued; room = says.0 }, rw (seen l) (says.1 next m allowed s))
+    deed-done allowed next s end says = rw (seen l) (says.1 next m allowed s)
 
 -- ---- the whole unit: it is refused by its reading, or carried out
 
@@ -79,7 +80,7 @@ module _ (p : Present) (path : List Text) (unit : Text) (way : Path) (given : Sp
     pub unit-said : AllowedText d said
     unit-said = text-allowed p.settings path unit read.is
 
-    pub unit-carried : (r : Result Present Error) (out left : Text) (m m' : Memory) → CarriedOut d said p out m r left m' → UnitRan p path unit out m r way left m'
+    pub unit-carried : (r : Result Running Error) (out left : Text) (m m' : Memory) → CarriedOut d said p out m r left m' → UnitRan p path unit out m r way left m'
     unfolding ◌>>=◌
-    unit-carried (Ok r) out left m m' c = (c.0, (read.left, attempt-carried path (box_at p out m) unit _ read.is ∙ rw c.1, read.holds))
+    unit-carried (Ok r) out left m m' c = (read.left, attempt-carried path (box_at p out m) unit _ read.is ∙ rw c, read.holds)
     unit-carried (Err e) out left m m' c = (attempt-carried path (box_at p out m) unit _ read.is ∙ rw c.0, c.1)

@@ -1,7 +1,7 @@
 -- *SAV and *RCL, once the lock let them pass: the block that the code writes or reads is the definition's.
 use mathlib.Core.Path.{◌≡◌, refl, sym, ◌∙◌}
 use mathlib.Core.Bool.{true, false}
-use Rattle.std.specs.Prelude.{Ok, Err}
+use Rattle.std.specs.Prelude.{Err}
 use Prim.Native.Nat.{ℕ, ◌+◌, ◌-◌, ◌*◌}
 use native.Mathlib.Omega.{arith}
 use lib.ListN.{take, drop}
@@ -15,8 +15,8 @@ use Rattle.registers.specs.declared.settings.Settings.{Settings}
 use Rattle.registers.proofs.setup.Laws.{said-recalled}
 use Rattle.interpreter.specs.Box.{memory}
 use Rattle.interpreter.specs.Perform.{permitted, set_up, perform}
-use Rattle.interpreter.specs.PresentParts.{core_in}
-use Rattle.interpreter.specs.LineParts.{Running, CarriedOut}
+use Rattle.interpreter.specs.PresentParts.{core_in, box_at}
+use Rattle.interpreter.specs.LineParts.{carried, CarriedOut}
 use Rattle.interpreter.specs.declared.deed.Deed.TheVariants.{Saving}
 use Rattle.interpreter.specs.declared.deed.Saving.TheVariants.{Save, Recall}
 use Rattle.interpreter.specs.declared.present.Present.{Present}
@@ -42,19 +42,17 @@ block_read place at end store e f =
 -- ---- what is carried out
 
 module _ (p : Present) (place : ℕ) (store : Text) (t out : Text) where
-  pub saved : Running p → permitted (Saving Save place) (core_in p.settings p.status) ≡ passed tt → (left : Text) → left ≡ saved_at place p.settings store
-      → CarriedOut (Saving Save place) t p out (memory store) (Ok p) out (memory left)
+  pub saved : permitted (Saving Save place) (core_in p.settings p.status) ≡ passed tt → (left : Text) → left ≡ saved_at place p.settings store
+      → carried (Saving Save place) t (box_at p out (memory store)) ≡ passed (box_at p out (memory left))
   unfolding perform set_up ◌>>=◌ ◌>>◌
-  saved runs l left is = (runs, rw (seen p (Saving Save place) t out (memory store) l, is))
+  saved l left is = rw (seen p (Saving Save place) t out (memory store) l, is)
 
   module _ (l : permitted (Saving Recall place) (core_in p.settings p.status) ≡ passed tt) where
-    pub recalled : Running p → (s : Settings) → true ≡ recallable (block_at place store) → s ≡ said_in (block_at place store)
-        → CarriedOut (Saving Recall place) t p out (memory store) (Ok (record { settings = s; status = p.status; answered = p.answered })) out (memory store)
+    pub recalled : (s : Settings) → true ≡ recallable (block_at place store) → s ≡ said_in (block_at place store)
+        → carried (Saving Recall place) t (box_at p out (memory store)) ≡ passed (box_at (record { settings = s; status = p.status; answered = p.answered }) out (memory store))
     unfolding perform set_up ◌>>=◌ ◌>>◌ check
-    recalled runs s taken is = (
-      record { queued = runs.queued; room = runs.room },
-      rw (seen p (Saving Recall place) t out (memory store) l, sym taken, is ∙ said-recalled (block_at place store) (sym taken)),
-    )
+    recalled s taken is =
+        rw (seen p (Saving Recall place) t out (memory store) l, sym taken, is ∙ said-recalled (block_at place store) (sym taken))
 
     pub lost : false ≡ recallable (block_at place store) → CarriedOut (Saving Recall place) t p out (memory store) (Err SaveRecallMemoryLost) out (memory store)
     unfolding perform set_up ◌>>=◌ ◌>>◌ check

@@ -22,10 +22,10 @@ use Rattle.interpreter.specs.Box.{memory, Box}
 use Rattle.interpreter.specs.Line.{Obeyed, attempt, refuse, run_units}
 use Rattle.interpreter.specs.HeaderParts.{IsPath}
 use Rattle.interpreter.specs.PresentParts.{box_in, box_at, RefusedWith}
-use Rattle.interpreter.specs.LineParts.{Running, UnitRan}
+use Rattle.interpreter.specs.LineParts.{UnitRan}
 use Rattle.interpreter.specs.declared.present.Present.{Present}
+use Rattle.interpreter.specs.declared.present.Running.{Running}
 use Rattle.interpreter.specs.declared.path.Path.{Path}
-use Rattle.registers.specs.Queue.{most}
 use Rattle.interpreter.proofs.header.Path.{at-root}
 
 -- ---- a line cut at its units
@@ -73,26 +73,25 @@ run_none path b = refl
 
 -- ---- the units of a line so far: what is left does what all of them do
 
-pub record Going (b : Box) (line : Text) (way : Path) (out store : Text) (d : Present) (at : ℕ) : Type 0 where
-  pub running : Running d
+pub record Going (b : Box) (line : Text) (way : Path) (out store : Text) (d : Running) (at : ℕ) : Type 0 where
   pub within : at ≤ length line
   pub path : List Text
   pub holds : IsPath path way
-  pub left : run_units (cut_open (code ";") 0 (drop at line)) path (box_at d out (memory store)) ≡ run_units (cut_open (code ";") 0 line) [] b
+  pub left : run_units (cut_open (code ";") 0 (drop at line)) path (box_at d.present out (memory store)) ≡ run_units (cut_open (code ";") 0 line) [] b
 
-pub going_start : (p : Present) (line : Text) (way : Path) (out store : Text) → way.used ≡ 0 → p.answered ≡ 0 → p.status.queued ≤ most
-    → Going (box_in p [] (memory store)) line way out store p 0
-going_start p line way out store u z q =
-    record { running = record { queued = q; room = omega arith }; within = zero-le; path = []; holds = at-root way u; left = rw z }
+pub going_start : (p : Running) (line : Text) (way : Path) (out store : Text) → way.used ≡ 0 → p.present.answered ≡ 0
+    → Going (box_in p.present [] (memory store)) line way out store p 0
+going_start p line way out store u z =
+    record { within = zero-le; path = []; holds = at-root way u; left = rw z }
 
-module _ (b : Box) (line : Text) (way : Path) (out store : Text) (d : Present) (at : ℕ) (g : Going b line way out store d at)
+module _ (b : Box) (line : Text) (way : Path) (out store : Text) (d : Running) (at : ℕ) (g : Going b line way out store d at)
     (end : ℕ) (is : end ≡ at + place_open (code ";") 0 (drop at line)) (within : end ≤ length line) (more : Path) (left kept : Text) where
   -- the rest of the line, which begins with this unit, and the box before it
   abbrev here : Text
   here = drop at line
 
   abbrev before : Box
-  before = box_at d out (memory store)
+  before = box_at d.present out (memory store)
 
   n : end - at ≡ place_open (code ";") 0 here
   n = omega (arith, is)
@@ -101,15 +100,15 @@ module _ (b : Box) (line : Text) (way : Path) (out store : Text) (d : Present) (
   first = rw n (first-unit 0 here)
 
   -- the unit was refused
-  pub going_stopped : (e : Error) → UnitRan d g.path (take (end - at) here) out (memory store) (Err e) more left (memory kept)
-      → (q : Present) → RefusedWith e d q → box_at q left (memory kept) ≡ run_units (cut_open (code ";") 0 line) [] b
+  pub going_stopped : (e : Error) → UnitRan d.present g.path (take (end - at) here) out (memory store) (Err e) more left (memory kept)
+      → (q : Present) → RefusedWith e d.present q → box_at q left (memory kept) ≡ run_units (cut_open (code ";") 0 line) [] b
   going_stopped e w q r =
       r.box left (memory kept) ∙ w.1 ∙ sym (run-stop (take (end - at) here) (others 0 here) g.path before (number_of e) w.0) ∙ (rw first at g.left)
 
   -- the unit was obeyed
-  module _ (r : Present) (w : UnitRan d g.path (take (end - at) here) out (memory store) (Ok r) more left (memory kept)) where
-    passes : run_units (others 0 here) w.1.0 (box_at r left (memory kept)) ≡ run_units (cut_open (code ";") 0 line) [] b
-    passes = sym (run_on (take (end - at) here) (others 0 here) g.path before _ w.1.1) ∙ (rw first at g.left)
+  module _ (r : Running) (w : UnitRan d.present g.path (take (end - at) here) out (memory store) (Ok r) more left (memory kept)) where
+    passes : run_units (others 0 here) w.0 (box_at r.present left (memory kept)) ≡ run_units (cut_open (code ";") 0 line) [] b
+    passes = sym (run_on (take (end - at) here) (others 0 here) g.path before _ w.1) ∙ (rw first at g.left)
 
     pub going_on : end < length line → Going b line more left kept r (end + 1)
     going_on h =
@@ -117,9 +116,9 @@ module _ (b : Box) (line : Text) (way : Path) (out store : Text) (d : Present) (
         let f = length-drop at line in
         let next : at + (place_open (code ";") 0 here + 1) ≡ end + 1 = omega arith in
         let rest : others 0 here ≡ cut_open (code ";") 0 (drop (end + 1) line) = rw (others-more here (omega arith), drop-drop (place_open (code ";") 0 here + 1) at line, next) in
-        record { running = w.0; within = omega arith; path = w.1.0; holds = w.1.2; left = rw rest at passes }
+        record { within = omega arith; path = w.0; holds = w.2; left = rw rest at passes }
 
-    pub going_end : length line ≤ end → box_at r left (memory kept) ≡ run_units (cut_open (code ";") 0 line) [] b
+    pub going_end : length line ≤ end → box_at r.present left (memory kept) ≡ run_units (cut_open (code ";") 0 line) [] b
     going_end h =
         let m = n in
         let f = length-drop at line in

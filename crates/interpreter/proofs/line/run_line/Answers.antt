@@ -18,47 +18,46 @@ pub returns-then-overlong : goal.returns-then-overlong
 unfolding raised_with
 returns-then-overlong c =
     let a = c.args in
-    let s = c.well_formed.1.0.1.1.1.0.1.1 in
-    let long : length a.present.status.errors ≡ most = search rules in
-    let raised = c.raise.ensures in let none = c.requires.answered_eq0 in
+    let long : length a.running.present.status.errors ≡ most = search rules in
+    let raised = c.raise.ensures in let none = c.requires in
     record {
-      queued = rw raised (raised-short InputBufferOverrun a.present long c.requires.queued);
+      queued = rw raised (raised-short InputBufferOverrun a.running.present long a.running.queue_fits);
       room = rw (raised, none) (omega arith);
-      box = rw (raised, none) (line-overlong a.present a.line.now a.overlong (memory a.store.now) long c.if-overlong.true);
+      box = rw (raised, none) (line-overlong a.running.present a.line.now a.overlong (memory a.store.now) long c.if-overlong.true);
     }
 
 pub returns-then-white_end-line : goal.returns-then-white_end-line
 returns-then-white_end-line c =
     let a = c.args in
-    let none = c.requires.answered_eq0 in
+    let none = c.requires in
     record {
-      queued = c.requires.queued;
+      queued = a.running.queue_fits;
       room = rw none (omega arith);
-      box = rw none (line-blank a.present a.line.now a.overlong (memory a.store.now) c.if-overlong.false (blank a.line.now c.white_end.result c.white_end.ensures c.if-white_end-line.true));
+      box = rw none (line-blank a.running.present a.line.now a.overlong (memory a.store.now) c.if-overlong.false (blank a.line.now c.white_end.result c.white_end.ensures c.if-white_end-line.true));
     }
 
-pub run_units-ran-requires : goal.run_units-ran-requires
-run_units-ran-requires c = c.requires
+pub run_units-requires : goal.run_units-requires
+run_units-requires c = c.requires
 
 pub returns-then-answered-eq0 : goal.returns-then-answered-eq0
 returns-then-answered-eq0 c =
     let visible : every white c.args.line.now ≡ false = not-blank c.args.line.now c.white_end.result c.white_end.ensures c.if-white_end-line.false in
     let a = c.args in
-    let w = c.run_units-ran.ensures in let room = c.run_units-ran.ensures.running.room in
+    let w = c.run_units.ensures in let room = c.run_units.result.room_left in
     record {
-      queued = c.run_units-ran.ensures.running.queued;
+      queued = c.run_units.result.queue_fits;
       room = omega arith;
-      box = line-none a.present a.line.now a.overlong (memory a.store.now) c.if-overlong.false visible c.run_units-ran.result _ _ w c.if-answered-eq0.true;
+      box = line-none a.running.present a.line.now a.overlong (memory a.store.now) c.if-overlong.false visible c.run_units.result.present _ _ room w c.if-answered-eq0.true;
     }
 
 pub returns : goal.returns
 returns c =
     let visible : every white c.args.line.now ≡ false = not-blank c.args.line.now c.white_end.result c.white_end.ensures c.if-white_end-line.false in
     let a = c.args in
-    let w = c.run_units-ran.ensures in let room = c.run_units-ran.ensures.running.room in
-    let long : length c.run_units-ran.new.out ≡ most_answer = search rules in
+    let w = c.run_units.ensures in let room = c.run_units.result.room_left in
+    let long : length c.run_units.new.out ≡ most_answer = search rules in
     record {
-      queued = c.run_units-ran.ensures.running.queued;
+      queued = c.run_units.result.queue_fits;
       room = omega arith;
-      box = line-some a.present a.line.now a.overlong (memory a.store.now) c.if-overlong.false visible c.run_units-ran.result _ _ w c.if-answered-eq0.false long;
+      box = line-some a.running.present a.line.now a.overlong (memory a.store.now) c.if-overlong.false visible c.run_units.result.present _ _ room w c.if-answered-eq0.false long;
     }

@@ -9,7 +9,7 @@ use Rattle.interpreter.proofs.line.Units.{Going}
 use Rattle.interpreter.proofs.line.run_units.Given as goal
 
 abbrev pub invariant-loop-next : goal.invariant-loop-next
-invariant-loop-next l = Going (box_in l.initial.present [] (memory l.initial.store)) l.line l.path l.out l.store l.present l.at
+invariant-loop-next l = Going (box_in l.initial.running.present [] (memory l.initial.store)) l.line l.path l.out l.store l.running l.at
 
 abbrev pub decreases-loop-next : goal.decreases-loop-next
 decreases-loop-next l = length l.line - l.at

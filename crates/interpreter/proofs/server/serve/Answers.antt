@@ -1,5 +1,5 @@
 -- A chunk on a state: refused with nothing changed, or its parts are lent to a flow, the lines are served, and the flow is a state again (server/Chunks).
-use mathlib.Core.Path.{◌≡◌, refl, sym, ◌∙◌}
+use mathlib.Core.Path.{◌≡◌, sym, ◌∙◌}
 use lib.ListN.{length}
 use borrow.Author.Rules.{rules}
 use Rattle.interpreter.specs.Box.{store_size}

@@ -1,7 +1,7 @@
 -- What waits is discarded and the line that was held is run; the line is then empty. `ended` (line/Newline) says that this is what a
 -- newline does to the box, and the rest counts: one byte and one newline more.
 use mathlib.Core.Path.{◌≡◌, refl}
-use Prim.Native.Nat.{◌<◌, zero-le}
+use Prim.Native.Nat.{◌<◌}
 use native.Mathlib.Omega.{arith}
 use lib.ListN.{length, take}
 use borrow.Author.Rules.{rules}
@@ -12,7 +12,7 @@ use Rattle.interpreter.proofs.line.Newline.{ended}
 use Rattle.interpreter.proofs.flow.Flow.newline.Goals as goal
 
 pub run_line-next-requires : goal.run_line-next-requires
-run_line-next-requires c = record { answered_eq0 = c.discard-present.ensures.gone; queued = c.discard-present.ensures.queued c.args.self.queue_fits }
+run_line-next-requires c = c.discard-running.ensures.gone
 
 pub returns : goal.returns
 unfolding piece byte newlines if◌then◌otherwise◌
@@ -22,7 +22,7 @@ returns c =
     let outs : length a.out.now ≡ most_answer = search rules in
     let room : 0 < length a.out.now = omega arith in
     let w = c.run_line-next.ensures in record {
-      box = rw (← ended f.present a.out.now (memory a.store.now) c.discard-present.result c.discard-present.ensures room (take f.filled a.line.now) f.overlong) c.run_line-next.ensures.box;
+      box = rw (← ended f.present a.out.now (memory a.store.now) c.discard-running.result.present c.discard-running.ensures room (take f.filled a.line.now) f.overlong) c.run_line-next.ensures.box;
       read = refl;
       count = refl;
     }

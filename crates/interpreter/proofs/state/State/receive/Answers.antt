@@ -2,7 +2,7 @@
 use mathlib.Core.Path.{◌≡◌, refl, sym, ◌∙◌}
 use lib.ListN.{length}
 use borrow.Author.Rules.{rules}
-use Rattle.interpreter.specs.Box.{memory, store_size}
+use Rattle.interpreter.specs.Box.{store_size}
 use Rattle.interpreter.specs.Events.{received}
 use Rattle.interpreter.proofs.state.Records.{short-of}
 use Rattle.interpreter.proofs.state.Events.{no-value, passed-on, happens-on, piece-on}
