@@ -1,17 +1,17 @@
 // The bytes that come in: line by line, with the line and the waiting answer in place.
-ghost use Rattle.std.specs.Prelude.{◌≡◌, [], ◌∷◌, ◌+◌, ◌^◌, ◌≤◌, ◌<◌, min, length, drop};
+ghost use Rattle.std.specs.Prelude.{◌≡◌, [], ◌∷◌, ◌+◌, ◌^◌, ◌≤◌, ◌<◌, length, drop};
 ghost use Rattle.registers.specs.Text.{Text};
-ghost use Rattle.interpreter.specs.TableParts.{command_table};
-ghost use Rattle.interpreter.specs.Box.{store_size, Memory, memory};
+ghost use Rattle.registers.specs.Queue.{most};
+ghost use Rattle.interpreter.specs.Box.{Memory, memory, most_line, most_answer};
 ghost use Rattle.interpreter.specs.Line.{newlines};
-ghost use Rattle.interpreter.specs.FlowParts.{FlowFits, first_line, FlowFed};
 
+use crate::line;
 use crate::present::Present;
-use crate::sizes::{ANSWER, LINE};
-use crate::{line, memory, table};
+use crate::sizes::{ANSWER, LINE, STORE};
+use crate::table::Table;
 use registers::text;
 
-// The small part of a state, and how many bytes and newlines were taken in; the two arrays are lent beside it.
+// The small part of a state, which goes by value, and how many bytes and newlines were taken in; the two arrays are lent beside it.
 #[derive(Clone, Copy)]
 pub(crate) struct Flow {
     pub(crate) present: Present,
@@ -19,89 +19,97 @@ pub(crate) struct Flow {
     pub(crate) overlong: bool,
     pub(crate) read: usize,
     pub(crate) count: usize,
+    ghost line_fits: { filled ≤ most_line },
+    ghost answer_fits: { present.answered ≤ most_answer },
+    ghost queue_fits: { present.status.queued ≤ most },
+    ghost no_more_newlines: { count ≤ read },
 }
 
-fn smaller(a: usize, b: usize) -> usize
-    ensures { result ≡ min a b }
-{
-    if a < b {
-        return a;
+impl Flow {
+    ghost use Rattle.interpreter.specs.FlowParts.{first_line, Untold, FlowFed};
+
+    // Forgets the waiting answer, which was taken.
+    pub(crate) fn without_answer(mut self) -> Flow
+        ensures { Untold self result }
+    {
+        self.present.answered = 0;
+        self
     }
-    b
-}
 
-// Adds bytes without a newline to the line, as many as it has room for; "further bytes are dropped".
-fn hold(mut flow: Flow, line: &mut [u8; LINE], part: &[u8]) -> Flow
-    requires { FlowFits flow × (flow.read + length part.now < 2 ^ 63) × (newlines part.now ≡ 0) }
-    ensures { (out : Text) (m : Memory) → FlowFed flow line.old out m part.now result line.new out m }
-{
-    let at = flow.filled;
-    let n = smaller(part.len(), LINE - at);
-    flow.filled = memory::paste(part, n, line, at);
-    flow.overlong = flow.overlong | (n < part.len());
-    flow.read += part.len();
-    flow
-}
-
-// Ends a line: a waiting answer is first discarded, then the line that was held is run.
-fn newline(
-    table: &[u8],
-    flow: Flow,
-    line: &[u8; LINE],
-    out: &mut [u8; ANSWER],
-    store: &mut [u8],
-) -> Flow
-    requires { (table.now ≡ command_table) × FlowFits flow × (flow.read < 2 ^ 63) × (length store.old ≡ store_size) }
-    ensures { FlowFed flow line.now out.old (memory store.old) (10 ∷ []) result line.now out.new (memory store.new) }
-{
-    let filled = flow.filled;
-    let bytes: &[u8] = line;
-    let present = flow.present.discard();
-    let next = line::run_line(table, present, &bytes[0..filled], flow.overlong, out, store);
-    Flow {
-        present: next,
-        filled: 0,
-        overlong: false,
-        read: flow.read + 1,
-        count: flow.count + 1,
+    // Adds bytes without a newline to the line, as many as it has room for; "further bytes are dropped".
+    fn hold(mut self, line: &mut [u8; LINE], part: &[u8]) -> Flow
+        requires { (self.read + length part.now < 2 ^ 63) × (newlines part.now ≡ 0) }
+        ensures { (out : Text) (m : Memory) → FlowFed self line.old out m part.now result line.new out m }
+    {
+        let at = self.filled;
+        let n = part.len().min(LINE - at);
+        line[at..at + n].copy_from_slice(&part[..n]);
+        self.filled = at + n;
+        self.overlong = self.overlong | (n < part.len());
+        self.read += part.len();
+        self
     }
-}
 
-// Takes in the next line, its bytes with their newline, or all there are where none ends it.
-pub(crate) fn feed_line(
-    table: &[u8],
-    flow: Flow,
-    line: &mut [u8; LINE],
-    out: &mut [u8; ANSWER],
-    store: &mut [u8],
-    bytes: &[u8],
-) -> Flow
-    requires { (table.now ≡ command_table) × FlowFits flow × (flow.read ≤ length bytes.now) × (length store.old ≡ store_size) }
-    ensures { FlowFed flow line.old out.old (memory store.old) (first_line (drop flow.read bytes.now)) result line.new out.new (memory store.new) }
-{
-    let at = flow.read;
-    let end = text::find(bytes, at, b'\n');
-    let held = hold(flow, line, &bytes[at..end]);
-    if end < bytes.len() {
-        return newline(table, held, line, out, store);
+    // Ends a line: a waiting answer is first discarded, then the line that was held is run.
+    fn newline(
+        self,
+        table: &Table,
+        line: &[u8; LINE],
+        out: &mut [u8; ANSWER],
+        store: &mut [u8; STORE],
+    ) -> Flow
+        requires { self.read < 2 ^ 63 }
+        ensures { FlowFed self line.now out.old (memory store.old) (10 ∷ []) result line.now out.new (memory store.new) }
+    {
+        let running = self.present.discard();
+        let held = &line[..self.filled];
+        let next = line::run_line(table, running, held, self.overlong, out, store);
+        Flow {
+            present: next,
+            filled: 0,
+            overlong: false,
+            read: self.read + 1,
+            count: self.count + 1,
+        }
     }
-    held
-}
 
-// Takes bytes in, line by line. The table is made once for all of them.
-pub(crate) fn feed(
-    mut flow: Flow,
-    line: &mut [u8; LINE],
-    out: &mut [u8; ANSWER],
-    store: &mut [u8],
-    bytes: &[u8],
-) -> Flow
-    requires { FlowFits flow × (flow.read ≡ 0) × (length store.old ≡ store_size) }
-    ensures { FlowFed flow line.old out.old (memory store.old) bytes.now result line.new out.new (memory store.new) }
-{
-    let table = table::commands();
-    while flow.read < bytes.len() {
-        flow = feed_line(&table, flow, line, out, store, bytes);
+    // Takes in the next line, its bytes with their newline, or all there are where none ends it.
+    pub(crate) fn feed_line(
+        self,
+        table: &Table,
+        line: &mut [u8; LINE],
+        out: &mut [u8; ANSWER],
+        store: &mut [u8; STORE],
+        bytes: &[u8],
+    ) -> Flow
+        requires { self.read ≤ length bytes.now }
+        ensures { FlowFed self line.old out.old (memory store.old) (first_line (drop self.read bytes.now)) result line.new out.new (memory store.new) }
+    {
+        let at = self.read;
+        let end = text::find(bytes, at, b'\n');
+        let held = self.hold(line, &bytes[at..end]);
+        if end < bytes.len() {
+            return held.newline(table, line, out, store);
+        }
+        held
     }
-    flow
+
+    // Takes bytes in, line by line. The table is made once for all of them. The loop goes by the count of bytes read, which `serve`
+    // hands back; an iterator over the lines would count them a second time.
+    pub(crate) fn feed(
+        mut self,
+        line: &mut [u8; LINE],
+        out: &mut [u8; ANSWER],
+        store: &mut [u8; STORE],
+        bytes: &[u8],
+    ) -> Flow
+        requires { self.read ≡ 0 }
+        ensures { FlowFed self line.old out.old (memory store.old) bytes.now result line.new out.new (memory store.new) }
+    {
+        let table = Table::commands();
+        while self.read < bytes.len() {
+            self = self.feed_line(&table, line, out, store, bytes);
+        }
+        self
+    }
 }

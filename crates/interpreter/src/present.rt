@@ -1,6 +1,8 @@
 // What the units of a line change, and what an error does to it.
-ghost use Rattle.std.specs.Prelude.{◌≡◌};
-ghost use Rattle.interpreter.specs.PresentParts.{raised_with, RefusedWith, Discarded};
+ghost use Rattle.std.specs.Prelude.{◌≡◌, ◌≤◌, ◌<◌};
+ghost use Rattle.registers.specs.Queue.{most};
+ghost use Rattle.interpreter.specs.Box.{most_answer};
+ghost use Rattle.interpreter.specs.PresentParts.{Tested, raised_with, RefusedWith, Discarded};
 
 use registers::error::Error;
 use registers::settings::Settings;
@@ -15,7 +17,24 @@ pub(crate) struct Present {
     pub(crate) answered: usize,
 }
 
+// What goes from one unit of a line to the next: the answers so far leave room for the newline, and the errors fit their queue.
+#[derive(Clone, Copy)]
+pub(crate) struct Running {
+    pub(crate) present: Present,
+    ghost queue_fits: { present.status.queued ≤ most },
+    ghost room_left: { present.answered < most_answer },
+}
+
 impl Present {
+    // Tests for refusal 4 on settings and status.
+    pub(crate) fn possible(self) -> bool
+        ensures { Tested self result }
+    {
+        let settings = self.settings;
+        let status = self.status;
+        settings.possible() & status.possible()
+    }
+
     // Puts an error into the status; settings and answer stay.
     pub(crate) fn raise(mut self, error: Error) -> Present
         ensures { result ≡ raised_with error self }
@@ -28,23 +47,30 @@ impl Present {
     pub(crate) fn refuse(self, error: Error) -> Present
         ensures { RefusedWith error self result }
     {
-        let mut left = self.raise(error);
-        if error.number() == 430 {
-            left.answered = 0;
-            return left;
+        let raised = self.raise(error);
+        match error {
+            Error::QueryDeadlocked => Present {
+                answered: 0,
+                ..raised
+            },
+            _ => raised,
         }
-        left
     }
 
     // Empties the buffer for the answers of a new line: "a waiting answer is first discarded with -410".
-    pub(crate) fn discard(self) -> Present
-        ensures { Discarded self result }
+    pub(crate) fn discard(self) -> Running
+        requires { self.status.queued ≤ most }
+        ensures { Discarded self result.present }
     {
         if self.answered == 0 {
-            return self;
+            return Running { present: self };
         }
-        let mut left = self.raise(Error::QueryInterrupted);
-        left.answered = 0;
-        left
+        let raised = self.raise(Error::QueryInterrupted);
+        Running {
+            present: Present {
+                answered: 0,
+                ..raised
+            },
+        }
     }
 }

@@ -1,20 +1,19 @@
 // A chunk of input served for a program: fed line by line, each answer taken after the one before.
-ghost use Rattle.std.specs.Prelude.{◌≡◌, length};
-ghost use Rattle.interpreter.specs.Box.{store_size, memory};
+ghost use Rattle.std.specs.Prelude.{◌≡◌};
+ghost use Rattle.interpreter.specs.Box.{memory};
 ghost use Rattle.interpreter.specs.State.{number_of};
-ghost use Rattle.interpreter.specs.FlowParts.{FlowFits};
 ghost use Rattle.interpreter.specs.Server.{Serves};
 ghost use Rattle.interpreter.specs.ServerParts.{FlowServed};
 
 use crate::flow::Flow;
 use crate::sizes::{ANSWER, LINE, STORE};
-use crate::state::{Outcome, State};
-use crate::{flow, memory, state, table};
+use crate::state::{Refusal, State};
+use crate::table::Table;
 
 // How far a chunk was served: bytes read of the input, and written of the output.
 #[derive(Clone, Copy)]
 pub struct Served {
-    pub outcome: Outcome,
+    pub outcome: Result<(), Refusal>,
     pub read: usize,
     pub written: usize,
     pub state: State,
@@ -27,59 +26,62 @@ struct Progress {
     written: usize,
 }
 
-// Serves lines while the output has room for one answer more: each is received, and an answer that then waits is
-// taken after those before it.
+// Serves lines while the output has room for one answer more: each is received, and an answer that then waits is taken after those
+// before it. The loop goes by the bytes read, which are handed back, as Flow::feed does.
 fn lines(
     mut flow: Flow,
     line: &mut [u8; LINE],
     out: &mut [u8; ANSWER],
-    store: &mut [u8],
+    store: &mut [u8; STORE],
     input: &[u8],
     output: &mut [u8],
 ) -> Progress
-    requires { FlowFits flow × (flow.read ≡ 0) × (length store.old ≡ store_size) }
+    requires { flow.read ≡ 0 }
     ensures { FlowServed flow line.old out.old (memory store.old) input.now output.old result line.new out.new (memory store.new) output.new }
 {
-    let table = table::commands();
+    let table = Table::commands();
     let mut written: usize = 0;
     while (flow.read < input.len()) & (ANSWER <= output.len() - written) {
-        flow = flow::feed_line(&table, flow, line, out, store, input);
-        let waiting = flow.present.answered;
-        written = memory::paste(out, waiting, output, written);
-        flow.present.answered = 0;
+        let fed = flow.feed_line(&table, line, out, store, input);
+        let waiting = fed.present.answered;
+        let end = written + waiting;
+        output[written..end].copy_from_slice(&out[..waiting]);
+        written = end;
+        flow = fed.without_answer();
     }
     Progress { flow, written }
 }
 
 // Feeds the input's lines and takes each answer into the output. It stops before a line whose answer might find no room there;
 // a caller writes the output away and calls again with the rest.
-pub fn serve(state: State, store: &mut [u8], input: &[u8], output: &mut [u8]) -> Served
+pub fn serve(mut state: State, store: &mut [u8], input: &[u8], output: &mut [u8]) -> Served
     ensures { Serves state (memory store.old) input.now output.old (number_of result.outcome) result.read result.written result.state (memory store.new) output.new }
 {
-    if store.len() != STORE {
-        return Served {
-            outcome: Outcome::WrongStore,
-            read: 0,
-            written: 0,
-            state,
-        };
-    }
-    if !state.possible() {
-        return Served {
-            outcome: Outcome::ImpossibleState,
-            read: 0,
-            written: 0,
-            state,
-        };
-    }
-    let mut line = state.line;
-    let mut answer = state.answer;
-    let flow = state::flow_of(state);
-    let done = lines(flow, &mut line, &mut answer, store, input, output);
+    let begun = match state.admit(store) {
+        Ok(flow) => flow,
+        Err(refusal) => {
+            return Served {
+                outcome: Err(refusal),
+                read: 0,
+                written: 0,
+                state,
+            };
+        }
+    };
+    let store = store.as_mut_array::<STORE>().unwrap();
+    let done = lines(
+        begun,
+        &mut state.line,
+        &mut state.answer,
+        store,
+        input,
+        output,
+    );
+    state.keep(done.flow);
     Served {
-        outcome: Outcome::Done,
+        outcome: Ok(()),
         read: done.flow.read,
         written: done.written,
-        state: state::state_of(done.flow, line, answer),
+        state,
     }
 }

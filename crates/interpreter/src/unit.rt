@@ -1,18 +1,17 @@
 // Checks 1 to 7 on one unit, a part of the line where it stands.
 ghost use Rattle.std.specs.Prelude.{◌≡◌, List, ◌≤◌, length, take};
 ghost use Rattle.registers.specs.Text.{Text, every};
-ghost use Rattle.registers.specs.Error.{number_of};
+ghost use Rattle.registers.specs.Error.{number_of, meant};
 ghost use Rattle.interpreter.specs.Cuts.{trim, trim_end};
-ghost use Rattle.interpreter.specs.DeedParts.{no_channel};
-ghost use Rattle.interpreter.specs.TableParts.{command_table};
-ghost use Rattle.interpreter.specs.HeaderParts.{Holds, Held};
+ghost use Rattle.interpreter.specs.HeaderParts.{IsPath, Held};
 ghost use Rattle.interpreter.specs.ParameterParts.{meant_deed};
 ghost use Rattle.interpreter.specs.Unit.{allowed};
 ghost use Rattle.interpreter.specs.UnitParts.{decided, decided_text, header_refusal, SpanOf, UnitRead};
 
-use crate::deed::{Heading, NO_CHANNEL, NOWHERE, Role};
-use crate::header::{Looked, MOST_NAMES};
+use crate::deed::{Heading, Role};
 use crate::parameter::Decision;
+use crate::path::Path;
+use crate::table::Table;
 use crate::{deed, header, parameter, quoted};
 use registers::error::Error;
 use registers::settings::Settings;
@@ -25,12 +24,11 @@ pub(crate) struct Span {
     pub(crate) to: usize,
 }
 
-// What checks 1 to 7 say of a unit, where its parameters stand in it, and how many names the path has that it leaves.
+// What checks 1 to 7 say of a unit, and where its parameters stand in it.
 #[derive(Clone, Copy)]
 pub(crate) struct Reading {
     pub(crate) decision: Decision,
     pub(crate) given: Span,
-    pub(crate) used: usize,
 }
 
 // Makes check 1. All bytes are looked at, without a branch: a unit is short and mostly good.
@@ -62,22 +60,19 @@ fn trimmed_end(text: &[u8]) -> usize
 }
 
 // Makes checks 2 to 7 after the header, on the parameters' text without white space around it.
-fn decide(table: &[u8], settings: Settings, heading: Heading, text: &[u8]) -> Decision
-    requires { (table.now ≡ command_table) × (heading.place ≤ no_channel) × (trim text.now ≡ text.now) }
-    ensures { meant_deed result ≡ decided settings heading.place heading.asked text.now }
+fn decide(table: &Table, settings: Settings, heading: Heading, text: &[u8]) -> Decision
+    requires { trim text.now ≡ text.now }
+    ensures { meant_deed result ≡ decided settings (meant heading.place) heading.asked text.now }
 {
     let counted = parameter::count(text);
     if !counted.full {
         return Decision::Refused(Error::Syntax);
     }
-    let place = heading.place;
+    let place = match heading.place {
+        Ok(place) => place,
+        Err(error) => return Decision::Refused(error),
+    };
     let asked = heading.asked;
-    if place == NOWHERE {
-        return Decision::Refused(Error::UndefinedHeader);
-    }
-    if place == NO_CHANNEL {
-        return Decision::Refused(Error::HeaderSuffix);
-    }
     let role = deed::role_of(place);
     let most = parameter::most(role, asked);
     if most < counted.parts {
@@ -87,8 +82,8 @@ fn decide(table: &[u8], settings: Settings, heading: Heading, text: &[u8]) -> De
         return Decision::Refused(Error::MissingParameter);
     }
     match role {
-        Role::Setting(_) => {
-            return parameter::decide_setting(table, settings, heading, text);
+        Role::Setting(row) => {
+            return parameter::decide_setting(table, settings, row, asked, text);
         }
         Role::Register(register) => {
             return parameter::decide_register(table, register, asked, text);
@@ -100,9 +95,9 @@ fn decide(table: &[u8], settings: Settings, heading: Heading, text: &[u8]) -> De
 }
 
 // Makes check 1 first: white space is allowed, and so is every byte of a header, so that only the parameters' text is looked at.
-fn decide_text(table: &[u8], settings: Settings, heading: Heading, text: &[u8]) -> Decision
-    requires { (table.now ≡ command_table) × (heading.place ≤ no_channel) × (trim text.now ≡ text.now) }
-    ensures { meant_deed result ≡ decided_text settings heading.place heading.asked text.now }
+fn decide_text(table: &Table, settings: Settings, heading: Heading, text: &[u8]) -> Decision
+    requires { trim text.now ≡ text.now }
+    ensures { meant_deed result ≡ decided_text settings (meant heading.place) heading.asked text.now }
 {
     if !all_allowed(text) {
         return Decision::Refused(Error::InvalidCharacter);
@@ -134,39 +129,22 @@ fn header_error(unit: &[u8]) -> Error
 }
 
 // Reads a unit, its header after the path.
-pub(crate) fn read(
-    table: &[u8],
-    settings: Settings,
-    path: &mut [u64; MOST_NAMES],
-    used: usize,
-    unit: &[u8],
-) -> Reading
-    requires { (table.now ≡ command_table) × Held path.old used }
-    ensures { (names : List Text) → Holds names path.old used → UnitRead settings names unit.now result.decision result.given result.used path.new }
+pub(crate) fn read(table: &Table, settings: Settings, path: &mut Path, unit: &[u8]) -> Reading
+    requires { Held path.old }
+    ensures { (names : List Text) → IsPath names path.old → UnitRead settings names unit.now result.decision result.given path.new }
 {
     let start = text::white_end(unit, 0);
-    let looked = header::look_up(table, path, used, &unit[start..]);
-    match looked {
-        Looked::Bad => {
-            return Reading {
-                decision: Decision::Refused(header_error(unit)),
-                given: Span { from: 0, to: 0 },
-                used,
-            };
-        }
-        Looked::At {
-            heading,
-            used: left,
-            end,
-        } => {
-            let given = span_after(unit, start + end);
-            let from = given.from;
-            let to = given.to;
-            return Reading {
-                decision: decide_text(table, settings, heading, &unit[from..to]),
-                given,
-                used: left,
-            };
-        }
+    let Some(looked) = header::look_up(table, path, &unit[start..]) else {
+        return Reading {
+            decision: Decision::Refused(header_error(unit)),
+            given: Span { from: 0, to: 0 },
+        };
+    };
+    let given = span_after(unit, start + looked.end);
+    let from = given.from;
+    let to = given.to;
+    Reading {
+        decision: decide_text(table, settings, looked.heading, &unit[from..to]),
+        given,
     }
 }

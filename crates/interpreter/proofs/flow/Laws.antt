@@ -13,9 +13,9 @@ use lib.Seq.{take_all, take-add, take-suc, take-nil, length-take-le, paste, take
 use borrow.Author.Tests.{lt-ltb, le-ltb, eqb-true, ltb-true, ltb-false}
 use Rattle.registers.specs.Text.{index_of, index_after}
 use Rattle.registers.specs.Text.{Text, if◌then◌otherwise◌}
-use Rattle.interpreter.specs.Box.{Memory, memory, store_size, Core, Box, box, with_line, most_line}
+use Rattle.interpreter.specs.Box.{Memory, memory, Core, Box, box, with_line, most_line}
 use Rattle.interpreter.specs.Line.{held, byte, piece, newlines}
-use Rattle.interpreter.specs.FlowParts.{flow_box, FlowFits, first_line, FlowFed}
+use Rattle.interpreter.specs.FlowParts.{flow_box, first_line, FlowFed}
 use Rattle.interpreter.specs.declared.flow.Flow.{Flow}
 use Rattle.interpreter.proofs.line.Pieces.{piece-append, newlines-append}
 
@@ -138,29 +138,26 @@ min-take part k n is = go (ltb k (length part)) refl
         let h = ltb-false k (length part) e in
         (take_all n part (omega arith) ∙ sym (take_all k part (omega arith)), le-ltb n (length part) (omega arith) ∙ sym e)
 
-abbrev pub held_in : Flow → ℕ → Bool → ℕ → Flow
-held_in f at o n = record { present = f.present; filled = at; overlong = o; read = n; count = f.count }
-
-module _ (f : Flow) (line part : Text) (w : FlowFits f) (long : length line ≡ most_line) (plain : newlines part ≡ 0) where
-  pub held-fed : (n at : ℕ) (lines : Text) → n ≡ min (length part) (most_line - f.filled) → at ≡ f.filled + n → lines ≡ paste line f.filled part n
-      → (out : Text) (m : Memory) → FlowFed f line out m part (held_in f at (f.overlong || ltb n (length part)) (f.read + length part)) lines out m
-  held-fed n at lines is e l out m =
-      let h = w.filled in
+module _ (f : Flow) (line part : Text) (long : length line ≡ most_line) (plain : newlines part ≡ 0) where
+  pub held-fed : (n : ℕ) (r : Flow) (lines : Text) → n ≡ min (length part) (most_line - f.filled) → r.present ≡ f.present → r.filled ≡ f.filled + n
+      → r.overlong ≡ (f.overlong || ltb n (length part)) → r.read ≡ f.read + length part → r.count ≡ f.count → lines ≡ paste line f.filled part n
+      → (out : Text) (m : Memory) → FlowFed f line out m part r lines out m
+  held-fed n r lines is p e o d c l out m =
+      let h = f.line_fits in
       let most = min-take part (most_line - f.filled) n is in
       let k : length (take f.filled line) ≡ f.filled = length-take-le f.filled line (omega arith) in
       let all = piece-held part (flow_box f line out m) plain (rw k h) in
       record {
-        fits = record { filled = omega arith; waiting = w.waiting; queued = w.queued; few = (let few = w.few in omega arith) };
-        box = rw (e, l, take-paste line f.filled part n (omega arith) (omega arith), most.0, most.1) (sym (rw k at all));
-        read = refl;
+        box = rw (p, e, o, l, take-paste line f.filled part n (omega arith) (omega arith), most.0, most.1) (sym (rw k at all));
+        read = d;
         count = omega arith;
       }
 
 -- ---- bytes taken in, one part after the other
 
-pub fed-none : (f : Flow) (line out : Text) (m : Memory) → FlowFits f → FlowFed f line out m [] f line out m
+pub fed-none : (f : Flow) (line out : Text) (m : Memory) → FlowFed f line out m [] f line out m
 unfolding piece newlines
-fed-none f line out m w = record { fits = w; box = refl; read = omega arith; count = omega arith }
+fed-none f line out m = record { box = refl; read = omega arith; count = omega arith }
 
 pub fed_then : (f g r : Flow) (line out xs line₁ out₁ ys line₂ out₂ : Text) (m m₁ m₂ : Memory)
     → FlowFed f line out m xs g line₁ out₁ m₁ → FlowFed g line₁ out₁ m₁ ys r line₂ out₂ m₂ → FlowFed f line out m (xs ++ ys) r line₂ out₂ m₂
@@ -171,7 +168,6 @@ fed_then f g r line out xs line₁ out₁ ys line₂ out₂ m₀ m₁ m₂ p q =
     let m = p.read in
     let k = q.read in
     record {
-      fits = q.fits;
       box = q.box ∙ ap (λ (b : Box). piece b ys) p.box ∙ sym (piece-append _ xs ys);
       read = rw length-append (omega arith);
       count = omega arith;
@@ -181,14 +177,12 @@ fed_then f g r line out xs line₁ out₁ ys line₂ out₂ m₀ m₁ m₂ p q =
 
 pub record Feeding (f₀ : Flow) (line₀ out₀ store₀ bytes line out store : Text) (f : Flow) : Type 0 where
   pub within : f.read ≤ length bytes
-  pub sized : length store ≡ store_size
   pub fed : FlowFed f₀ line₀ out₀ (memory store₀) (take f.read bytes) f line out (memory store)
 
-pub feed-begun : (f : Flow) (line out store bytes : Text) → FlowFits f → f.read ≡ 0 → length store ≡ store_size
-    → Feeding f line out store bytes line out store f
-feed-begun f line out store bytes w z l =
+pub feed-begun : (f : Flow) (line out store bytes : Text) → f.read ≡ 0 → Feeding f line out store bytes line out store f
+feed-begun f line out store bytes z =
     let none : take f.read bytes ≡ [] = ap (λ (n : ℕ). take n bytes) z in
-    record { within = omega arith; sized = l; fed = rw none (fed-none f line out (memory store) w) }
+    record { within = omega arith; fed = rw none (fed-none f line out (memory store)) }
 
 module _ (f₀ : Flow) (line₀ out₀ store₀ bytes line out store : Text) (f : Flow) (g : Feeding f₀ line₀ out₀ store₀ bytes line out store f) where
   module _ (h : f.read < length bytes) (r : Flow) (line' out' store' : Text)
@@ -200,15 +194,15 @@ module _ (f₀ : Flow) (line₀ out₀ store₀ bytes line out store : Text) (f 
         let n = w.read in
         omega arith
 
-    pub feed-on : length store' ≡ length store → Feeding f₀ line₀ out₀ store₀ bytes line' out' store' r
-    feed-on kept =
+    pub feed-on : Feeding f₀ line₀ out₀ store₀ bytes line' out' store' r
+    feed-on =
         let first = first_line (drop f.read bytes) in
         let d = length-drop f.read bytes in
         let m = first-within (drop f.read bytes) in
         let n = w.read in
         let e : take r.read bytes ≡ take f.read bytes ++ first =
         rw (n, take-add f.read (length first) bytes, first-front (drop f.read bytes)) in
-        record { within = omega arith; sized = kept ∙ g.sized; fed = rw e (fed_then f₀ f r line₀ out₀ (take f.read bytes) line out first line' out' _ _ _ g.fed w) }
+        record { within = omega arith; fed = rw e (fed_then f₀ f r line₀ out₀ (take f.read bytes) line out first line' out' _ _ _ g.fed w) }
 
   pub feed-end : length bytes ≤ f.read → FlowFed f₀ line₀ out₀ (memory store₀) bytes f line out (memory store)
   feed-end h = rw (take_all f.read bytes h) at g.fed

@@ -53,17 +53,16 @@ module _ (p : Present) (line : Text) (o : Bool) (m : Memory) where
   unfolding run_line units_of finished run_units if◌then◌otherwise◌
   line-blank e b = rw (e, b)
 
-  module _ (e : o ≡ false) (visible : every white line ≡ false) (r : Present) (out : Text) (m' : Memory) (ran : UnitsRan p line m r out m') where
+  module _ (e : o ≡ false) (visible : every white line ≡ false) (r : Present) (out : Text) (m' : Memory) (room : r.answered < most_answer) (ran : UnitsRan p line m r out m') where
     pub line-none : r.answered ≡ 0 → box_at r out m' ≡ run_line line o (box_in p [] m)
     unfolding run_line units_of finished if◌then◌otherwise◌
-    line-none z = rw (e, visible, ← ran.box, z)
+    line-none z = rw (e, visible, ← ran, z)
 
     pub line-some : (r.answered ≡ 0 → ⊥) → length out ≡ most_answer
         → box_in r (take (r.answered + 1) (set out r.answered 10)) m' ≡ run_line line o (box_in p [] m)
     unfolding run_line units_of finished if◌then◌otherwise◌
     line-some h long =
-        let room = ran.room in
-        rw (e, visible, ← ran.box, front-empty out r.answered (omega arith) ∙ ne_eqb r.answered 0 h, add-one r.answered, take-suc-set out r.answered 10 (omega arith))
+        rw (e, visible, ← ran, front-empty out r.answered (omega arith) ∙ ne_eqb r.answered 0 h, add-one r.answered, take-suc-set out r.answered 10 (omega arith))
 
 -- ---- the newline
 

@@ -12,9 +12,9 @@ use lib.Seq.{drop-drop, take_at, drop_at, paste, length-paste, take-paste, drop-
 use borrow.Author.Tests.{eqb-true, le-leb, lt-leb, leb-true, ltb-true, ltb-false, leb-false}
 use Rattle.registers.specs.Text.{index_of, index_after}
 use Rattle.registers.specs.Text.{Text, if◌then◌otherwise◌, empty}
-use Rattle.interpreter.specs.Box.{Memory, memory, store_size, most_answer}
+use Rattle.interpreter.specs.Box.{Memory, memory, answer_is, most_answer}
 use Rattle.interpreter.specs.Events.{happens, taken}
-use Rattle.interpreter.specs.FlowParts.{flow_box, FlowFits, first_line, FlowFed}
+use Rattle.interpreter.specs.FlowParts.{flow_box, first_line, Untold, FlowFed}
 use Rattle.interpreter.specs.Server.{lines_of, Service, service, served_line, serves}
 use Rattle.interpreter.specs.ServerParts.{service_at, FlowServed}
 use Rattle.interpreter.specs.declared.flow.Flow.{Flow}
@@ -45,28 +45,24 @@ pub serves_on : (s : Service) (l : Text) (ls : List Text) → most_answer ≤ le
 unfolding serves if◌then◌otherwise◌
 serves_on s l ls h = rw (le-leb most_answer (length s.rest) h)
 
--- the answer is gone
-abbrev pub taken_from : Flow → Flow
-taken_from f = record { present = record { settings = f.present.settings; status = f.present.status; answered = 0 }; filled = f.filled; overlong = f.overlong; read = f.read; count = f.count }
-
 module _ (f r : Flow) (line out : Text) (m : Memory) (bytes lines left : Text) (m' : Memory) (w : FlowFed f line out m bytes r lines left m') (outs : length left ≡ most_answer) where
   pub served-one : (read : ℕ) (answers rest : Text) → most_answer ≤ length rest
       → served_line (service (flow_box f line out m) read answers rest) bytes
-      ≡ service (flow_box (taken_from r) lines left m') (read + length bytes) (answers ++ take r.present.answered left) (drop r.present.answered rest)
+      ≡ service (answer_is [] (flow_box r lines left m')) (read + length bytes) (answers ++ take r.present.answered left) (drop r.present.answered rest)
   unfolding served_line happens taken if◌then◌otherwise◌
   served-one read answers rest h = go (eqb r.present.answered 0) refl
     where
       n : length (take r.present.answered left) ≡ r.present.answered
-      n = let k = w.fits.waiting in rw length-take (omega arith)
+      n = let k = r.answer_fits in rw length-take (omega arith)
 
       within : r.present.answered ≤ length rest
-      within = let k = w.fits.waiting in omega arith
+      within = let k = r.answer_fits in omega arith
 
       is : empty (take r.present.answered left) ≡ eqb r.present.answered 0
       is = front-empty left r.present.answered (omega arith)
 
       go : (t : Bool) → eqb r.present.answered 0 ≡ t → served_line (service (flow_box f line out m) read answers rest) bytes
-          ≡ service (flow_box (taken_from r) lines left m') (read + length bytes) (answers ++ take r.present.answered left) (drop r.present.answered rest)
+          ≡ service (answer_is [] (flow_box r lines left m')) (read + length bytes) (answers ++ take r.present.answered left) (drop r.present.answered rest)
       go true e = let z = eqb-true r.present.answered 0 e in rw (← w.box, is, z, append-nil answers)
       go false e =
           rw (← w.box, is, e, n, le-leb r.present.answered (length rest) within, take_at (take r.present.answered left) (drop r.present.answered rest) r.present.answered n, drop_at (take r.present.answered left) (drop r.present.answered rest) r.present.answered n)
@@ -74,16 +70,14 @@ module _ (f r : Flow) (line out : Text) (m : Memory) (bytes lines left : Text) (
 -- ---- the loop over a chunk's lines
 
 pub record Serving (begun : Service) (room : ℕ) (input line out store output : Text) (f : Flow) (written : ℕ) : Type 0 where
-  pub fits : FlowFits f
-  pub sized : length store ≡ store_size
   pub outputs : length output ≡ room
   pub read-in : f.read ≤ length input
   pub wrote : written ≤ length output
   pub left : serves (service_at f written line out (memory store) output) (lines_of (drop f.read input)) ≡ serves begun (lines_of input)
 
-pub serve-begun : (f : Flow) (line out store input output : Text) → FlowFits f → f.read ≡ 0 → length store ≡ store_size
+pub serve-begun : (f : Flow) (line out store input output : Text) → f.read ≡ 0
     → Serving (service (flow_box f line out (memory store)) 0 [] output) (length output) input line out store output f 0
-serve-begun f line out store input output w z l = record { fits = w; sized = l; outputs = refl; read-in = omega arith; wrote = zero-le; left = rw z }
+serve-begun f line out store input output z = record { outputs = refl; read-in = omega arith; wrote = zero-le; left = rw z }
 
 module _ (begun : Service) (room : ℕ) (input line out store output : Text) (f : Flow) (written : ℕ)
     (g : Serving begun room input line out store output f written) where
@@ -113,12 +107,12 @@ module _ (begun : Service) (room : ℕ) (input line out store output : Text) (f 
           let n = w.read in
           omega arith
 
-      pub serve-on : length store' ≡ length store → length out' ≡ most_answer → (end : ℕ) (output' : Text) → end ≡ written + r.present.answered → output' ≡ paste output written out' r.present.answered
-          → Serving begun room input line' out' store' output' (taken_from r) end
-      serve-on kept outs end output' e u =
+      pub serve-on : length out' ≡ most_answer → (end : ℕ) (output' : Text) → end ≡ written + r.present.answered → output' ≡ paste output written out' r.present.answered
+          → (v : Flow) → Untold r v → Serving begun room input line' out' store' output' v end
+      serve-on outs end output' e u v same =
           let h = more-input in
           let free = more_room in
-          let few = w.fits.waiting in
+          let few = r.answer_fits in
           let is = w.read in
           let d = length-drop f.read input in
           let k = length-drop written output in
@@ -127,24 +121,24 @@ module _ (begun : Service) (room : ℕ) (input line out store output : Text) (f 
           let rest = lines-first (drop f.read input) (omega arith) in
           let left_over : drop (length first) (drop f.read input) ≡ drop r.read input = rw (is, drop-drop) in
           let one = served-one f r line out (memory store) first line' out' (memory store') w outs f.read (take written output) (drop written output) (omega arith) in
-          let now : service_at (taken_from r) end line' out' (memory store') output' ≡ served_line (service_at f written line out (memory store) output) first =
-          rw (is, e, u, take-paste output written out' r.present.answered (omega arith) (omega arith), drop-paste output written out' r.present.answered (omega arith) (omega arith), ← drop-drop r.present.answered written output)
+          let read = same.read in
+          let boxes : flow_box v line' out' (memory store') ≡ answer_is [] (flow_box r line' out' (memory store')) = rw (same.settings, same.status, same.answered, same.filled, same.overlong) in
+          let now : service_at v end line' out' (memory store') output' ≡ served_line (service_at f written line out (memory store) output) first =
+          rw (boxes, read, is, e, u, take-paste output written out' r.present.answered (omega arith) (omega arith), drop-paste output written out' r.present.answered (omega arith) (omega arith), ← drop-drop r.present.answered written output)
           (sym one) in
           record {
-            fits = record { filled = w.fits.filled; waiting = zero-le; queued = w.fits.queued; few = w.fits.few };
-            sized = kept ∙ g.sized;
             outputs = rw u (long ∙ g.outputs);
             read-in = omega arith;
             wrote = rw (u, long) (omega arith);
             left =
-                rw now
+                rw (now, read)
                 (sym (serves_on (service_at f written line out (memory store) output) _ (lines_of (drop r.read input)) (omega arith)) ∙ (rw (rest, left_over) at g.left));
           }
 
   pub serve-end : (f₀ : Flow) (line₀ out₀ : Text) (m₀ : Memory) (output₀ : Text) → begun ≡ service (flow_box f₀ line₀ out₀ m₀) 0 [] output₀
       → Goes false → FlowServed f₀ line₀ out₀ m₀ input output₀ (record { flow = f; written = written }) line out (memory store) output
   unfolding lines_of serves
-  serve-end f₀ line₀ out₀ m₀ output₀ b stop = record { fits = g.fits; within = g.wrote; service = rw b at (ends (ltb f.read (length input)) refl) }
+  serve-end f₀ line₀ out₀ m₀ output₀ b stop = record { within = g.wrote; service = rw b at (ends (ltb f.read (length input)) refl) }
     where
       here : Service
       here = service_at f written line out (memory store) output

@@ -65,40 +65,36 @@ returns-then-text-eq0 c =
     let a = c.args in
     let none = no_bytes a.text.now c.if-text-eq0.true in
     let least = c.requires.asked_in_bounds.0 in
-    rw (c.obey_query.ensures, none) (value-asked a.settings a.heading.place a.heading.asked (rw none at least))
+    rw (c.obey_query.ensures, none) (value-asked a.settings a.row a.asked (rw none at least))
 
 pub returns-in-Refused : goal.returns-in-Refused
 returns-in-Refused c =
     let a = c.args in
-    let h = a.heading in
-    barred a.settings h.place h.asked a.text.now c.requires.table_value.1 c.if-text-eq0.false c.requires.asked_in_bounds.1
-    (refused-by (read_is h.place h.asked a.text.now _ _ c.setting_takes.ensures c.read_parameter-parameter.ensures) c.in-Refused.is)
+    barred a.settings a.row a.asked a.text.now c.requires.row_lt_count c.if-text-eq0.false c.requires.asked_in_bounds.1
+    (refused-by (read_is a.row a.asked a.text.now _ _ c.setting_takes.ensures c.read_parameter-parameter.ensures) c.in-Refused.is)
 
 pub word_value-requires : goal.word_value-requires
 word_value-requires c =
     let a = c.args in
-    let h = a.heading in
-    let few = words-few h.place c.requires.table_value.1 in
-    omega (arith, placed h.place h.asked a.text.now _ _ c.setting_takes.ensures c.read_parameter-parameter.ensures _ c.in-Word.is)
+    let few = words-few a.row c.requires.row_lt_count in
+    omega (arith, placed a.row a.asked a.text.now _ _ c.setting_takes.ensures c.read_parameter-parameter.ensures _ c.in-Word.is)
 
 pub returns-in-Word : goal.returns-in-Word
 returns-in-Word c =
     let a = c.args in
-    let h = a.heading in
     let takes = c.setting_takes.ensures in
     let read = c.read_parameter-parameter.ensures in
     rw c.decide_value.ensures
-    (ap (λ z. put_fit a.settings h.place h.asked (Within z) On) (back c.word_value.result c.word_value.type_inv ∙ c.word_value.ensures)
-    ∙ ap (λ f. put_fit a.settings h.place h.asked f On)
-    (fit-within a.settings h.place _ (word-within a.settings h.place c.requires.table_value.1 c.in-Word.word (placed h.place h.asked a.text.now _ _ takes read _ c.in-Word.is)))
-    ∙ ap (put_fit a.settings h.place h.asked _) (word_on (kind_of h.place) c.in-Word.word)
-    ∙ carried a.settings h.place h.asked a.text.now c.requires.table_value.1 c.if-text-eq0.false c.requires.asked_in_bounds.1
-    (word-by (read_is h.place h.asked a.text.now _ _ takes read) c.in-Word.is))
+    (ap (λ z. put_fit a.settings a.row a.asked (Within z) On) (back c.word_value.result c.word_value.type_inv ∙ c.word_value.ensures)
+    ∙ ap (λ f. put_fit a.settings a.row a.asked f On)
+    (fit-within a.settings a.row _ (word-within a.settings a.row c.requires.row_lt_count c.in-Word.word (placed a.row a.asked a.text.now _ _ takes read _ c.in-Word.is)))
+    ∙ ap (put_fit a.settings a.row a.asked _) (word_on (kind_of a.row) c.in-Word.word)
+    ∙ carried a.settings a.row a.asked a.text.now c.requires.row_lt_count c.if-text-eq0.false c.requires.asked_in_bounds.1
+    (word-by (read_is a.row a.asked a.text.now _ _ takes read) c.in-Word.is))
 
 pub returns-in-Figure : goal.returns-in-Figure
 returns-in-Figure c =
     let a = c.args in
-    let h = a.heading in
     rw (c.decide_value-in-Figure.ensures, c.figure_value.ensures)
-    (carried a.settings h.place h.asked a.text.now c.requires.table_value.1 c.if-text-eq0.false c.requires.asked_in_bounds.1
-    (figure-by (read_is h.place h.asked a.text.now _ _ c.setting_takes.ensures c.read_parameter-parameter.ensures) c.in-Figure.is))
+    (carried a.settings a.row a.asked a.text.now c.requires.row_lt_count c.if-text-eq0.false c.requires.asked_in_bounds.1
+    (figure-by (read_is a.row a.asked a.text.now _ _ c.setting_takes.ensures c.read_parameter-parameter.ensures) c.in-Figure.is))

@@ -10,19 +10,19 @@ pub returns-in-Outside : goal.returns-in-Outside
 unfolding put_fit
 returns-in-Outside c = rw c.in-Outside.is
 
-pub returns-then-heading : goal.returns-then-heading
+pub returns-then-asked : goal.returns-then-asked
 unfolding put_fit
-returns-then-heading c =
+returns-then-asked c =
     let b = back c.in-Within.value c.in-Within.known_told-1-own.given.0.1 in
-    rw (c.in-Within.is, c.if-heading.true, c.obey_query.ensures, b)
+    rw (c.in-Within.is, c.if-asked.true, c.obey_query.ensures, b)
 
 pub returns-then-not-accepts : goal.returns-then-not-accepts
 unfolding put_fit check ◌>>◌
-returns-then-not-accepts c = rw (c.in-Within.is, c.if-heading.false, sym c.accepts.ensures ∙ not-true _ c.if-not-accepts.true-raw)
+returns-then-not-accepts c = rw (c.in-Within.is, c.if-asked.false, sym c.accepts.ensures ∙ not-true _ c.if-not-accepts.true-raw)
 
 pub returns-in-Within : goal.returns-in-Within
 unfolding put_fit check ◌>>◌
 returns-in-Within c =
     let b = back c.in-Within.value c.in-Within.known_told-1-own.given.0.1 in
     let accepted = sym c.accepts.ensures ∙ c.if-not-accepts.false in
-    rw (c.in-Within.is, c.if-heading.false, accepted, b)
+    rw (c.in-Within.is, c.if-asked.false, accepted, b)

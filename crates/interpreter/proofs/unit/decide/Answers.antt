@@ -5,6 +5,7 @@ use Prim.Native.Nat.{ℕ, ◌≤◌, ◌<◌}
 use native.Mathlib.Omega.{arith}
 use lib.ListN.{length}
 use borrow.Author.Tests.{not-true, not-false, le-leb, lt-leb}
+use Rattle.registers.specs.Error.{meant}
 use Rattle.registers.specs.Check.{check, ◌>>◌}
 use Rattle.registers.specs.Settings.{count}
 use Rattle.interpreter.specs.Parameter.{parameters, least, greatest, deed_of}
@@ -18,34 +19,28 @@ use Rattle.interpreter.proofs.parameter.Cuts.{parts_are}
 use Rattle.interpreter.proofs.parameter.Decisions.{register-is, saving-is, label_is}
 use Rattle.interpreter.proofs.parameter.ByKind.{too_few, enough, greatest-one}
 use Rattle.interpreter.proofs.unit.Found.{setting-known}
-use Rattle.interpreter.proofs.unit.Laws.{checked, has-empty, not_found, no-channel, found}
+use Rattle.interpreter.proofs.unit.Laws.{checked, has-empty, not_found, found}
 use Rattle.interpreter.proofs.unit.decide.Goals as goal
 
 pub returns-then-not-counted : goal.returns-then-not-counted
 returns-then-not-counted c =
     let a = c.args in
-    sym (has-empty a.settings a.heading.place a.heading.asked a.text.now c.count-counted.result c.count-counted.ensures (not-true _ c.if-not-counted.true))
+    sym (has-empty a.settings (meant a.heading.place) a.heading.asked a.text.now c.count-counted.result c.count-counted.ensures (not-true _ c.if-not-counted.true))
 
-pub returns-then-place-eq-NOWHERE : goal.returns-then-place-eq-NOWHERE
-returns-then-place-eq-NOWHERE c =
+pub returns-in-Err : goal.returns-in-Err
+returns-in-Err c =
     let a = c.args in
     let full = not-false _ c.if-not-counted.false in
-    sym (not_found a.settings a.heading.place a.heading.asked a.text.now c.count-counted.result c.count-counted.ensures full (omega arith))
-
-pub returns-then-place-eq-NO_CHANNEL : goal.returns-then-place-eq-NO_CHANNEL
-returns-then-place-eq-NO_CHANNEL c =
-    let a = c.args in
-    let full = not-false _ c.if-not-counted.false in
-    sym (no-channel a.settings a.heading.place a.heading.asked a.text.now c.count-counted.result c.count-counted.ensures full (omega arith))
+    sym (not_found a.settings (meant a.heading.place) a.heading.asked a.text.now c.count-counted.result c.count-counted.ensures full _ (ap meant c.in-Err.is))
 
 pub returns-then-most-counted : goal.returns-then-most-counted
 unfolding check ◌>>◌
 returns-then-most-counted c =
     let parts-of : ℕ = c.count-counted.result.parts in
     let most-of : ℕ = greatest c.role_of-role.result c.args.heading.asked in
-    let says : let a = c.args in decided a.settings a.heading.place a.heading.asked a.text.now ≡ checked a.settings c.role_of-role.result a.heading.asked parts-of (parameters a.text.now) = let a = c.args in
+    let says : let a = c.args in decided a.settings (meant a.heading.place) a.heading.asked a.text.now ≡ checked a.settings c.role_of-role.result a.heading.asked parts-of (parameters a.text.now) = let a = c.args in
     let full = not-false _ c.if-not-counted.false in
-    found a.settings a.heading.place a.heading.asked a.text.now c.count-counted.result c.count-counted.ensures full (omega arith) c.role_of-role.result c.role_of-role.ensures in
+    found a.settings (meant a.heading.place) a.heading.asked a.text.now c.count-counted.result c.count-counted.ensures full c.in-Ok.place (ap meant c.in-Ok.is) c.role_of-role.result c.role_of-role.ensures in
     let m = c.most-most.ensures in sym (says ∙ rw (lt-leb parts-of most-of (omega arith)))
 
 pub returns-then-asked-counted : goal.returns-then-asked-counted
@@ -54,9 +49,9 @@ returns-then-asked-counted c =
     let parts-of : ℕ = c.count-counted.result.parts in
     let most-of : ℕ = greatest c.role_of-role.result c.args.heading.asked in
     let fewest-of : ℕ = least c.role_of-role.result c.args.heading.asked in
-    let says : let a = c.args in decided a.settings a.heading.place a.heading.asked a.text.now ≡ checked a.settings c.role_of-role.result a.heading.asked parts-of (parameters a.text.now) = let a = c.args in
+    let says : let a = c.args in decided a.settings (meant a.heading.place) a.heading.asked a.text.now ≡ checked a.settings c.role_of-role.result a.heading.asked parts-of (parameters a.text.now) = let a = c.args in
     let full = not-false _ c.if-not-counted.false in
-    found a.settings a.heading.place a.heading.asked a.text.now c.count-counted.result c.count-counted.ensures full (omega arith) c.role_of-role.result c.role_of-role.ensures in
+    found a.settings (meant a.heading.place) a.heading.asked a.text.now c.count-counted.result c.count-counted.ensures full c.in-Ok.place (ap meant c.in-Ok.is) c.role_of-role.result c.role_of-role.ensures in
     let most-let : parts-of ≤ most-of = let m = c.most-most.ensures in omega arith in
     let a = c.args in
     let few = too_few c.role_of-role.result parts-of a.heading.asked (rw c.most-most.ensures at c.if-asked-counted.true) in
@@ -71,16 +66,16 @@ decide_setting-requires c =
     let least-let : fewest-of ≤ parts-of = enough c.role_of-role.result parts-of c.args.heading.asked (rw c.most-most.ensures at c.if-asked-counted.false) in
     let given : let t = c.args.text.now in parts_of t ≡ parameters t = let a = c.args in
     let m = most-let in
-    parts_are a.text.now c.requires.2 c.count-counted.result c.count-counted.ensures (omega (arith, greatest-one c.role_of-role.result a.heading.asked)) in
+    parts_are a.text.now c.requires c.count-counted.result c.count-counted.ensures (omega (arith, greatest-one c.role_of-role.result a.heading.asked)) in
     let many : parts-of ≡ length (parts_of c.args.text.now) = c.count-counted.ensures.parts ∙ sym (ap length given) in
-    let setting-told : let row = c.args.heading.place in (c.role_of-role.result ≡ Setting row) × (row < count) = let a = c.args in
-    let known = setting-known a.heading.place _ (omega arith) (sym c.role_of-role.ensures ∙ c.in-Setting.is) in
-    (c.in-Setting.is ∙ ap Setting known.0, known.1) in
+    let setting-told : let row = c.in-Setting.row in (c.role_of-role.result ≡ Setting row) × (row < count) =
+    let known = setting-known c.in-Ok.place c.in-Setting.row (rw c.in-Ok.is at c.args.heading.is_there) (sym c.role_of-role.ensures ∙ c.in-Setting.is) in
+    (c.in-Setting.is, omega (arith, known.0, known.1)) in
     let a = c.args in
     let told = setting-told in
     let few = subst (λ (r : Role). least r a.heading.asked ≤ parts-of) told.0 least-let in
     let most = subst (λ (r : Role). parts-of ≤ greatest r a.heading.asked) told.0 most-let in
-    record { table_value = (c.requires.0, told.1); asked_in_bounds = (omega (arith, few, many), omega (arith, most, many)) }
+    record { row_lt_count = told.1; asked_in_bounds = (omega (arith, few, many), omega (arith, most, many)) }
 
 pub returns-in-Setting : goal.returns-in-Setting
 unfolding check ◌>>◌
@@ -88,25 +83,22 @@ returns-in-Setting c =
     let parts-of : ℕ = c.count-counted.result.parts in
     let most-of : ℕ = greatest c.role_of-role.result c.args.heading.asked in
     let fewest-of : ℕ = least c.role_of-role.result c.args.heading.asked in
-    let says : let a = c.args in decided a.settings a.heading.place a.heading.asked a.text.now ≡ checked a.settings c.role_of-role.result a.heading.asked parts-of (parameters a.text.now) = let a = c.args in
+    let says : let a = c.args in decided a.settings (meant a.heading.place) a.heading.asked a.text.now ≡ checked a.settings c.role_of-role.result a.heading.asked parts-of (parameters a.text.now) = let a = c.args in
     let full = not-false _ c.if-not-counted.false in
-    found a.settings a.heading.place a.heading.asked a.text.now c.count-counted.result c.count-counted.ensures full (omega arith) c.role_of-role.result c.role_of-role.ensures in
+    found a.settings (meant a.heading.place) a.heading.asked a.text.now c.count-counted.result c.count-counted.ensures full c.in-Ok.place (ap meant c.in-Ok.is) c.role_of-role.result c.role_of-role.ensures in
     let most-let : parts-of ≤ most-of = let m = c.most-most.ensures in omega arith in
     let least-let : fewest-of ≤ parts-of = enough c.role_of-role.result parts-of c.args.heading.asked (rw c.most-most.ensures at c.if-asked-counted.false) in
     let given : let t = c.args.text.now in parts_of t ≡ parameters t = let a = c.args in
     let m = most-let in
-    parts_are a.text.now c.requires.2 c.count-counted.result c.count-counted.ensures (omega (arith, greatest-one c.role_of-role.result a.heading.asked)) in
-    let passes : (r : Role) → let a = c.args in c.role_of-role.result ≡ r → (d : Decision) → meant_deed d ≡ deed_of a.settings r a.heading.asked (parts_of a.text.now) → meant_deed d ≡ decided a.settings a.heading.place a.heading.asked a.text.now = λ r q d is. let a = c.args in
+    parts_are a.text.now c.requires c.count-counted.result c.count-counted.ensures (omega (arith, greatest-one c.role_of-role.result a.heading.asked)) in
+    let passes : (r : Role) → let a = c.args in c.role_of-role.result ≡ r → (d : Decision) → meant_deed d ≡ deed_of a.settings r a.heading.asked (parts_of a.text.now) → meant_deed d ≡ decided a.settings (meant a.heading.place) a.heading.asked a.text.now = λ r q d is. let a = c.args in
     let m = most-let in
     let said = subst (λ (r : Role). meant_deed d ≡ deed_of a.settings r a.heading.asked (parts_of a.text.now)) (sym q) is in
     (rw given at said) ∙ sym (says ∙ rw (le-leb parts-of most-of m, le-leb fewest-of parts-of least-let)) in
-    let setting-told : let row = c.args.heading.place in (c.role_of-role.result ≡ Setting row) × (row < count) = let a = c.args in
-    let known = setting-known a.heading.place _ (omega arith) (sym c.role_of-role.ensures ∙ c.in-Setting.is) in
-    (c.in-Setting.is ∙ ap Setting known.0, known.1) in
+    let setting-told : let row = c.in-Setting.row in (c.role_of-role.result ≡ Setting row) × (row < count) =
+    let known = setting-known c.in-Ok.place c.in-Setting.row (rw c.in-Ok.is at c.args.heading.is_there) (sym c.role_of-role.ensures ∙ c.in-Setting.is) in
+    (c.in-Setting.is, omega (arith, known.0, known.1)) in
     passes _ setting-told.0 c.decide_setting.result c.decide_setting.ensures
-
-pub decide_register-requires : goal.decide_register-requires
-decide_register-requires c = c.requires.0
 
 pub returns-in-Register : goal.returns-in-Register
 unfolding check ◌>>◌
@@ -114,16 +106,16 @@ returns-in-Register c =
     let parts-of : ℕ = c.count-counted.result.parts in
     let most-of : ℕ = greatest c.role_of-role.result c.args.heading.asked in
     let fewest-of : ℕ = least c.role_of-role.result c.args.heading.asked in
-    let says : let a = c.args in decided a.settings a.heading.place a.heading.asked a.text.now ≡ checked a.settings c.role_of-role.result a.heading.asked parts-of (parameters a.text.now) = let a = c.args in
+    let says : let a = c.args in decided a.settings (meant a.heading.place) a.heading.asked a.text.now ≡ checked a.settings c.role_of-role.result a.heading.asked parts-of (parameters a.text.now) = let a = c.args in
     let full = not-false _ c.if-not-counted.false in
-    found a.settings a.heading.place a.heading.asked a.text.now c.count-counted.result c.count-counted.ensures full (omega arith) c.role_of-role.result c.role_of-role.ensures in
+    found a.settings (meant a.heading.place) a.heading.asked a.text.now c.count-counted.result c.count-counted.ensures full c.in-Ok.place (ap meant c.in-Ok.is) c.role_of-role.result c.role_of-role.ensures in
     let most-let : parts-of ≤ most-of = let m = c.most-most.ensures in omega arith in
     let least-let : fewest-of ≤ parts-of = enough c.role_of-role.result parts-of c.args.heading.asked (rw c.most-most.ensures at c.if-asked-counted.false) in
     let given : let t = c.args.text.now in parts_of t ≡ parameters t = let a = c.args in
     let m = most-let in
-    parts_are a.text.now c.requires.2 c.count-counted.result c.count-counted.ensures (omega (arith, greatest-one c.role_of-role.result a.heading.asked)) in
+    parts_are a.text.now c.requires c.count-counted.result c.count-counted.ensures (omega (arith, greatest-one c.role_of-role.result a.heading.asked)) in
     let many : parts-of ≡ length (parts_of c.args.text.now) = c.count-counted.ensures.parts ∙ sym (ap length given) in
-    let passes : (r : Role) → let a = c.args in c.role_of-role.result ≡ r → (d : Decision) → meant_deed d ≡ deed_of a.settings r a.heading.asked (parts_of a.text.now) → meant_deed d ≡ decided a.settings a.heading.place a.heading.asked a.text.now = λ r q d is. let a = c.args in
+    let passes : (r : Role) → let a = c.args in c.role_of-role.result ≡ r → (d : Decision) → meant_deed d ≡ deed_of a.settings r a.heading.asked (parts_of a.text.now) → meant_deed d ≡ decided a.settings (meant a.heading.place) a.heading.asked a.text.now = λ r q d is. let a = c.args in
     let m = most-let in
     let said = subst (λ (r : Role). meant_deed d ≡ deed_of a.settings r a.heading.asked (parts_of a.text.now)) (sym q) is in
     (rw given at said) ∙ sym (says ∙ rw (le-leb parts-of most-of m, le-leb fewest-of parts-of least-let)) in
@@ -138,22 +130,19 @@ returns-in-Only c =
     let parts-of : ℕ = c.count-counted.result.parts in
     let most-of : ℕ = greatest c.role_of-role.result c.args.heading.asked in
     let fewest-of : ℕ = least c.role_of-role.result c.args.heading.asked in
-    let says : let a = c.args in decided a.settings a.heading.place a.heading.asked a.text.now ≡ checked a.settings c.role_of-role.result a.heading.asked parts-of (parameters a.text.now) = let a = c.args in
+    let says : let a = c.args in decided a.settings (meant a.heading.place) a.heading.asked a.text.now ≡ checked a.settings c.role_of-role.result a.heading.asked parts-of (parameters a.text.now) = let a = c.args in
     let full = not-false _ c.if-not-counted.false in
-    found a.settings a.heading.place a.heading.asked a.text.now c.count-counted.result c.count-counted.ensures full (omega arith) c.role_of-role.result c.role_of-role.ensures in
+    found a.settings (meant a.heading.place) a.heading.asked a.text.now c.count-counted.result c.count-counted.ensures full c.in-Ok.place (ap meant c.in-Ok.is) c.role_of-role.result c.role_of-role.ensures in
     let most-let : parts-of ≤ most-of = let m = c.most-most.ensures in omega arith in
     let least-let : fewest-of ≤ parts-of = enough c.role_of-role.result parts-of c.args.heading.asked (rw c.most-most.ensures at c.if-asked-counted.false) in
     let given : let t = c.args.text.now in parts_of t ≡ parameters t = let a = c.args in
     let m = most-let in
-    parts_are a.text.now c.requires.2 c.count-counted.result c.count-counted.ensures (omega (arith, greatest-one c.role_of-role.result a.heading.asked)) in
-    let passes : (r : Role) → let a = c.args in c.role_of-role.result ≡ r → (d : Decision) → meant_deed d ≡ deed_of a.settings r a.heading.asked (parts_of a.text.now) → meant_deed d ≡ decided a.settings a.heading.place a.heading.asked a.text.now = λ r q d is. let a = c.args in
+    parts_are a.text.now c.requires c.count-counted.result c.count-counted.ensures (omega (arith, greatest-one c.role_of-role.result a.heading.asked)) in
+    let passes : (r : Role) → let a = c.args in c.role_of-role.result ≡ r → (d : Decision) → meant_deed d ≡ deed_of a.settings r a.heading.asked (parts_of a.text.now) → meant_deed d ≡ decided a.settings (meant a.heading.place) a.heading.asked a.text.now = λ r q d is. let a = c.args in
     let m = most-let in
     let said = subst (λ (r : Role). meant_deed d ≡ deed_of a.settings r a.heading.asked (parts_of a.text.now)) (sym q) is in
     (rw given at said) ∙ sym (says ∙ rw (le-leb parts-of most-of m, le-leb fewest-of parts-of least-let)) in
     passes _ c.in-Only.is (Obey c.in-Only.deed) refl
-
-pub decide_place-requires : goal.decide_place-requires
-decide_place-requires c = c.requires.0
 
 pub returns-in-Saving : goal.returns-in-Saving
 unfolding check ◌>>◌
@@ -161,16 +150,16 @@ returns-in-Saving c =
     let parts-of : ℕ = c.count-counted.result.parts in
     let most-of : ℕ = greatest c.role_of-role.result c.args.heading.asked in
     let fewest-of : ℕ = least c.role_of-role.result c.args.heading.asked in
-    let says : let a = c.args in decided a.settings a.heading.place a.heading.asked a.text.now ≡ checked a.settings c.role_of-role.result a.heading.asked parts-of (parameters a.text.now) = let a = c.args in
+    let says : let a = c.args in decided a.settings (meant a.heading.place) a.heading.asked a.text.now ≡ checked a.settings c.role_of-role.result a.heading.asked parts-of (parameters a.text.now) = let a = c.args in
     let full = not-false _ c.if-not-counted.false in
-    found a.settings a.heading.place a.heading.asked a.text.now c.count-counted.result c.count-counted.ensures full (omega arith) c.role_of-role.result c.role_of-role.ensures in
+    found a.settings (meant a.heading.place) a.heading.asked a.text.now c.count-counted.result c.count-counted.ensures full c.in-Ok.place (ap meant c.in-Ok.is) c.role_of-role.result c.role_of-role.ensures in
     let most-let : parts-of ≤ most-of = let m = c.most-most.ensures in omega arith in
     let least-let : fewest-of ≤ parts-of = enough c.role_of-role.result parts-of c.args.heading.asked (rw c.most-most.ensures at c.if-asked-counted.false) in
     let given : let t = c.args.text.now in parts_of t ≡ parameters t = let a = c.args in
     let m = most-let in
-    parts_are a.text.now c.requires.2 c.count-counted.result c.count-counted.ensures (omega (arith, greatest-one c.role_of-role.result a.heading.asked)) in
+    parts_are a.text.now c.requires c.count-counted.result c.count-counted.ensures (omega (arith, greatest-one c.role_of-role.result a.heading.asked)) in
     let many : parts-of ≡ length (parts_of c.args.text.now) = c.count-counted.ensures.parts ∙ sym (ap length given) in
-    let passes : (r : Role) → let a = c.args in c.role_of-role.result ≡ r → (d : Decision) → meant_deed d ≡ deed_of a.settings r a.heading.asked (parts_of a.text.now) → meant_deed d ≡ decided a.settings a.heading.place a.heading.asked a.text.now = λ r q d is. let a = c.args in
+    let passes : (r : Role) → let a = c.args in c.role_of-role.result ≡ r → (d : Decision) → meant_deed d ≡ deed_of a.settings r a.heading.asked (parts_of a.text.now) → meant_deed d ≡ decided a.settings (meant a.heading.place) a.heading.asked a.text.now = λ r q d is. let a = c.args in
     let m = most-let in
     let said = subst (λ (r : Role). meant_deed d ≡ deed_of a.settings r a.heading.asked (parts_of a.text.now)) (sym q) is in
     (rw given at said) ∙ sym (says ∙ rw (le-leb parts-of most-of m, le-leb fewest-of parts-of least-let)) in
@@ -186,16 +175,16 @@ returns-in-Label c =
     let parts-of : ℕ = c.count-counted.result.parts in
     let most-of : ℕ = greatest c.role_of-role.result c.args.heading.asked in
     let fewest-of : ℕ = least c.role_of-role.result c.args.heading.asked in
-    let says : let a = c.args in decided a.settings a.heading.place a.heading.asked a.text.now ≡ checked a.settings c.role_of-role.result a.heading.asked parts-of (parameters a.text.now) = let a = c.args in
+    let says : let a = c.args in decided a.settings (meant a.heading.place) a.heading.asked a.text.now ≡ checked a.settings c.role_of-role.result a.heading.asked parts-of (parameters a.text.now) = let a = c.args in
     let full = not-false _ c.if-not-counted.false in
-    found a.settings a.heading.place a.heading.asked a.text.now c.count-counted.result c.count-counted.ensures full (omega arith) c.role_of-role.result c.role_of-role.ensures in
+    found a.settings (meant a.heading.place) a.heading.asked a.text.now c.count-counted.result c.count-counted.ensures full c.in-Ok.place (ap meant c.in-Ok.is) c.role_of-role.result c.role_of-role.ensures in
     let most-let : parts-of ≤ most-of = let m = c.most-most.ensures in omega arith in
     let least-let : fewest-of ≤ parts-of = enough c.role_of-role.result parts-of c.args.heading.asked (rw c.most-most.ensures at c.if-asked-counted.false) in
     let given : let t = c.args.text.now in parts_of t ≡ parameters t = let a = c.args in
     let m = most-let in
-    parts_are a.text.now c.requires.2 c.count-counted.result c.count-counted.ensures (omega (arith, greatest-one c.role_of-role.result a.heading.asked)) in
+    parts_are a.text.now c.requires c.count-counted.result c.count-counted.ensures (omega (arith, greatest-one c.role_of-role.result a.heading.asked)) in
     let many : parts-of ≡ length (parts_of c.args.text.now) = c.count-counted.ensures.parts ∙ sym (ap length given) in
-    let passes : (r : Role) → let a = c.args in c.role_of-role.result ≡ r → (d : Decision) → meant_deed d ≡ deed_of a.settings r a.heading.asked (parts_of a.text.now) → meant_deed d ≡ decided a.settings a.heading.place a.heading.asked a.text.now = λ r q d is. let a = c.args in
+    let passes : (r : Role) → let a = c.args in c.role_of-role.result ≡ r → (d : Decision) → meant_deed d ≡ deed_of a.settings r a.heading.asked (parts_of a.text.now) → meant_deed d ≡ decided a.settings (meant a.heading.place) a.heading.asked a.text.now = λ r q d is. let a = c.args in
     let m = most-let in
     let said = subst (λ (r : Role). meant_deed d ≡ deed_of a.settings r a.heading.asked (parts_of a.text.now)) (sym q) is in
     (rw given at said) ∙ sym (says ∙ rw (le-leb parts-of most-of m, le-leb fewest-of parts-of least-let)) in
