@@ -1,9 +1,10 @@
 -- "Registers and queue": the errors that 01 and 02 raise, their numbers, the event bit of each, and their texts in SCPI-99. 222 stands for
 -- -222.
-use Rattle.std.specs.Prelude.{List, [], ◌∷◌, ◌++◌, ℕ, ◌^◌, ltb, eqb}
+use Rattle.std.specs.Prelude.{List, [], ◌∷◌, ◌++◌, ℕ, ◌^◌, ltb, eqb, Result, Ok, Err}
 use Prim.Native.Char.{code}
 use Prim.Native.String.{String}
 use Rattle.registers.specs.Text.{Text, if◌then◌otherwise◌, bytes}
+use Rattle.registers.specs.Check.{Checked, refused, passed}
 use Rattle.registers.specs.Answer.{decimal}
 use Rattle.registers.specs.declared.error.Error.{Error}
 use Rattle.registers.specs.declared.error.Error.TheVariants.{InvalidCharacter, Syntax, DataType, ParameterNotAllowed, MissingParameter, UndefinedHeader, HeaderSuffix, InvalidCharacterInNumber, ExponentTooLarge, TooManyDigits, InvalidSuffix, SuffixNotAllowed, InvalidCharacterData, StringDataError, InvalidStringData, SettingsConflict, DataOutOfRange, TooMuchData, SaveRecallMemoryLost, InputBufferOverrun, QueryInterrupted, QueryUnterminated, QueryDeadlocked}
@@ -33,6 +34,11 @@ number_of InputBufferOverrun = 363
 number_of QueryInterrupted = 410
 number_of QueryUnterminated = 420
 number_of QueryDeadlocked = 430
+
+-- what the result of a check means: a refusal by 01's number, or what the check found
+abbrev pub meant : {A : Type 0} → Result A Error → Checked A
+meant (Err e) = refused (number_of e)
+meant (Ok a) = passed a
 
 -- -350, which a full queue's sixteenth turns into
 abbrev pub overflow : ℕ

@@ -2,12 +2,9 @@
 use Rattle.std.specs.Prelude.{Bool, not, ◌&&◌, ◌||◌, [], ◌∷◌, ◌++◌, ℕ, ◌+◌, ◌-◌, ◌*◌, leb, eqb, length}
 use Prim.Native.Char.{code}
 use Rattle.registers.specs.Text.{Text, if◌then◌otherwise◌, digit, white, capital, empty, first, rest, start, after}
-use Rattle.registers.specs.Check.{Checked, refused, passed, ◌>>=◌, ◌>>◌, check}
-use Rattle.registers.specs.Error.{number_of}
+use Rattle.registers.specs.Check.{Checked, passed, ◌>>=◌, ◌>>◌, check}
 use Rattle.registers.specs.Suffix.{remains}
 use Rattle.registers.specs.declared.number.Decimal.{Decimal}
-use Rattle.registers.specs.declared.number.ReadNumber.{ReadNumber}
-use Rattle.registers.specs.declared.number.ReadNumber.TheVariants.{Refused, Number}
 use Rattle.registers.specs.declared.suffix.Power.{Power}
 use Rattle.registers.specs.declared.suffix.Quantity.{Quantity}
 
@@ -112,10 +109,3 @@ number q t =
     check 124 (leb (length (after (eqb (code "0")) (w.whole ++ w.fraction))) most_digits)
     >> check 123 (leb (numeral w.exponent) most_exponent)
     >> passed (scaled p (value_of w))
-
--- ---- what the reader's answer means
-
--- a refusal by 01's number, a number by its value
-abbrev pub meant : ReadNumber → Checked Decimal
-meant (Refused e) = refused (number_of e)
-meant (Number d) = passed d

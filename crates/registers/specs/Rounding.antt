@@ -1,12 +1,10 @@
 -- Check 7: "The exact decimal value is rounded to the row's step, halves away from zero, and only then compared". And
 -- what was rounded off: "whether the exact value was on the step, below or above it" (02, #107).
-use Rattle.std.specs.Prelude.{◌≡◌, Bool, true, false, not, ◌&&◌, ℕ, ◌+◌, ◌*◌, ◌/◌, ◌^◌, eqb, ltb, ℤ, pos, neg_ℤ, ◌*ℤ◌}
+use Rattle.std.specs.Prelude.{◌≡◌, Bool, true, false, not, ◌&&◌, ℕ, ◌+◌, ◌*◌, ◌/◌, ◌^◌, eqb, ltb, ℤ, pos, neg_ℤ, ◌*ℤ◌, Option, Some, None}
 use Rattle.std.specs.Int.Signed.{le_z, lt_z}
 use Rattle.registers.specs.Text.{if◌then◌otherwise◌}
 use Rattle.registers.specs.Check.{Checked, refused, passed, ◌>>◌, check}
 use Rattle.registers.specs.declared.number.Decimal.{Decimal}
-use Rattle.registers.specs.declared.rounding.Fit.{Fit}
-use Rattle.registers.specs.declared.rounding.Fit.TheVariants.{Within, Outside}
 use Rattle.registers.specs.declared.rounding.Rounded.{Rounded}
 use Rattle.registers.specs.declared.rounding.Side.{Side}
 use Rattle.registers.specs.declared.rounding.Side.TheVariants.{On, Below, Above}
@@ -59,10 +57,10 @@ switched_on d = not (eqb (size_in 1 d) 0)
 
 -- ---- what the answer means
 
--- a value in steps, or 01's number for one outside the limits
-abbrev pub meant_fit : Fit → Checked ℤ
-meant_fit (Within v) = passed v
-meant_fit Outside = refused 222
+-- a value in steps; none is 01's number for one outside the limits
+abbrev pub meant_fit : Option ℤ → Checked ℤ
+meant_fit (Some v) = passed v
+meant_fit None = refused 222
 
 -- how the exact value stands to the rounded one: it is that value, or it is below or above it
 abbrev pub Stands : Side → ℤ → ℤ → Type 0

@@ -4,18 +4,10 @@ use Prim.Native.Char.{code}
 use Prim.Native.String.{String}
 use Rattle.registers.specs.Text.{Text, if◌then◌otherwise◌, bytes, capital, first, rest}
 use Rattle.registers.specs.Check.{Checked, refused, passed}
-use Rattle.registers.specs.Error.{number_of}
 use Rattle.registers.specs.Suffix.{one, milli, suffixes, no_suffix}
 use Rattle.registers.specs.declared.suffix.Power.{Power}
 use Rattle.registers.specs.declared.suffix.Quantity.{Quantity}
 use Rattle.registers.specs.declared.suffix.Letters.{Letters}
-use Rattle.registers.specs.declared.suffix.Scale.{Scale}
-use Rattle.registers.specs.declared.suffix.Scale.TheVariants.{Refused, By}
-
--- what the answer means
-abbrev pub meant_scale : Scale → Checked Power
-meant_scale (Refused e) = refused (number_of e)
-meant_scale (By p) = passed p
 
 -- how many letters a text has, and the first three in capitals
 unfoldable pub letters_of : Text → Letters

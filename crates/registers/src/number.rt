@@ -1,10 +1,11 @@
 // Check 6: the number that a parameter starts with, exactly, scaled by the suffix after it.
 ghost use Rattle.std.specs.Prelude.{◌≡◌, ◌-◌, ◌^◌, ◌≤◌, ◌<◌, length};
-ghost use Rattle.registers.specs.Number.{number, meant};
+ghost use Rattle.registers.specs.Error.{meant};
+ghost use Rattle.registers.specs.Number.{number};
 ghost use Rattle.registers.specs.NumberParts.{held, DigitsRead, MantissaRead, ExponentRead, value_read};
 
 use crate::error::Error;
-use crate::suffix::{Power, Quantity, Scale};
+use crate::suffix::{Power, Quantity};
 use crate::{suffix, text};
 
 // A number's exact value: its digits, times 10 to the power up, over 10 to the power down.
@@ -14,13 +15,6 @@ pub struct Decimal {
     pub digits: u64,
     pub up: u32,
     pub down: u64,
-}
-
-// What check 6 says of a parameter.
-#[derive(Clone, Copy)]
-pub enum ReadNumber {
-    Refused(Error),
-    Number(Decimal),
 }
 
 // Digits as a number, held, and where they end.
@@ -134,30 +128,35 @@ fn above(a: u64, b: u64) -> u64
 
 // Ends check 6: -124 for too many digits, then -123 for too large an exponent, then the exact value,
 // scaled by the suffix.
-fn value_of(minus: bool, mantissa: Mantissa, exponent: Exponent, power: Power) -> ReadNumber
+fn value_of(
+    minus: bool,
+    mantissa: Mantissa,
+    exponent: Exponent,
+    power: Power,
+) -> Result<Decimal, Error>
     requires { mantissa.places < 2 ^ 63 }
     ensures { meant result ≡ value_read minus mantissa exponent power }
 {
     let digits = mantissa.value;
     if HELD <= digits {
-        return ReadNumber::Refused(Error::TooManyDigits);
+        return Err(Error::TooManyDigits);
     }
     let size = exponent.size;
     if MOST_EXPONENT < size {
-        return ReadNumber::Refused(Error::ExponentTooLarge);
+        return Err(Error::ExponentTooLarge);
     }
     let places = mantissa.places as u64;
     let up = power.up as u32;
     let down = power.down as u64;
     if exponent.lowers {
-        return ReadNumber::Number(Decimal {
+        return Ok(Decimal {
             minus,
             digits,
             up,
             down: places + size + down,
         });
     }
-    ReadNumber::Number(Decimal {
+    Ok(Decimal {
         minus,
         digits,
         up: above(size, places) as u32 + up,
@@ -166,18 +165,15 @@ fn value_of(minus: bool, mantissa: Mantissa, exponent: Exponent, power: Power) -
 }
 
 // Reads a parameter that starts with a digit, a sign or a point, for a row of some quantity.
-pub fn read(text: &[u8], quantity: Quantity) -> ReadNumber
+pub fn read(text: &[u8], quantity: Quantity) -> Result<Decimal, Error>
     ensures { meant result ≡ number quantity text.now }
 {
     let sign = text::byte_at(text, 0);
     let mantissa = read_mantissa(text, ((sign == b'+') | (sign == b'-')) as usize);
     if mantissa.count == 0 {
-        return ReadNumber::Refused(Error::InvalidCharacterInNumber);
+        return Err(Error::InvalidCharacterInNumber);
     }
     let exponent = read_exponent(text, mantissa.end);
-    let scale = suffix::read(text, text::white_end(text, exponent.end), quantity);
-    match scale {
-        Scale::Refused(e) => return ReadNumber::Refused(e),
-        Scale::By(power) => return value_of(sign == b'-', mantissa, exponent, power),
-    }
+    let power = suffix::read(text, text::white_end(text, exponent.end), quantity)?;
+    value_of(sign == b'-', mantissa, exponent, power)
 }

@@ -6,13 +6,6 @@ ghost use Rattle.registers.specs.RoundingParts.{beyond, sized_over, held_over, h
 
 use crate::number::Decimal;
 
-// A value in steps, or none.
-#[derive(Clone, Copy)]
-pub enum Fit {
-    Within(i32),
-    Outside,
-}
-
 // How the exact value stands to the one that it was rounded to: the same, below it or above it.
 #[derive(Clone, Copy)]
 pub enum Side {
@@ -21,10 +14,10 @@ pub enum Side {
     Above,
 }
 
-// What check 7 says of a value, and what was rounded off. The side is that of the rounded value, within the limits or not.
+// What check 7 says of a value: it in steps, or none outside the limits; and what was rounded off. The side is that of the rounded value, within the limits or not.
 #[derive(Clone, Copy)]
 pub struct Rounded {
-    pub fit: Fit,
+    pub fit: Option<i32>,
     pub side: Side,
 }
 
@@ -153,14 +146,11 @@ pub fn round_in(d: Decimal, tens: u32, low: i32, high: i32) -> Rounded
     let side = stepped.side;
     if (low as i64 <= v) & (v <= high as i64) {
         return Rounded {
-            fit: Fit::Within(v as i32),
+            fit: Some(v as i32),
             side,
         };
     }
-    Rounded {
-        fit: Fit::Outside,
-        side,
-    }
+    Rounded { fit: None, side }
 }
 
 // A number given for a bool is rounded to a whole one: zero is off, any other is on.

@@ -2,7 +2,8 @@
 ghost use Rattle.std.specs.Prelude.{◌≡◌, ◌<◌, length, drop};
 ghost use Rattle.registers.specs.Text.{capital, first};
 ghost use Rattle.registers.specs.Suffix.{remains};
-ghost use Rattle.registers.specs.SuffixParts.{meant_scale, letters_of, alike, milli_to, scale_to};
+ghost use Rattle.registers.specs.Error.{meant};
+ghost use Rattle.registers.specs.SuffixParts.{letters_of, alike, milli_to, scale_to};
 
 use crate::error::Error;
 use crate::text;
@@ -22,13 +23,6 @@ pub enum Quantity {
 pub struct Power {
     pub up: u8,
     pub down: u8,
-}
-
-// What comes of a suffix: a refusal, or what it multiplies by.
-#[derive(Clone, Copy)]
-pub(crate) enum Scale {
-    Refused(Error),
-    By(Power),
 }
 
 // How many bytes are left, and the first three of them in capitals; 0 for each that is missing.
@@ -71,56 +65,56 @@ fn spells(letters: Letters, count: usize, first: u8, second: u8, third: u8) -> b
 }
 
 // Reads a unit of one letter, alone or after the M of milli.
-fn with_milli(letters: Letters, unit: u8) -> Scale
-    ensures { meant_scale result ≡ milli_to unit letters }
+fn with_milli(letters: Letters, unit: u8) -> Result<Power, Error>
+    ensures { meant result ≡ milli_to unit letters }
 {
     if spells(letters, 1, unit, 0, 0) {
-        return Scale::By(Power { up: 0, down: 0 });
+        return Ok(Power { up: 0, down: 0 });
     }
     if spells(letters, 2, b'M', unit, 0) {
-        return Scale::By(Power { up: 0, down: 3 });
+        return Ok(Power { up: 0, down: 3 });
     }
-    Scale::Refused(Error::InvalidSuffix)
+    Err(Error::InvalidSuffix)
 }
 
 // Finds the suffix among those of a quantity. `MHZ` is mega, though M elsewhere is milli.
-fn scale_of(quantity: Quantity, letters: Letters) -> Scale
-    ensures { meant_scale result ≡ scale_to quantity letters }
+fn scale_of(quantity: Quantity, letters: Letters) -> Result<Power, Error>
+    ensures { meant result ≡ scale_to quantity letters }
 {
     match quantity {
-        Quantity::Nothing => return Scale::Refused(Error::SuffixNotAllowed),
+        Quantity::Nothing => return Err(Error::SuffixNotAllowed),
         Quantity::Volt => return with_milli(letters, b'V'),
         Quantity::Ampere => return with_milli(letters, b'A'),
         Quantity::Hertz => {
             if spells(letters, 2, b'H', b'Z', 0) {
-                return Scale::By(Power { up: 0, down: 0 });
+                return Ok(Power { up: 0, down: 0 });
             }
             if spells(letters, 3, b'K', b'H', b'Z') {
-                return Scale::By(Power { up: 3, down: 0 });
+                return Ok(Power { up: 3, down: 0 });
             }
             if spells(letters, 3, b'M', b'H', b'Z') {
-                return Scale::By(Power { up: 6, down: 0 });
+                return Ok(Power { up: 6, down: 0 });
             }
-            return Scale::Refused(Error::InvalidSuffix);
+            return Err(Error::InvalidSuffix);
         }
         Quantity::Second => {
             if spells(letters, 1, b'S', 0, 0) {
-                return Scale::By(Power { up: 0, down: 0 });
+                return Ok(Power { up: 0, down: 0 });
             }
-            return Scale::Refused(Error::InvalidSuffix);
+            return Err(Error::InvalidSuffix);
         }
     }
 }
 
 // Reads what remains after a number and its white space: a suffix of the quantity, or nothing.
-pub(crate) fn read(text: &[u8], at: usize, quantity: Quantity) -> Scale
-    ensures { meant_scale result ≡ remains quantity (drop at text.now) }
+pub(crate) fn read(text: &[u8], at: usize, quantity: Quantity) -> Result<Power, Error>
+    ensures { meant result ≡ remains quantity (drop at text.now) }
 {
     if text::is_letter(text::byte_at(text, at)) {
         return scale_of(quantity, letters_at(text, at));
     }
     if at < text.len() {
-        return Scale::Refused(Error::InvalidCharacterInNumber);
+        return Err(Error::InvalidCharacterInNumber);
     }
-    Scale::By(Power { up: 0, down: 0 })
+    Ok(Power { up: 0, down: 0 })
 }

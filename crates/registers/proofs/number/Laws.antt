@@ -4,28 +4,30 @@ use mathlib.Core.Bool.{Bool, true, false}
 use mathlib.Core.List.{[], ◌∷◌, ◌++◌, append-nil}
 use Prim.Native.Nat.{ℕ, ◌+◌, ◌-◌, min, ◌≤◌}
 use Prim.Native.Char.{code}
-use native.Mathlib.Nat.{add-zero}
+use native.Mathlib.Nat.{add-zero, zero-add}
 use native.Mathlib.Omega.{arith}
 use lib.Dec.{eqb}
 use lib.ListN.{length, length-append, drop}
 use mir.Val.{bool_byte}
 use borrow.Author.Tests.{ne_eqb}
 use Rattle.registers.specs.Text.{Text, if◌then◌otherwise◌, digit, capital, small, first, rest, empty, start, after}
-use Rattle.registers.specs.Number.{numeral_from, numeral, sign, point, after_sign, fraction_of, after_fraction, exponent_of, after_exponent, lowering, meant}
+use Rattle.registers.specs.Number.{numeral_from, numeral, sign, point, after_sign, fraction_of, after_fraction, exponent_of, after_exponent, lowering}
 use Rattle.registers.specs.NumberParts.{held, mantissa_of, DigitsRead, MantissaRead, ExponentRead}
 use Rattle.registers.specs.declared.number.Digits.{Digits}
-use Rattle.registers.specs.declared.number.ReadNumber.{ReadNumber}
-use Rattle.registers.specs.declared.number.ReadNumber.TheVariants.{Refused, Number}
+use Rattle.std.specs.Prelude.{Result, Ok, Err}
+use Rattle.registers.specs.Error.{meant}
+use Rattle.registers.specs.declared.error.Error.{Error}
+use Rattle.registers.specs.declared.number.Decimal.{Decimal}
 use Rattle.registers.proofs.error.Numbers.{number_of-injective}
 use Rattle.registers.proofs.text.Laws.{first-within, rest_at}
 use Rattle.registers.proofs.number.Numerals.{held-before, numeral-append}
 
 -- two readings that mean the same are equal: `read`'s contract determines its result
-pub number-unique : (a b : ReadNumber) → meant a ≡ meant b → a ≡ b
-number-unique (Refused x) (Refused y) e = ap Refused (number_of-injective x y (cc))
-number-unique (Refused x) (Number y) e = cc
-number-unique (Number x) (Refused y) e = cc
-number-unique (Number x) (Number y) e = cc
+pub number-unique : (a b : Result Decimal Error) → meant a ≡ meant b → a ≡ b
+number-unique (Err x) (Err y) e = ap Err (number_of-injective x y (cc))
+number-unique (Err x) (Ok y) e = cc
+number-unique (Ok x) (Err y) e = cc
+number-unique (Ok x) (Ok y) e = cc
 
 -- ---- the parts, at a place
 
@@ -39,6 +41,9 @@ sign-end t at b e l = rw e (go (sign (first (drop at t))) refl)
         → (drop (at + bool_byte y) t ≡ (if y then rest (drop at t) otherwise drop at t)) × (at + bool_byte y ≤ length t)
     go true q = let h = first-within sign t at refl q in (sym (rest_at t at), omega arith)
     go false q = (rw (add-zero at), omega arith)
+
+pub sign_start : (t : Text) (b : ℕ) → b ≡ first t → (drop (bool_byte (sign b)) t ≡ after_sign t) × (bool_byte (sign b) ≤ length t)
+sign_start t b e = rw zero-add at (sign-end t 0 b e (omega arith))
 
 -- ---- the mantissa
 

@@ -14,8 +14,7 @@ use Rattle.registers.specs.Check.{Checked, passed, ◌>>◌, check}
 use Rattle.registers.specs.Rounding.{nearest, signed, size_in, rounded, fitted, turned, side_in, exactly, wholly, Stands, RoundedIn}
 use Rattle.registers.specs.RoundingParts.{beyond, held_over, held_in}
 use Rattle.registers.specs.declared.number.Decimal.{Decimal}
-use Rattle.registers.specs.declared.rounding.Fit.{Fit}
-use Rattle.registers.specs.declared.rounding.Fit.TheVariants.{Within, Outside}
+use Rattle.std.specs.Prelude.{Option, Some, None}
 use Rattle.registers.specs.declared.rounding.Rounded.{Rounded}
 use Rattle.registers.specs.declared.rounding.Side.{Side}
 use Rattle.registers.specs.declared.rounding.Sized.{Sized}
@@ -79,7 +78,7 @@ far low high l h true zero k = absurd (omega arith)
 far (pos a) high l h true (suc n) k = refl
 far (negsuc a) high l h true (suc n) k = rw (lt-leb n a (omega arith))
 
-abbrev outcome : Fit → Side → Rounded
+abbrev outcome : Option ℤ → Side → Rounded
 outcome f x = record { fit = f; side = x }
 
 -- so a held value is within such limits exactly where the value itself is, and is then that value
@@ -103,11 +102,11 @@ module _ (k : ℕ) (d : Decimal) (low high : ℤ) (l : SFits w32 low) (h : SFits
   unfolding held_in
   side-held = rw is (tells k d).stands
 
-  pub fit-yes : inside low high r.value ≡ true → RoundedIn k low high d (outcome (Within r.value) r.side)
+  pub fit-yes : inside low high r.value ≡ true → RoundedIn k low high d (outcome (Some r.value) r.side)
   unfolding chosen check ◌>>◌
   fit-yes e = record { fit = rw (fitted-held, e); side = side-held }
 
-  pub fit-no : inside low high r.value ≡ false → RoundedIn k low high d (outcome Outside r.side)
+  pub fit-no : inside low high r.value ≡ false → RoundedIn k low high d (outcome None r.side)
   unfolding chosen check ◌>>◌
   fit-no e = record { fit = rw (fitted-held, e); side = side-held }
 

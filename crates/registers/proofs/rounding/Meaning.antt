@@ -7,22 +7,21 @@ use native.Mathlib.Omega.{arith}
 use lib.IntN.{ℤ, pos, negsuc}
 use lib.Signed.{le_z, lt_z}
 use borrow.Author.Tests.{ltb-true, le-ltb}
+use Rattle.std.specs.Prelude.{Option, Some, None}
 use Rattle.registers.specs.Text.{if◌then◌otherwise◌}
 use Rattle.registers.specs.Check.{passed, ◌>>◌, check}
 use Rattle.registers.specs.Rounding.{rounded, fitted, side_in, meant_fit, Stands, RoundedIn}
 use Rattle.registers.specs.declared.number.Decimal.{Decimal}
-use Rattle.registers.specs.declared.rounding.Fit.{Fit}
-use Rattle.registers.specs.declared.rounding.Fit.TheVariants.{Within, Outside}
 use Rattle.registers.specs.declared.rounding.Rounded.{Rounded}
 use Rattle.registers.specs.declared.rounding.Side.{Side}
 use Rattle.registers.specs.declared.rounding.Side.TheVariants.{On, Below, Above}
 use Rattle.registers.proofs.rounding.Exact.{tells}
 
-fit-only : (a b : Fit) → meant_fit a ≡ meant_fit b → a ≡ b
-fit-only (Within v) (Within w) e = cc
-fit-only (Within v) Outside e = cc
-fit-only Outside (Within w) e = cc
-fit-only Outside Outside e = refl
+fit-only : (a b : Option ℤ) → meant_fit a ≡ meant_fit b → a ≡ b
+fit-only (Some v) (Some w) e = cc
+fit-only (Some v) None e = cc
+fit-only None (Some w) e = cc
+fit-only None None e = refl
 
 -- ---- a side by what it says
 
@@ -62,10 +61,10 @@ module _ {k : ℕ} {low high : ℤ} {d : Decimal} where
 
   -- the value, where the limits let it pass
   pub fit_is : {r : Rounded} → RoundedIn k low high d r
-      → r.fit ≡ (if le_z low (rounded k d) && le_z (rounded k d) high then Within (rounded k d) otherwise Outside)
+      → r.fit ≡ (if le_z low (rounded k d) && le_z (rounded k d) high then Some (rounded k d) otherwise None)
   unfolding fitted check ◌>>◌ if◌then◌otherwise◌
   fit_is {r} p = fit-only r.fit _ (p.fit ∙ chosen (le_z low (rounded k d) && le_z (rounded k d) high))
     where
-      chosen : (t : Bool) → (check 222 t >> passed (rounded k d)) ≡ meant_fit (if t then Within (rounded k d) otherwise Outside)
+      chosen : (t : Bool) → (check 222 t >> passed (rounded k d)) ≡ meant_fit (if t then Some (rounded k d) otherwise None)
       chosen true = refl
       chosen false = refl
