@@ -15,7 +15,6 @@ ghost use Rattle.interpreter.specs.LineParts.{StoppedWith, CarriedOut, UnitRan, 
 
 use crate::deed::{Deed, Saving};
 use crate::header::MOST_NAMES;
-use crate::parameter::Decision;
 use crate::present::Present;
 use crate::table::Table;
 use crate::{cuts, memory, perform, reply, unit};
@@ -137,16 +136,16 @@ fn run_unit(
     ensures { (names : List Text) → Holds names path.old done.used → UnitRan done names unit.now out.old (memory store.old) result path.new out.new (memory store.new) }
 {
     let present = done.present;
-    let reading = unit::read(table, present.settings, path, done.used, unit);
-    let decision = reading.decision;
-    match decision {
-        Decision::Refused(error) => return stop(present, error),
-        Decision::Obey(deed) => {
-            let given = reading.given;
-            let from = given.from;
-            let to = given.to;
-            return carry_out(present, deed, &unit[from..to], reading.used, out, store);
-        }
+    match unit::read(table, present.settings, path, done.used, unit) {
+        Err(error) => stop(present, error),
+        Ok(reading) => carry_out(
+            present,
+            reading.deed,
+            reading.given,
+            reading.used,
+            out,
+            store,
+        ),
     }
 }
 
