@@ -10,11 +10,12 @@ use Rattle.interpreter.specs.Cuts.{cut_open}
 use Rattle.interpreter.specs.Box.{Memory, Box, box, most_answer}
 use Rattle.interpreter.specs.Perform.{permitted, perform}
 use Rattle.interpreter.specs.Line.{attempt, refuse, run_units, run_line}
-use Rattle.interpreter.specs.HeaderParts.{Holds}
+use Rattle.interpreter.specs.HeaderParts.{IsPath}
 use Rattle.interpreter.specs.PresentParts.{box_in, box_at, RefusedWith}
 use Rattle.interpreter.specs.declared.deed.Deed.{Deed}
 use Rattle.interpreter.specs.declared.present.Present.{Present}
 use Rattle.interpreter.specs.declared.line.Done.{Done}
+use Rattle.interpreter.specs.declared.path.Path.{Path}
 
 -- the last unit was refused
 pub record StoppedWith (e : Error) (p : Present) (r : Done) : Type 0 where
@@ -25,20 +26,20 @@ pub record StoppedWith (e : Error) (p : Present) (r : Done) : Type 0 where
 abbrev pub carried : Deed → Text → Box → Checked Box
 carried d t b = permitted d b.core >> perform d t b
 
-pub record CarriedOut (d : Deed) (t : Text) (used : ℕ) (p : Present) (out : Text) (m : Memory) (r : Done) (out' : Text) (m' : Memory) : Type 0 where
+pub record CarriedOut (d : Deed) (t : Text) (p : Present) (out : Text) (m : Memory) (r : Done) (out' : Text) (m' : Memory) : Type 0 where
   pub queued : r.present.status.queued ≤ most
   pub room : r.present.answered < most_answer
-  pub goes : r.obeyed ≡ true → (carried d t (box_at p out m) ≡ passed (box_at r.present out' m')) × (r.used ≡ used)
+  pub goes : r.obeyed ≡ true → carried d t (box_at p out m) ≡ passed (box_at r.present out' m')
   pub stops : r.obeyed ≡ false → (n : ℕ) × (carried d t (box_at p out m) ≡ refused n) × (box_at r.present out' m' ≡ refuse n (box_at p out m))
 
 -- a unit was obeyed, or refused
-pub record UnitRan (d : Done) (path : List Text) (unit out : Text) (m : Memory) (r : Done) (keys : List ℕ) (out' : Text) (m' : Memory) : Type 0 where
+pub record UnitRan (d : Done) (path : List Text) (unit out : Text) (m : Memory) (r : Done) (way : Path) (out' : Text) (m' : Memory) : Type 0 where
   pub queued : r.present.status.queued ≤ most
   pub room : r.present.answered < most_answer
   pub goes : r.obeyed ≡ true
       → (names : List Text)
       × (attempt path (box_at d.present out m) unit ≡ passed (record { path = names; box = box_at r.present out' m' }))
-      × Holds names keys r.used
+      × IsPath names way
   pub stops : r.obeyed ≡ false
       → (n : ℕ)
       × (attempt path (box_at d.present out m) unit ≡ refused n)

@@ -1,5 +1,5 @@
 -- How the code reads a name: as a number. Nothing of 01 is defined here: see Header.antt.
-use Rattle.std.specs.Prelude.{◌≡◌, Bool, ◌&&◌, ◌||◌, [], ◌∷◌, ℕ, ◌+◌, ◌-◌, ◌*◌, ◌%◌, ◌^◌, eqb, length, drop}
+use Rattle.std.specs.Prelude.{◌≡◌, Bool, true, false, ◌&&◌, ◌||◌, [], ◌∷◌, ℕ, ◌+◌, ◌-◌, ◌*◌, ◌%◌, ◌^◌, eqb, length, drop, Option, Some, None}
 use Prim.Native.Char.{code as code_in}
 use Rattle.registers.specs.Text.{Text, if◌then◌otherwise◌, bytes, letter, digit, word_byte, every, empty, same, first, start}
 use Rattle.interpreter.specs.Header.{stem, suffix}
@@ -68,6 +68,16 @@ pub record SuffixRead (t : Text) (at : ℕ) (r : Name) : Type 0 where
   pub key : r.key ≡ class_of (start word_byte (drop at t))
   pub end : r.end ≡ at + length (start word_byte (drop at t))
 
-pub record NameRead (t : Text) (at : ℕ) (r : Name) : Type 0 where
+-- a name starts with a letter
+pub record NameHere (t : Text) (at : ℕ) (r : Name) : Type 0 where
+  pub lettered : letter (first (drop at t)) ≡ true
   pub key : r.key ≡ key_of (name_in (drop at t))
   pub end : r.end ≡ at + length (name_in (drop at t))
+
+abbrev pub NameRead : Text → ℕ → Option Name → Type 0
+NameRead t at None = letter (first (drop at t)) ≡ false
+NameRead t at (Some r) = NameHere t at r
+
+-- how many names are held
+abbrev pub most_names : ℕ
+most_names = 7

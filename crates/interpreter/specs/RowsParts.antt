@@ -1,15 +1,14 @@
 -- What the row search's own functions say. Nothing of 01 is defined here: see Rows.antt, and TableParts.antt for the table that is searched.
-use Rattle.std.specs.Prelude.{◌≡◌, Bool, true, false, not, ◌&&◌, ◌||◌, List, [], ◌∷◌, ℕ, ◌+◌, ◌*◌, ◌/◌, ◌%◌, ◌≤◌, ◌<◌, ltb, eqb, length, get_or, drop}
+use Rattle.std.specs.Prelude.{◌≡◌, Bool, true, false, not, ◌&&◌, ◌||◌, List, [], ◌∷◌, ℕ, ◌+◌, ◌*◌, ◌/◌, ◌%◌, ◌≤◌, ◌<◌, ltb, eqb, length, get_or, drop, Option, Some, None}
 use Prim.Native.String.{String}
 use Rattle.std.specs.Int.Bits.{bit_and}
 use Rattle.registers.specs.Text.{Text, if◌then◌otherwise◌, empty, same_bool}
 use Rattle.registers.specs.Words.{Node, must, may, short_form, long_form}
 use Rattle.interpreter.specs.Header.{numbered}
 use Rattle.interpreter.specs.NameParts.{word_key, suffix_place, no_number}
+use Rattle.interpreter.specs.DeedParts.{row_count}
 use Rattle.interpreter.specs.TableParts.{row_size, optional, mark_count, node_at, row_table, first_fit, mark_of}
 use Rattle.interpreter.specs.Rows.{Row, rows, has_form, fits_row}
-use Rattle.interpreter.specs.declared.rows.Walk.{Walk}
-use Rattle.interpreter.specs.declared.rows.Walk.TheVariants.{To, Missed}
 
 -- ---- the row that a search finds
 
@@ -47,6 +46,10 @@ fits_keys star keys asked r = same_bool star r.star && (has_form asked r.role &&
 unfoldable pub row_of_keys : Bool → List ℕ → Bool → ℕ
 row_of_keys star keys asked = first_fit (fits_keys star keys asked) rows
 
+-- the row that a search comes to, if it is one
+unfoldable pub found : ℕ → Option ℕ
+found r = if ltb r row_count then Some r otherwise None
+
 -- ---- cells of the tables
 
 unfoldable pub row_cell : ℕ → ℕ → ℕ
@@ -79,17 +82,17 @@ unfoldable pub node_of : ℕ → Node
 node_of x = if ltb x optional then must (node_at (word_in x)) otherwise may (node_at (word_in x))
 
 -- one node is taken at a place of the names' numbers, or left out, or it is missed
-abbrev pub Walked : Node → List ℕ → ℕ → Walk → Type 0
-Walked x keys at (To n) = ((nodes : List Node) → greedy (x ∷ nodes) (drop at keys) ≡ greedy nodes (drop n keys)) × (n ≤ length keys)
-Walked x keys at Missed = (nodes : List Node) → greedy (x ∷ nodes) (drop at keys) ≡ false
+abbrev pub Walked : Node → List ℕ → ℕ → Option ℕ → Type 0
+Walked x keys at (Some n) = ((nodes : List Node) → greedy (x ∷ nodes) (drop at keys) ≡ greedy nodes (drop n keys)) × (n ≤ length keys)
+Walked x keys at None = (nodes : List Node) → greedy (x ∷ nodes) (drop at keys) ≡ false
 
 pub record Marked (star : Bool) (keys : List ℕ) (r : ℕ) : Type 0 where
   pub is : r ≡ mark_of star keys
   pub small : r < mark_count
 
 -- a node that no name spells
-unfoldable pub left_out : ℕ → ℕ → Walk
-left_out node at = if ltb node optional then Missed otherwise To at
+unfoldable pub left_out : ℕ → ℕ → Option ℕ
+left_out node at = if ltb node optional then None otherwise Some at
 
 -- a header's form as a bit, and whether a row has it
 unfoldable pub form_bit : Bool → Bool → ℕ

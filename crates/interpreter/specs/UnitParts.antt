@@ -1,5 +1,5 @@
 -- What the unit reader's own functions say. Nothing of 01 is defined here: see Unit.antt.
-use Rattle.std.specs.Prelude.{◌≡◌, Bool, true, List, ℕ, ◌≤◌, ◌<◌, leb, ltb, eqb, length, Result, Ok, Err}
+use Rattle.std.specs.Prelude.{◌≡◌, Bool, true, List, ℕ, ◌≤◌, ◌<◌, leb, length, Result, Ok, Err}
 use Rattle.registers.specs.Text.{Text, if◌then◌otherwise◌, every}
 use Rattle.registers.specs.Check.{Checked, refused, passed, ◌>>=◌, ◌>>◌, check}
 use Rattle.registers.specs.Error.{number_of}
@@ -9,8 +9,8 @@ use Rattle.registers.specs.Label.{most_text, may_stand, text_in}
 use Rattle.registers.specs.Status.{widest}
 use Rattle.registers.specs.declared.settings.Settings.{Settings}
 use Rattle.interpreter.specs.Parameter.{parameters, none_empty, least, greatest, deed_of}
-use Rattle.interpreter.specs.DeedParts.{place_count, nowhere, role_at}
-use Rattle.interpreter.specs.HeaderParts.{Holds}
+use Rattle.interpreter.specs.DeedParts.{role_at}
+use Rattle.interpreter.specs.HeaderParts.{IsPath}
 use Rattle.interpreter.specs.Unit.{allowed, read_unit}
 use Rattle.interpreter.specs.declared.deed.Deed.{Deed}
 use Rattle.interpreter.specs.declared.deed.Deed.TheVariants.{Change as change, Complete, Clear, Query as query, Inquire, Saving}
@@ -21,38 +21,39 @@ use Rattle.interpreter.specs.declared.deed.Query.{Query}
 use Rattle.interpreter.specs.declared.deed.Query.TheVariants.{Identity, SelfTest, Completed, Limit, Value, Stored, Condition, SetEvents, Label as label_asked}
 use Rattle.interpreter.specs.declared.deed.Role.{Role}
 use Rattle.interpreter.specs.declared.unit.Reading.{Reading}
+use Rattle.interpreter.specs.declared.path.Path.{Path}
 
 -- the role of the place that a search found, if it found one
-unfoldable pub role_found : ℕ → Checked Role
-role_found place = if ltb place place_count then passed (role_at place) otherwise refused (if eqb place nowhere then 113 otherwise 114)
+unfoldable pub role_found : Checked ℕ → Checked Role
+role_found place = place >>= λ i. passed (role_at i)
 
 -- the checks after the header
-unfoldable pub decided : Settings → ℕ → Bool → Text → Checked Deed
-decided s row asked t =
+unfoldable pub decided : Settings → Checked ℕ → Bool → Text → Checked Deed
+decided s place asked t =
     check 102 (none_empty (parameters t)) >>
-    role_found row >>= λ r.
+    role_found place >>= λ r.
     check 108 (leb (length (parameters t)) (greatest r asked)) >>
     check 109 (leb (least r asked) (length (parameters t))) >>
     deed_of s r asked (parameters t)
 
 -- check 1 on the text after a header, and then those
-unfoldable pub decided_text : Settings → ℕ → Bool → Text → Checked Deed
-decided_text s row asked t = check 101 (every allowed t) >> decided s row asked t
+unfoldable pub decided_text : Settings → Checked ℕ → Bool → Text → Checked Deed
+decided_text s place asked t = check 101 (every allowed t) >> decided s place asked t
 
 -- checks 1 and 2 on a unit that starts with no header
 unfoldable pub header_refusal : Text → ℕ
 header_refusal u = if every allowed u then 102 otherwise 101
 
 -- a unit is accepted: it leaves its deed, a path, and the text that its parameter gives
-pub record Accepted (s : Settings) (path : List Text) (u : Text) (r : Reading) (keys : List ℕ) : Type 0 where
+pub record Accepted (s : Settings) (path : List Text) (u : Text) (r : Reading) (p : Path) : Type 0 where
   pub left : List Text
   pub is : read_unit s path u ≡ passed (record { deed = r.deed; text = text_in r.given.now; path = left })
-  pub holds : Holds left keys r.used
+  pub holds : IsPath left p
 
 -- a unit is refused by an error's number, or accepted
-abbrev pub UnitRead : Settings → List Text → Text → Result Reading Error → List ℕ → Type 0
-UnitRead s path u (Err e) keys = read_unit s path u ≡ refused (number_of e)
-UnitRead s path u (Ok r) keys = Accepted s path u r keys
+abbrev pub UnitRead : Settings → List Text → Text → Result Reading Error → Path → Type 0
+UnitRead s path u (Err e) p = read_unit s path u ≡ refused (number_of e)
+UnitRead s path u (Ok r) p = Accepted s path u r p
 
 -- ---- what a unit that was read asks for: what it stores is within its limits and, in exam mode, on the step, and the settings
 -- that it names are there

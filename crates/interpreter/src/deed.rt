@@ -1,8 +1,11 @@
 // What an accepted unit does, and what its header is for.
-ghost use Rattle.std.specs.Prelude.{◌≡◌, ◌≤◌, ◌<◌};
+ghost use Rattle.std.specs.Prelude.{◌≡◌, ◌<◌, IfOk};
+ghost use Rattle.std.proofs.Props.{props};
+ghost use Rattle.registers.specs.Error.{meant};
 ghost use Rattle.interpreter.specs.DeedParts.{row_count, place_count, place_of, role_at};
 
 use crate::table::ROWS;
+use registers::error::Error;
 use registers::rounding::Side;
 use registers::settings::Settings;
 use registers::status::{Register, RegisterSet};
@@ -67,11 +70,12 @@ pub enum Deed {
 }
 
 // What a header comes to: its place, and whether it asks. The place is its setting's slot, or after the slots its row among the
-// others; NOWHERE where it has no row, and NO_CHANNEL where its row doesn't take its suffix.
+// others; it has none where it has no row, or where its row doesn't take its suffix.
 #[derive(Clone, Copy)]
 pub(crate) struct Heading {
-    pub(crate) place: usize,
+    pub(crate) place: Result<usize, Error>,
     pub(crate) asked: bool,
+    ghost is_there: { IfOk place (λ i. i < place_count) } by { Prim.hlevel props },
 }
 
 // A setting, a register or the display's text is set and asked; every other header has only one form, and one deed, or is given a place.
@@ -123,31 +127,24 @@ const MONITOR: usize = 3;
 
 const BRIGHTNESS: usize = 14;
 
-pub(crate) const NOWHERE: usize = 60;
-
-pub(crate) const NO_CHANNEL: usize = 61;
-
 // Finds the place of a row on the channel that a suffix names.
-pub(crate) fn place_of(row: usize, suffix: u64) -> usize
-    requires { row ≤ row_count }
-    ensures { result ≡ place_of row suffix }
+pub(crate) fn place_of(row: usize, suffix: u64) -> Result<usize, Error>
+    requires { row < row_count }
+    ensures { meant result ≡ place_of row suffix }
 {
-    if ROWS <= row {
-        return NOWHERE;
-    }
     if suffix < 2 {
         if row < Settings::ROWS {
-            return row;
+            return Ok(row);
         }
-        return row + (Settings::COUNT - Settings::ROWS);
+        return Ok(row + (Settings::COUNT - Settings::ROWS));
     }
     if (suffix == 2) & (row < MONITOR) {
-        return row + Settings::ROWS;
+        return Ok(row + Settings::ROWS);
     }
     if (suffix == 2) & ((MONITOR < row) & (row < BRIGHTNESS)) {
-        return row + (Settings::ROWS - 1);
+        return Ok(row + (Settings::ROWS - 1));
     }
-    NO_CHANNEL
+    Err(Error::HeaderSuffix)
 }
 
 // Tells what a place is for: the settings stand first, and then 'Registers and queue'.

@@ -14,6 +14,7 @@ mod line;
 mod memory;
 mod name;
 mod parameter;
+mod path;
 mod perform;
 mod present;
 mod quoted;

@@ -9,23 +9,22 @@ ghost use Rattle.interpreter.specs.Box.{most_answer, store_size, Memory, memory}
 ghost use Rattle.interpreter.specs.Perform.{permitted};
 ghost use Rattle.interpreter.specs.PresentParts.{core_in};
 ghost use Rattle.interpreter.specs.ReplyParts.{ordinary};
-ghost use Rattle.interpreter.specs.HeaderParts.{Holds, Held};
+ghost use Rattle.interpreter.specs.HeaderParts.{IsPath, Held};
 ghost use Rattle.interpreter.specs.UnitParts.{Allowed, AllowedText};
 ghost use Rattle.interpreter.specs.LineParts.{StoppedWith, CarriedOut, UnitRan, UnitsRan, LineRan};
 
 use crate::deed::{Deed, Saving};
-use crate::header::MOST_NAMES;
+use crate::path::Path;
 use crate::present::Present;
 use crate::table::Table;
 use crate::{cuts, memory, perform, reply, unit};
 use registers::error::Error;
 use registers::{setup, text};
 
-// What the units so far leave: how many names the path has, and whether the last one was obeyed.
+// What the units so far leave, and whether the last one was obeyed.
 #[derive(Clone, Copy)]
 struct Done {
     present: Present,
-    used: usize,
     obeyed: bool,
 }
 
@@ -35,16 +34,15 @@ fn stop(present: Present, error: Error) -> Done
 {
     Done {
         present: present.refuse(error),
-        used: 0,
         obeyed: false,
     }
 }
 
 // Carries out *SAV or *RCL, which the lock let pass: the settings go to their block of the store, or come from it.
-fn set_up(present: Present, saving: Saving, place: usize, used: usize, store: &mut [u8]) -> Done
+fn set_up(present: Present, saving: Saving, place: usize, store: &mut [u8]) -> Done
     requires status_value { (permitted (Deed.Saving saving place) (core_in present.settings present.status) ≡ passed tt) × (place < places) × (length store.old ≡ store_size) }
     requires answered_lt_most_answer { (present.answered < most_answer) × (present.status.queued ≤ most) }
-    ensures { (t out : Text) → CarriedOut (Deed.Saving saving place) t used present out (memory store.old) result out (memory store.new) }
+    ensures { (t out : Text) → CarriedOut (Deed.Saving saving place) t present out (memory store.old) result out (memory store.new) }
 {
     let at = place * setup::BLOCK;
     match saving {
@@ -53,7 +51,6 @@ fn set_up(present: Present, saving: Saving, place: usize, used: usize, store: &m
             memory::paste(&block, setup::BLOCK, store, at);
             return Done {
                 present,
-                used,
                 obeyed: true,
             };
         }
@@ -72,7 +69,6 @@ fn set_up(present: Present, saving: Saving, place: usize, used: usize, store: &m
                     status,
                     answered: present.answered,
                 },
-                used,
                 obeyed: true,
             };
         }
@@ -81,10 +77,10 @@ fn set_up(present: Present, saving: Saving, place: usize, used: usize, store: &m
 
 // Carries out any other unit that the lock and check 8 let pass: what it does, and check 9. Where check 9 refuses, "the query isn't
 // performed", and what it would have left is forgotten. The string is the unit's parameter, if it has one.
-fn do_deed(present: Present, deed: Deed, string: &[u8], used: usize, out: &mut [u8]) -> Done
+fn do_deed(present: Present, deed: Deed, string: &[u8], out: &mut [u8]) -> Done
     requires status_value { (permitted deed (core_in present.settings present.status) ≡ passed tt) × Allowed present.settings deed × (ordinary deed ≡ true) }
     requires answered_lt_most_answer { (present.answered < most_answer) × (length out.old ≡ most_answer) × (present.status.queued ≤ most) × AllowedText deed (text_in string.now) }
-    ensures { (m : Memory) → CarriedOut deed (text_in string.now) used present out.old m result out.new m }
+    ensures { (m : Memory) → CarriedOut deed (text_in string.now) present out.old m result out.new m }
 {
     let mut next = perform::after(present, deed, string);
     match reply::answer(present, deed, out) {
@@ -93,7 +89,6 @@ fn do_deed(present: Present, deed: Deed, string: &[u8], used: usize, out: &mut [
             next.answered = end;
             Done {
                 present: next,
-                used,
                 obeyed: true,
             }
         }
@@ -101,24 +96,17 @@ fn do_deed(present: Present, deed: Deed, string: &[u8], used: usize, out: &mut [
 }
 
 // Carries out a unit that was read, after those before it: the lock and check 8, and what it does.
-fn carry_out(
-    present: Present,
-    deed: Deed,
-    string: &[u8],
-    used: usize,
-    out: &mut [u8],
-    store: &mut [u8],
-) -> Done
+fn carry_out(present: Present, deed: Deed, string: &[u8], out: &mut [u8], store: &mut [u8]) -> Done
     requires allowed { Allowed present.settings deed × (present.answered < most_answer) × AllowedText deed (text_in string.now) }
     requires out_len { (length out.old ≡ most_answer) × (present.status.queued ≤ most) × (length store.old ≡ store_size) }
-    ensures { CarriedOut deed (text_in string.now) used present out.old (memory store.old) result out.new (memory store.new) }
+    ensures { CarriedOut deed (text_in string.now) present out.old (memory store.old) result out.new (memory store.new) }
 {
     if !perform::is_permitted(present, deed) {
         return stop(present, Error::SettingsConflict);
     }
     match deed {
-        Deed::Saving { saving, place } => return set_up(present, saving, place, used, store),
-        _ => return do_deed(present, deed, string, used, out),
+        Deed::Saving { saving, place } => return set_up(present, saving, place, store),
+        _ => return do_deed(present, deed, string, out),
     }
 }
 
@@ -126,26 +114,19 @@ fn carry_out(
 fn run_unit(
     table: &Table,
     done: Done,
-    path: &mut [u64; MOST_NAMES],
+    path: &mut Path,
     unit: &[u8],
     out: &mut [u8],
     store: &mut [u8],
 ) -> Done
-    requires path_held { Held path.old done.used }
+    requires path_held { Held path.old }
     requires answered_lt_most_answer { (done.present.answered < most_answer) × (length out.old ≡ most_answer) × (done.present.status.queued ≤ most) × (length store.old ≡ store_size) }
-    ensures { (names : List Text) → Holds names path.old done.used → UnitRan done names unit.now out.old (memory store.old) result path.new out.new (memory store.new) }
+    ensures { (names : List Text) → IsPath names path.old → UnitRan done names unit.now out.old (memory store.old) result path.new out.new (memory store.new) }
 {
     let present = done.present;
-    match unit::read(table, present.settings, path, done.used, unit) {
+    match unit::read(table, present.settings, path, unit) {
         Err(error) => stop(present, error),
-        Ok(reading) => carry_out(
-            present,
-            reading.deed,
-            reading.given,
-            reading.used,
-            out,
-            store,
-        ),
+        Ok(reading) => carry_out(present, reading.deed, reading.given, out, store),
     }
 }
 
@@ -164,10 +145,9 @@ fn run_units(
 {
     let mut done = Done {
         present,
-        used: 0,
         obeyed: true,
     };
-    let mut path = [0u64; MOST_NAMES];
+    let mut path = Path::root();
     let mut at: usize = 0;
     loop {
         let end = cuts::part_end(line, at, b';');

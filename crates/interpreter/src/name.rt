@@ -10,7 +10,7 @@ ghost use Rattle.interpreter.specs.NameParts.{code_count, with_code, class_by, N
 use crate::table::Table;
 use registers::text;
 
-// A name's number, 0 where none starts, and where it ends.
+// A name's number, and where it ends.
 #[derive(Clone, Copy)]
 pub(crate) struct Name {
     pub(crate) key: u64,
@@ -58,7 +58,8 @@ fn is_word_byte(b: u8) -> bool
     text::is_letter(b) | text::is_digit(b) | (b == b'_')
 }
 
-// Tells which suffix it is that has so many bytes, by the first of them: 0 for none, 1, 2, 3 for other digits, 4 for what is no number.
+// Tells which suffix it is that has so many bytes, by the first of them: 0 for none, 1, 2, 3 for other digits, 4 for what is no
+// number.
 fn class(lead: u8, count: usize, digits: bool) -> u64
     ensures { result ≡ class_by lead count digits }
 {
@@ -101,23 +102,23 @@ fn read_suffix(text: &[u8], at: usize) -> Name
     }
 }
 
-// Reads the name that starts at a place. Its first letter comes last into the number, and so stands lowest.
-pub(crate) fn read(table: &Table, text: &[u8], at: usize) -> Name
+// Reads the name that starts at a place, if one does. Its first letter comes last into the number, and so stands lowest.
+pub(crate) fn read(table: &Table, text: &[u8], at: usize) -> Option<Name>
     ensures { NameRead text.now at result }
 {
     let lead = text::byte_at(text, at);
     if !text::is_letter(lead) {
-        return Name { key: 0, end: at };
+        return None;
     }
     let rest = read_rest(table, text, at + 1);
     let key = with_code(rest.key, table.code(lead));
     let end = rest.end;
     if !text::is_digit(text::byte_at(text, end)) {
-        return Name { key, end };
+        return Some(Name { key, end });
     }
     let suffix = read_suffix(text, end);
-    Name {
+    Some(Name {
         key: key + suffix.key * SUFFIX_PLACE,
         end: suffix.end,
-    }
+    })
 }

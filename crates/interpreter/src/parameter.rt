@@ -129,10 +129,7 @@ fn read_parameter(table: &Table, takes: Takes, text: &[u8]) -> Result<Parameter,
 fn is_number(row: usize) -> bool
     ensures { result ≡ is_number (kind_of row) }
 {
-    matches!(
-        Settings::values_of(row),
-        Values::Tenths | Values::Whole
-    )
+    matches!(Settings::values_of(row), Values::Tenths | Values::Whole)
 }
 
 // Rounds a number to a setting's step and compares it with the limits, and tells what was rounded off. A bool

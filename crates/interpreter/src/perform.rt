@@ -55,11 +55,13 @@ fn status_after(status: Status, deed: Deed) -> Status
     ensures { StatusLeft deed status result }
 {
     match deed {
-        Deed::Change(Change::Store {
-            register,
-            value,
-            ..
-        }) => status.store(register, value),
+        Deed::Change(
+            Change::Store {
+                register,
+                value,
+                ..
+            },
+        ) => status.store(register, value),
         Deed::Complete => status.complete(),
         Deed::Clear => status.clear(),
         Deed::Query(Query::SetEvents(set)) => status.read_event(set),

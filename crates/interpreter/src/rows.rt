@@ -2,17 +2,10 @@
 ghost use Rattle.std.specs.Prelude.{◌≡◌, ◌≤◌, ◌<◌, length};
 ghost use Rattle.interpreter.specs.Header.{numbered};
 ghost use Rattle.interpreter.specs.TableParts.{node_count, node_at};
-ghost use Rattle.interpreter.specs.RowsParts.{shown_key, key_matches, class_in, word_in, node_of, left_out, Walked, form_bit, row_of_keys, Marked};
+ghost use Rattle.interpreter.specs.RowsParts.{shown_key, key_matches, class_in, word_in, node_of, left_out, Walked, form_bit, row_of_keys, found, Marked};
 
 use crate::name::{CODES, SUFFIX_PLACE};
 use crate::table::{MARKS, NUMBERED, OPTIONAL, ROWS, Table};
-
-// Where a walk over a row's nodes goes on.
-#[derive(Clone, Copy)]
-enum Walk {
-    To(usize),
-    Missed,
-}
 
 // What a name's number has at least where its suffix is no number.
 const NO_NUMBER: u64 = 4 * SUFFIX_PLACE;
@@ -38,17 +31,18 @@ fn spells(table: &Table, key: u64, word: usize) -> bool
 }
 
 // Goes past a node that no name spells, if it is optional; otherwise the row is missed.
-fn leave_out(node: u8, at: usize) -> Walk
+fn leave_out(node: u8, at: usize) -> Option<usize>
     ensures { result ≡ left_out node at }
 {
     if node < OPTIONAL {
-        return Walk::Missed;
+        return None;
     }
-    Walk::To(at)
+    Some(at)
 }
 
-// Takes a row's node at a name, or leaves it out if it is optional.
-fn take_node(table: &Table, names: &[u64], at: usize, node: u8) -> Walk
+// Takes a row's node at a name, or leaves it out if it is optional, and gives the place of the name that comes next; none where
+// the row is missed.
+fn take_node(table: &Table, names: &[u64], at: usize, node: u8) -> Option<usize>
     requires { (at ≤ length names.now) × (word_in node < node_count) }
     ensures { Walked (node_of node) names.now at result }
 {
@@ -56,7 +50,7 @@ fn take_node(table: &Table, names: &[u64], at: usize, node: u8) -> Walk
         return leave_out(node, at);
     }
     if spells(table, names[at], (node % OPTIONAL) as usize) {
-        return Walk::To(at + 1);
+        return Some(at + 1);
     }
     leave_out(node, at)
 }
@@ -85,36 +79,29 @@ fn mark(names: &[u64], star: bool) -> usize
     letters
 }
 
-// Finds the first row that spells the names in the form asked for, or ROWS. No row before the one where it starts does. At the first
-// node that is missed the inner loop is left and the next row is tried.
-pub(crate) fn find(table: &Table, names: &[u64], star: bool, asked: bool) -> usize
-    ensures { result ≡ row_of_keys star names.now asked }
+// Finds the first row that spells the names in the form asked for. No row before the one where it starts does. At the first node
+// that is missed the inner loop is left and the next row is tried.
+pub(crate) fn find(table: &Table, names: &[u64], star: bool, asked: bool) -> Option<usize>
+    ensures { result ≡ found (row_of_keys star names.now asked) }
 {
     let bit = form_bit(star, asked);
-    let mut next = table.start_row(mark(names, star));
-    'rows: while next < ROWS {
-        let row = next;
-        next += 1;
+    'rows: for row in table.start_row(mark(names, star))..ROWS {
         if table.row_cell(row, 0) & bit == 0 {
             continue 'rows;
         }
         let n = table.row_cell(row, 1) as usize;
         let mut at: usize = 0;
-        let mut passed: usize = 0;
-        while passed < n {
-            let walk = take_node(table, names, at, table.row_cell(row, passed + 2));
-            match walk {
-                Walk::To(place) => at = place,
-                Walk::Missed => continue 'rows,
-            }
-            passed += 1;
+        for passed in 0..n {
+            let Some(place) = take_node(table, names, at, table.row_cell(row, passed + 2)) else {
+                continue 'rows;
+            };
+            at = place;
         }
-        if at < names.len() {
-            continue 'rows;
+        if names.len() <= at {
+            return Some(row);
         }
-        return row;
     }
-    ROWS
+    None
 }
 
 // Tells which suffix a header has, the first of its names' that is one: 0 for none, 1, 2, 3 for other digits.

@@ -1,27 +1,25 @@
 // Checks 1 to 7 on one unit, a part of the line where it stands.
-ghost use Rattle.std.specs.Prelude.{◌≡◌, List, ◌≤◌};
+ghost use Rattle.std.specs.Prelude.{◌≡◌, List};
 ghost use Rattle.registers.specs.Text.{Text, every};
 ghost use Rattle.registers.specs.Error.{number_of, meant};
 ghost use Rattle.interpreter.specs.Cuts.{trim};
-ghost use Rattle.interpreter.specs.DeedParts.{no_channel};
-ghost use Rattle.interpreter.specs.HeaderParts.{Holds, Held};
+ghost use Rattle.interpreter.specs.HeaderParts.{IsPath, Held};
 ghost use Rattle.interpreter.specs.Unit.{allowed};
 ghost use Rattle.interpreter.specs.UnitParts.{decided, decided_text, header_refusal, UnitRead};
 
-use crate::deed::{Deed, Heading, NO_CHANNEL, NOWHERE, Role};
-use crate::header::{Looked, MOST_NAMES};
+use crate::deed::{Deed, Heading, Role};
+use crate::path::Path;
 use crate::table::Table;
 use crate::{deed, header, parameter, quoted};
 use registers::error::Error;
 use registers::settings::Settings;
 use registers::text;
 
-// What checks 1 to 7 leave of a unit: its deed, the text of its parameters, and how many names its path has.
+// What checks 1 to 7 leave of a unit: its deed, and the text of its parameters.
 #[derive(Clone, Copy)]
 pub(crate) struct Reading<'a> {
     pub(crate) deed: Deed,
     pub(crate) given: &'a [u8],
-    pub(crate) used: usize,
 }
 
 // Makes check 1.
@@ -46,24 +44,13 @@ fn trimmed(text: &[u8]) -> &[u8]
 }
 
 // Makes checks 2 to 7 after the header, on the parameters' text without white space around it.
-fn decide(
-    table: &Table,
-    settings: Settings,
-    heading: Heading,
-    text: &[u8],
-) -> Result<Deed, Error>
-    requires { (heading.place ≤ no_channel) × (trim text.now ≡ text.now) }
-    ensures { meant result ≡ decided settings heading.place heading.asked text.now }
+fn decide(table: &Table, settings: Settings, heading: Heading, text: &[u8]) -> Result<Deed, Error>
+    requires { trim text.now ≡ text.now }
+    ensures { meant result ≡ decided settings (meant heading.place) heading.asked text.now }
 {
     let parts = parameter::count(text)?;
-    let place = heading.place;
+    let place = heading.place?;
     let asked = heading.asked;
-    if place == NOWHERE {
-        return Err(Error::UndefinedHeader);
-    }
-    if place == NO_CHANNEL {
-        return Err(Error::HeaderSuffix);
-    }
     let role = deed::role_of(place);
     let most = parameter::most(role, asked);
     if most < parts {
@@ -88,8 +75,8 @@ fn decide_text(
     heading: Heading,
     text: &[u8],
 ) -> Result<Deed, Error>
-    requires { (heading.place ≤ no_channel) × (trim text.now ≡ text.now) }
-    ensures { meant result ≡ decided_text settings heading.place heading.asked text.now }
+    requires { trim text.now ≡ text.now }
+    ensures { meant result ≡ decided_text settings (meant heading.place) heading.asked text.now }
 {
     if !all_allowed(text) {
         return Err(Error::InvalidCharacter);
@@ -111,20 +98,17 @@ fn header_error(unit: &[u8]) -> Error
 pub(crate) fn read<'a>(
     table: &Table,
     settings: Settings,
-    path: &mut [u64; MOST_NAMES],
-    used: usize,
+    path: &mut Path,
     unit: &'a [u8],
 ) -> Result<Reading<'a>, Error>
-    requires { Held path.old used }
-    ensures { (names : List Text) → Holds names path.old used → UnitRead settings names unit.now result path.new }
+    requires { Held path.old }
+    ensures { (names : List Text) → IsPath names path.old → UnitRead settings names unit.now result path.new }
 {
     let start = text::white_end(unit, 0);
-    match header::look_up(table, path, used, &unit[start..]) {
-        Looked::Bad => Err(header_error(unit)),
-        Looked::At { heading, used, end } => {
-            let given = trimmed(&unit[start + end..]);
-            let deed = decide_text(table, settings, heading, given)?;
-            Ok(Reading { deed, given, used })
-        }
-    }
+    let Some(looked) = header::look_up(table, path, &unit[start..]) else {
+        return Err(header_error(unit));
+    };
+    let given = trimmed(&unit[start + looked.end..]);
+    let deed = decide_text(table, settings, looked.heading, given)?;
+    Ok(Reading { deed, given })
 }

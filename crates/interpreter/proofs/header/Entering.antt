@@ -10,16 +10,17 @@ use native.Mathlib.Omega.{arith}
 use lib.ListN.{length, take, drop, set, length-append, length-take}
 use lib.Seq.{take_all, take-suc-set, take-append_seam, drop-drop}
 use borrow.Author.Tests.{ne_eqb}
-use Rattle.registers.specs.Text.{Text, if◌then◌otherwise◌, visible, letter, small, digit, word_byte, every, empty, first, rest, start, after}
+use Rattle.std.specs.Prelude.{Option, Some, None}
+use Rattle.registers.specs.Text.{Text, if◌then◌otherwise◌, visible, letter, small, digit, word_byte, every, first, rest, start, after}
 use Rattle.registers.proofs.Tests.{is_true, and-true}
 use Rattle.registers.proofs.text.Laws.{rest_at, drop-start, start-passes}
 use Rattle.interpreter.specs.Header.{name}
-use Rattle.interpreter.specs.NameParts.{with_code, word_key, class_of, key_of, name_in, NameRead}
-use Rattle.interpreter.specs.HeaderParts.{most_names, asks_in, names_in, unasked, Entered, TailRead, NamesRead}
+use Rattle.interpreter.specs.NameParts.{key_of, name_in, most_names, NameHere}
+use Rattle.interpreter.specs.HeaderParts.{asks_in, names_in, Entered, TailRead, NamesRead}
 use Rattle.interpreter.specs.declared.name.Name.{Name}
 use Rattle.interpreter.specs.declared.header.Names.{Names}
 use Prim.Native.Char.{code}
-use Rattle.interpreter.proofs.table.Codes.{letter-word, letter-stem, code-some, digit-alone}
+use Rattle.interpreter.proofs.table.Codes.{letter-word}
 use Rattle.interpreter.proofs.header.Scan.{scan-none, scan-on, scan-on-asks, scan-on-length, scan-last, scan-last-asks, scan-last-length, scan-bad}
 
 -- ---- a name is entered
@@ -63,37 +64,7 @@ after_first p z (b ∷ t) = go (p b) refl (after_first p z t)
     go true q ih = ih
     go false q ih = q
 
--- a name that starts with a letter has a number
-not-digit : (b : ℕ) → letter b ≡ true → digit b ≡ false
-not-digit b e = go (digit b) refl
-  where
-    go : (d : Bool) → digit b ≡ d → digit b ≡ false
-    go true q = absurd (false≢true (sym (digit-alone b q).0 ∙ e))
-    go false q = q
-
-some_key : (b : ℕ) (t : Text) → letter b ≡ true → 0 < key_of (b ∷ t)
-unfolding key_of word_key with_code if◌then◌otherwise◌
-some_key b t e = let s = code-some b (letter-stem b e) in rw (not-digit b e) (omega arith)
-
 module _ (u : Text) where
-  -- a number that is 0 is that of no name
-  pub unnamed : key_of (name_in u) ≡ 0 → letter (first u) ≡ false
-  unfolding name_in letter small if◌then◌otherwise◌
-  unnamed e = go u (letter (first u)) refl e
-    where
-      go : (t : Text) (l : Bool) → letter (first t) ≡ l → key_of (if l then start word_byte t otherwise []) ≡ 0 → l ≡ false
-      go t false q k = refl
-      go [] true q k = absurd (false≢true q)
-      go (b ∷ t) true q k = absurd (let s = some_key b (start word_byte t) q in let z : key_of (b ∷ start word_byte t) ≡ 0 = rw (letter-word b q) at k in omega arith)
-
-  pub named : (key_of (name_in u) ≡ 0 → ⊥) → letter (first u) ≡ true
-  unfolding name_in key_of word_key class_of if◌then◌otherwise◌
-  named ne = go (letter (first u)) refl ne
-    where
-      go : (l : Bool) → letter (first u) ≡ l → (key_of (if l then start word_byte u otherwise []) ≡ 0 → ⊥) → l ≡ true
-      go true q n = refl
-      go false q n = absurd (n refl)
-
   module _ (e : letter (first u) ≡ true) where
     name-is : name_in u ≡ start word_byte u
     unfolding name_in if◌then◌otherwise◌
@@ -139,98 +110,85 @@ pub naming-start : (joined : Bool) (t : Text) (at used : ℕ) (keys : List ℕ) 
 naming-start joined t at used keys h l = record { few = h; long = l; good = refl; asked = refl; end = refl; held = refl }
 
 module _ {joined : Bool} {t : Text} {at : ℕ} {path keys : List ℕ} {count i : ℕ} (n : Naming joined t at path keys count i)
-    (x : Name) (is : NameRead t i x) where
-  -- no name is there
-  pub naming-none : x.key ≡ 0 → (r : Names) → r.good ≡ false → (left : List ℕ) → NamesRead joined t at path r left
-  naming-none z r e left =
-      let o = scan-none joined (drop i t) (unnamed (drop i t) (sym is.key ∙ z)) in
-      record { good = e ∙ sym (n.good ∙ o); found = λ g. absurd (false≢true (sym e ∙ g)) }
+  where
+    -- no name is there
+    pub naming-none : letter (first (drop i t)) ≡ false → (left : List ℕ) → NamesRead joined t at path None left
+    naming-none e left = n.good ∙ scan-none joined (drop i t) e
 
-  module _ (some : x.key ≡ 0 → ⊥) where
-    abbrev w : Text
-    w = name_in (drop i t)
+    module _ (x : Name) (is : NameHere t i x) where
+      abbrev w : Text
+      w = name_in (drop i t)
 
-    abbrev z : Text
-    z = drop x.end t
+      abbrev z : Text
+      z = drop x.end t
 
-    lettered : letter (first (drop i t)) ≡ true
-    lettered = named (drop i t) (λ e. some (is.key ∙ e))
+      is-good : name w ≡ true
+      is-good = is_name (drop i t) is.lettered
 
-    is-good : name w ≡ true
-    is-good = is_name (drop i t) lettered
+      after-name : drop (length w) (drop i t) ≡ z
+      after-name = drop-drop (length w) i t ∙ rw is.end
 
-    after-name : drop (length w) (drop i t) ≡ z
-    after-name = drop-drop (length w) i t ∙ rw is.end
+      split : drop i t ≡ w ++ z
+      split = name-split (drop i t) is.lettered ∙ rw after-name
 
-    split : drop i t ≡ w ++ z
-    split = name-split (drop i t) lettered ∙ rw after-name
+      ends : word_byte (first z) ≡ false
+      ends = rw after-name at (name-ends (drop i t) is.lettered)
 
-    ends : word_byte (first z) ≡ false
-    ends = rw after-name at (name-ends (drop i t) lettered)
-
-    module _ {more : ℕ} {left : List ℕ} (h : Entered keys count x.key more left) (same : length left ≡ length keys) where
-      -- it is joined to another
-      pub naming-on : joined ≡ true → first z ≡ code ":" → Naming joined t at path left more (x.end + 1)
-      naming-on j c =
-          let u : z ≡ code ":" ∷ drop (x.end + 1) t = colon-split x.end c in
-          let s : drop i t ≡ w ++ (code ":") ∷ drop (x.end + 1) t = split ∙ ap (λ (l : Text). w ++ l) u in
-          let on : names_in joined (w ++ (code ":") ∷ drop (x.end + 1) t) ≡ w ∷ names_in joined (drop (x.end + 1) t) = rw j (scan-on w is-good (drop (x.end + 1) t)) in
-          let names = ap (names_in joined) s ∙ on in
-          let l = ap (λ (u : Text). length (start visible u)) s ∙ scan-on-length w is-good (drop (x.end + 1) t) in
-          let e = is.end in
-          let d = n.end in
-          record {
-            few = h.few;
-            long = same ∙ n.long;
-            good = n.good ∙ ap (every name) names ∙ rw is-good;
-            asked = n.asked ∙ ap asks_in s ∙ scan-on-asks w is-good (drop (x.end + 1) t);
-            end = omega arith;
-            held = n.held ∙ ap (λ (l : List Text). take most_names (take count keys ++ map key_of l)) names ∙ entered (map key_of (names_in joined (drop (x.end + 1) t)));
-          }
-        where
-          colon-split : (e : ℕ) → first (drop e t) ≡ code ":" → drop e t ≡ code ":" ∷ drop (e + 1) t
-          colon-split e c = go (drop e t) refl c ∙ ap (λ (l : Text). (code ":") ∷ l) (rest_at t e)
-            where
-              go : (l : Text) → drop e t ≡ l → first l ≡ code ":" → l ≡ code ":" ∷ rest (drop e t)
-              go [] q k = absurd (omega arith)
-              go (b ∷ l) q k = rw (q, k)
-
-          entered : (m : List ℕ) → take most_names (take count keys ++ key_of w ∷ m) ≡ take most_names (take more left ++ m)
-          entered m =
-              ap (λ (k : ℕ). take most_names (take count keys ++ k ∷ m)) (sym is.key)
-              ∙ ap (take most_names) (sym (append_assoc (take count keys) (x.key ∷ []) m))
-              ∙ sym (take_twice most_names (take count keys ++ x.key ∷ []) m)
-              ∙ ap (λ (l : List ℕ). take most_names (l ++ m)) (sym h.is)
-
-      -- it is the last
-      module _ (last : joined ≡ true → first z ≡ code ":" → ⊥) (r : Names) (v : TailRead t x.end more r) where
-        pub naming-end : NamesRead joined t at path r left
-        naming-end = go (empty (start visible (unasked z))) refl
+      module _ {more : ℕ} {left : List ℕ} (h : Entered keys count x.key more left) (same : length left ≡ length keys) where
+        -- it is joined to another
+        pub naming-on : joined ≡ true → first z ≡ code ":" → Naming joined t at path left more (x.end + 1)
+        naming-on j c =
+            let u : z ≡ code ":" ∷ drop (x.end + 1) t = colon-split x.end c in
+            let s : drop i t ≡ w ++ (code ":") ∷ drop (x.end + 1) t = split ∙ ap (λ (l : Text). w ++ l) u in
+            let on : names_in joined (w ++ (code ":") ∷ drop (x.end + 1) t) ≡ w ∷ names_in joined (drop (x.end + 1) t) = rw j (scan-on w is-good (drop (x.end + 1) t)) in
+            let names = ap (names_in joined) s ∙ on in
+            let l = ap (λ (u : Text). length (start visible u)) s ∙ scan-on-length w is-good (drop (x.end + 1) t) in
+            let e = is.end in
+            let d = n.end in
+            record {
+              few = h.few;
+              long = same ∙ n.long;
+              good = n.good ∙ ap (every name) names ∙ rw is-good;
+              asked = n.asked ∙ ap asks_in s ∙ scan-on-asks w is-good (drop (x.end + 1) t);
+              end = omega arith;
+              held = n.held ∙ ap (λ (l : List Text). take most_names (take count keys ++ map key_of l)) names ∙ entered (map key_of (names_in joined (drop (x.end + 1) t)));
+            }
           where
-            go : (c : Bool) → empty (start visible (unasked z)) ≡ c → NamesRead joined t at path r left
-            go true c =
-                let names = ap (names_in joined) split ∙ scan-last w is-good z c joined in
-                let l = ap (λ (u : Text). length (start visible u)) split ∙ scan-last-length w is-good z c in
-                let e = is.end in
-                let d = n.end in
-                let f = v.end in
-                record {
-                  good = v.good ∙ c ∙ sym (n.good ∙ ap (every name) names ∙ rw is-good);
-                  found = λ g.
-                      record {
-                        asked = v.asked ∙ sym (n.asked ∙ ap asks_in split ∙ scan-last-asks w is-good z c);
-                        end = omega arith;
-                        held = ap (λ (k : ℕ). take k left) v.count ∙ h.is ∙ ap (λ (k : ℕ). take most_names (take count keys ++ k ∷ [])) is.key
-                            ∙ sym (n.held ∙ ap (λ (l : List Text). take most_names (take count keys ++ map key_of l)) names);
-                        few = rw v.count h.few;
-                        some = rw v.count h.some;
-                      };
-                }
-            go false c =
-                let bad =
-                ap (λ (u : Text). every name (names_in joined u)) split
-                ∙ scan-bad w is-good z c ends joined (λ j. ne_eqb (first z) (code ":") (last j)) in
-                record {
-                  good = v.good ∙ c ∙ sym (n.good ∙ bad);
-                  found = λ g. absurd (false≢true (sym (v.good ∙ c) ∙ g));
-                }
+            colon-split : (e : ℕ) → first (drop e t) ≡ code ":" → drop e t ≡ code ":" ∷ drop (e + 1) t
+            colon-split e c = go (drop e t) refl c ∙ ap (λ (l : Text). (code ":") ∷ l) (rest_at t e)
+              where
+                go : (l : Text) → drop e t ≡ l → first l ≡ code ":" → l ≡ code ":" ∷ rest (drop e t)
+                go [] q k = absurd (omega arith)
+                go (b ∷ l) q k = rw (q, k)
+
+            entered : (m : List ℕ) → take most_names (take count keys ++ key_of w ∷ m) ≡ take most_names (take more left ++ m)
+            entered m =
+                ap (λ (k : ℕ). take most_names (take count keys ++ k ∷ m)) (sym is.key)
+                ∙ ap (take most_names) (sym (append_assoc (take count keys) (x.key ∷ []) m))
+                ∙ sym (take_twice most_names (take count keys ++ x.key ∷ []) m)
+                ∙ ap (λ (l : List ℕ). take most_names (l ++ m)) (sym h.is)
+
+        -- it is the last
+        module _ (last : joined ≡ true → first z ≡ code ":" → ⊥) (r : Option Names) (v : TailRead t x.end more r) where
+          pub naming-end : NamesRead joined t at path r left
+          naming-end = go r v
+            where
+              go : (r : Option Names) → TailRead t x.end more r → NamesRead joined t at path r left
+              go (Some r) v =
+                  let names = ap (names_in joined) split ∙ scan-last w is-good z v.ends joined in
+                  let l = ap (λ (u : Text). length (start visible u)) split ∙ scan-last-length w is-good z v.ends in
+                  let e = is.end in
+                  let d = n.end in
+                  let f = v.end in
+                  record {
+                    good = n.good ∙ ap (every name) names ∙ rw is-good;
+                    asked = v.asked ∙ sym (n.asked ∙ ap asks_in split ∙ scan-last-asks w is-good z v.ends);
+                    end = omega arith;
+                    held = ap (λ (k : ℕ). take k left) v.count ∙ h.is ∙ ap (λ (k : ℕ). take most_names (take count keys ++ k ∷ [])) is.key
+                        ∙ sym (n.held ∙ ap (λ (l : List Text). take most_names (take count keys ++ map key_of l)) names);
+                    few = rw v.count h.few;
+                    some = rw v.count h.some;
+                  }
+              go None v =
+                  n.good ∙ ap (λ (u : Text). every name (names_in joined u)) split
+                  ∙ scan-bad w is-good z v ends joined (λ j. ne_eqb (first z) (code ":") (last j))

@@ -13,11 +13,12 @@ use Rattle.registers.specs.Text.{Text, if◌then◌otherwise◌, every}
 use Rattle.registers.proofs.Tests.{and_both, and-true, every_append}
 use Rattle.interpreter.specs.Cuts.{front}
 use Rattle.interpreter.specs.Header.{name, suffix_in}
-use Rattle.interpreter.specs.NameParts.{class_of, key_of}
+use Rattle.interpreter.specs.NameParts.{class_of, key_of, most_names}
 use Rattle.interpreter.specs.DeedParts.{row_count, place_of}
 use Rattle.interpreter.specs.RowsParts.{row_of, class_in, row_of_keys}
 use Rattle.interpreter.specs.TableParts.{or_zero}
-use Rattle.interpreter.specs.HeaderParts.{most_names, Holds}
+use Rattle.interpreter.specs.HeaderParts.{Holds, IsPath}
+use Rattle.interpreter.specs.declared.path.Path.{Path}
 use Rattle.interpreter.proofs.rows.Numbers.{row_same, held_same, found-few}
 use Rattle.interpreter.proofs.rows.Suffixes.{class-names}
 use Rattle.interpreter.proofs.deed.Laws.{place-nowhere}
@@ -37,8 +38,8 @@ front-keys (x ∷ y ∷ l) =
     ap (λ (u : List ℕ). key_of x ∷ u) (front-keys (y ∷ l)) ∙ ap (λ (n : ℕ). take n (map key_of (x ∷ y ∷ l))) z
 
 -- no path
-pub holds-none : (keys : List ℕ) → Holds [] keys 0
-holds-none keys = record { all = refl; is = refl; few = omega arith }
+pub at-root : (p : Path) → p.used ≡ 0 → IsPath [] p
+at-root p e = record { all = refl; is = rw e }
 
 pub or-zero-small : (keep : Bool) (n : ℕ) → or_zero keep n ≤ n
 or-zero-small true n = omega arith
@@ -85,7 +86,6 @@ module _ (path names : List Text) (known : every name path ≡ true) (good : eve
       record {
         all = every_front name full full-good;
         is = sym (take-take (count - 1) count keys (omega arith)) ∙ rw all (rw c (sym (front-keys full)));
-        few = omega arith;
       }
 
 -- a common command's name stands after the path, which stays
@@ -125,4 +125,4 @@ module _ (before : List ℕ) (used : ℕ) (room : used < most_names) (was : leng
       let k : take used keys ≡ take used before =
       sym (take-take used count keys (omega arith))
       ∙ rw entered-after (subst (λ (k : ℕ). take k (take used before ++ key_of n ∷ []) ≡ take used before) (length-take-le used before (omega arith)) (take-append_seam (take used before) (key_of n ∷ []))) in
-      rw u (record { all = p.all; is = k ∙ p.is; few = p.few })
+      rw u (record { all = p.all; is = k ∙ p.is })

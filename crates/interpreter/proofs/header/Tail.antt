@@ -8,6 +8,7 @@ use lib.Dec.{eqb}
 use lib.ListN.{length, get_or, drop}
 use borrow.Author.Tests.{eq-eqb, eqb-true, not-false}
 use mir.Val.{bool_byte}
+use Rattle.std.specs.Prelude.{Some, None}
 use Rattle.registers.specs.Text.{Text, if◌then◌otherwise◌, white, visible, empty, first, rest, start}
 use Rattle.registers.proofs.text.Laws.{rest_at, first-within, start-more, start-stop, start-end}
 use Prim.Native.Char.{code}
@@ -47,22 +48,24 @@ module _ (t : Text) (at b : ℕ) (is : b ≡ first (drop at t)) where
       go false = let z : at + 0 ≡ at = omega arith in rw z
 
   module _ (held e : ℕ) (to : e ≡ at + bool_byte (eqb b (code "?"))) where
-    read : (g : Bool) → g ≡ empty (start visible (drop e t)) → TailRead t at held (record { good = g; asked = eqb b (code "?"); end = e; count = held })
-    read g k =
+    after : empty (start visible (drop e t)) ≡ empty (start visible (unasked (drop at t)))
+    after = ap (λ (u : Text). empty (start visible u)) (ap (λ (n : ℕ). drop n t) to ∙ after-mark)
+
+    read : empty (start visible (drop e t)) ≡ true → TailRead t at held (Some (record { asked = eqb b (code "?"); end = e; count = held }))
+    read k =
         record {
-          good = k ∙ ap (λ (u : Text). empty (start visible u)) (ap (λ (n : ℕ). drop n t) to ∙ after-mark);
+          ends = sym after ∙ k;
           asked = ap (λ (x : ℕ). eqb x (code "?")) is;
           end = to ∙ ap (λ (x : ℕ). at + bool_byte (eqb x (code "?"))) is;
           count = refl;
         }
 
-    pub tail-end : length t ≤ e → TailRead t at held (record { good = true; asked = eqb b (code "?"); end = e; count = held })
-    tail-end h = read true (rw (start-end visible t e h))
+    pub tail-end : length t ≤ e → TailRead t at held (Some (record { asked = eqb b (code "?"); end = e; count = held }))
+    tail-end h = read (rw (start-end visible t e h))
 
-    pub tail_more : e < length t → (w : Bool) → w ≡ white (get_or t e 0)
-        → TailRead t at held (record { good = w; asked = eqb b (code "?"); end = e; count = held })
-    tail_more h w k = read w (go w refl)
-      where
-        go : (x : Bool) → w ≡ x → w ≡ empty (start visible (drop e t))
-        go true q = rw (start-stop visible t e h (ap not (sym k ∙ q))) q
-        go false q = rw (start-more visible t e h (ap not (sym k ∙ q))) q
+    module _ (h : e < length t) where
+      pub tail_white : white (get_or t e 0) ≡ true → TailRead t at held (Some (record { asked = eqb b (code "?"); end = e; count = held }))
+      tail_white q = read (rw (start-stop visible t e h (ap not q)))
+
+      pub tail_more : white (get_or t e 0) ≡ false → TailRead t at held None
+      tail_more q = sym after ∙ rw (start-more visible t e h (ap not q))

@@ -42,36 +42,36 @@ block_read place at end store e f =
 
 -- ---- what is carried out
 
-module _ (p : Present) (place used : ℕ) (store : Text) (short : p.status.queued ≤ most) (room : p.answered < most_answer) where
+module _ (p : Present) (place : ℕ) (store : Text) (short : p.status.queued ≤ most) (room : p.answered < most_answer) where
   pub saved : permitted (Saving Save place) (core_in p.settings p.status) ≡ passed tt → (left : Text) → left ≡ saved_at place p.settings store
-      → (t out : Text) → CarriedOut (Saving Save place) t used p out (memory store) (record { present = p; used = used; obeyed = true }) out (memory left)
+      → (t out : Text) → CarriedOut (Saving Save place) t p out (memory store) (record { present = p; obeyed = true }) out (memory left)
   unfolding perform set_up ◌>>=◌ ◌>>◌
   saved l left is t out =
       record {
         queued = short;
         room = room;
-        goes = λ _. (rw (seen p (Saving Save place) t used out (memory store) l, is), refl);
+        goes = λ _. rw (seen p (Saving Save place) t out (memory store) l, is);
         stops = λ t. absurd (false≢true (sym t));
       }
 
   module _ (l : permitted (Saving Recall place) (core_in p.settings p.status) ≡ passed tt) (good : Bool)
       (tells : good ≡ recallable (block_at place store)) where
     pub recalled : not good ≡ false → (s : Settings) → s ≡ said_in (block_at place store) → (t out : Text)
-        → CarriedOut (Saving Recall place) t used p out (memory store)
-        (record { present = record { settings = s; status = p.status; answered = p.answered }; used = used; obeyed = true }) out (memory store)
+        → CarriedOut (Saving Recall place) t p out (memory store)
+        (record { present = record { settings = s; status = p.status; answered = p.answered }; obeyed = true }) out (memory store)
     unfolding perform set_up ◌>>=◌ ◌>>◌ check
     recalled n s is t out =
         let yes = not-false good n in
         record {
           queued = short;
           room = room;
-          goes = λ _. (rw (seen p (Saving Recall place) t used out (memory store) l, sym tells ∙ yes, is ∙ said-recalled (block_at place store) (sym tells ∙ yes)), refl);
+          goes = λ _. rw (seen p (Saving Recall place) t out (memory store) l, sym tells ∙ yes, is ∙ said-recalled (block_at place store) (sym tells ∙ yes));
           stops = λ t. absurd (false≢true (sym t));
         }
 
     pub lost : not good ≡ true → (r : Done) → StoppedWith SaveRecallMemoryLost p r → (t out : Text)
-        → CarriedOut (Saving Recall place) t used p out (memory store) r out (memory store)
+        → CarriedOut (Saving Recall place) t p out (memory store) r out (memory store)
     unfolding perform set_up ◌>>=◌ ◌>>◌ check
     lost n r w t out =
-        stopped p (Saving Recall place) t used out (memory store) short room SaveRecallMemoryLost r w out
-        (rw (seen p (Saving Recall place) t used out (memory store) l, sym tells ∙ not-true good n)) refl
+        stopped p (Saving Recall place) t out (memory store) short room SaveRecallMemoryLost r w out
+        (rw (seen p (Saving Recall place) t out (memory store) l, sym tells ∙ not-true good n)) refl

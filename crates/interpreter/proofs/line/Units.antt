@@ -18,14 +18,15 @@ use Rattle.interpreter.specs.Cuts.{quote_next, separates, cut_open}
 use Rattle.interpreter.specs.CutsParts.{place_open}
 use Rattle.interpreter.specs.Box.{memory, store_size, Box, most_answer}
 use Rattle.interpreter.specs.Line.{Obeyed, attempt, refuse, run_units}
-use Rattle.interpreter.specs.HeaderParts.{Holds}
+use Rattle.interpreter.specs.HeaderParts.{IsPath}
 use Rattle.interpreter.specs.PresentParts.{box_in}
 use Rattle.interpreter.specs.PresentParts.{box_at}
 use Rattle.interpreter.specs.LineParts.{UnitRan}
 use Rattle.interpreter.specs.declared.present.Present.{Present}
 use Rattle.interpreter.specs.declared.line.Done.{Done}
+use Rattle.interpreter.specs.declared.path.Path.{Path}
 use Rattle.registers.specs.Queue.{most}
-use Rattle.interpreter.proofs.header.Path.{holds-none}
+use Rattle.interpreter.proofs.header.Path.{at-root}
 
 -- ---- a line cut at its units
 
@@ -72,24 +73,24 @@ run_none path b = refl
 
 -- ---- the units of a line so far: what is left does what all of them do
 
-pub record Going (b : Box) (line : Text) (keys : List ℕ) (out store : Text) (d : Done) (at : ℕ) : Type 0 where
+pub record Going (b : Box) (line : Text) (way : Path) (out store : Text) (d : Done) (at : ℕ) : Type 0 where
   pub queued : d.present.status.queued ≤ most
   pub answers : d.present.answered < most_answer
   pub long : length out ≡ most_answer
   pub sized : length store ≡ store_size
   pub within : at ≤ length line
   pub path : List Text
-  pub holds : Holds path keys d.used
+  pub holds : IsPath path way
   pub left : run_units (cut_open (code ";") 0 (drop at line)) path (box_at d.present out (memory store)) ≡ run_units (cut_open (code ";") 0 line) [] b
 
-pub going_start : (p : Present) (o : Bool) (line : Text) (keys : List ℕ) (out store : Text) → p.answered ≡ 0 → p.status.queued ≤ most → length out ≡ most_answer
-    → length store ≡ store_size → Going (box_in p [] (memory store)) line keys out store (record { present = p; used = 0; obeyed = o }) 0
-going_start p o line keys out store z q l z' =
-    record { queued = q; answers = omega arith; long = l; sized = z'; within = zero-le; path = []; holds = holds-none keys; left = rw z }
+pub going_start : (p : Present) (o : Bool) (line : Text) (way : Path) (out store : Text) → way.used ≡ 0 → p.answered ≡ 0 → p.status.queued ≤ most → length out ≡ most_answer
+    → length store ≡ store_size → Going (box_in p [] (memory store)) line way out store (record { present = p; obeyed = o }) 0
+going_start p o line way out store u z q l z' =
+    record { queued = q; answers = omega arith; long = l; sized = z'; within = zero-le; path = []; holds = at-root way u; left = rw z }
 
-module _ (b : Box) (line : Text) (keys : List ℕ) (out store : Text) (d : Done) (at : ℕ) (g : Going b line keys out store d at)
+module _ (b : Box) (line : Text) (way : Path) (out store : Text) (d : Done) (at : ℕ) (g : Going b line way out store d at)
     (end : ℕ) (is : end ≡ at + place_open (code ";") 0 (drop at line)) (within : end ≤ length line)
-    (r : Done) (more : List ℕ) (left kept : Text) (w : UnitRan d g.path (take (end - at) (drop at line)) out (memory store) r more left (memory kept)) where
+    (r : Done) (more : Path) (left kept : Text) (w : UnitRan d g.path (take (end - at) (drop at line)) out (memory store) r more left (memory kept)) where
   -- the rest of the line, which begins with this unit, and the box before it
   abbrev here : Text
   here = drop at line

@@ -13,7 +13,7 @@ use Rattle.registers.specs.Text.{Text, if◌then◌otherwise◌, bytes, same, le
 use Rattle.registers.proofs.text.Laws.{first-at, first-within, start-more, start-stop, start-end, end-drop, OnWay, way_on, way-stop, way_end}
 use Rattle.registers.proofs.Tests.{and_assoc}
 use Rattle.interpreter.specs.Header.{stem, suffix}
-use Rattle.interpreter.specs.NameParts.{code_of, with_code, key_from, word_key, class_of, class_by, key_of, suffix_place, stem_byte, name_in, RestRead, SuffixRead, NameRead}
+use Rattle.interpreter.specs.NameParts.{code_of, with_code, key_from, word_key, class_of, class_by, key_of, suffix_place, stem_byte, name_in, RestRead, SuffixRead, NameHere}
 use Rattle.interpreter.specs.declared.name.Name.{Name}
 use Rattle.interpreter.proofs.table.Codes.{letter-stem, code-small, code-some, code-none, stem-is}
 use Rattle.interpreter.proofs.table.Keys.{class-most}
@@ -191,10 +191,6 @@ no_word (b ∷ u) s d = go (word_byte b) refl
 -- ---- the whole name
 
 module _ (t : Text) (at lead : ℕ) (is : lead ≡ first (drop at t)) where
-  pub no_name : letter lead ≡ false → NameRead t at (record { key = 0; end = at })
-  unfolding name_in key_of word_key class_of if◌then◌otherwise◌
-  no_name e = let z : at ≡ at + 0 = omega arith in record { key = rw (sym is, e); end = rw (sym is, e) z }
-
   module _ (e : letter lead ≡ true) where
     pub name-within : at < length t
     unfolding letter small
@@ -217,13 +213,14 @@ module _ (t : Text) (at lead : ℕ) (is : lead ≡ first (drop at t)) where
       after_is = end-drop stem_byte t at r.end stem-ends
 
       pub whole-name : (s : Name) → SuffixRead t r.end s
-          → NameRead t at (record { key = with_code r.key (code_of lead) + s.key * suffix_place; end = s.end })
+          → NameHere t at (record { key = with_code r.key (code_of lead) + s.key * suffix_place; end = s.end })
       unfolding key_of word_key
       whole-name s q =
           let n = parts-length (drop at t) in
           let a = stem-ends in
           let b = q.end in
           record {
+            lettered = ap letter (sym is) ∙ e;
             key = rw (name-is, stem-start (drop at t), suffix-start (drop at t), stem-of, p.key, q.key, after_is);
             end = rw name-is (let c : length (start word_byte (drop r.end t)) ≡ length (start word_byte (after stem_byte (drop at t))) = ap (λ (u : Text). length (start word_byte u)) after_is in omega arith);
           }
@@ -231,13 +228,13 @@ module _ (t : Text) (at lead : ℕ) (is : lead ≡ first (drop at t)) where
       none_left : digit (first (drop r.end t)) ≡ false → start word_byte (drop r.end t) ≡ []
       none_left d = rw after_is (no_word (after stem_byte (drop at t)) (after-stem (drop at t)) (rw after_is at d))
 
-      pub plain-name : digit (first (drop r.end t)) ≡ false → NameRead t at (record { key = with_code r.key (code_of lead); end = r.end })
+      pub plain-name : digit (first (drop r.end t)) ≡ false → NameHere t at (record { key = with_code r.key (code_of lead); end = r.end })
       unfolding class_of if◌then◌otherwise◌
       plain-name d =
           let z : r.end ≡ r.end + 0 = omega arith in
           let n = whole-name (record { key = 0; end = r.end }) (record { key = rw (none_left d); end = rw (none_left d) z }) in
           let k : with_code r.key (code_of lead) ≡ with_code r.key (code_of lead) + 0 * suffix_place = omega arith in
-          record { key = k ∙ n.key; end = n.end }
+          record { lettered = n.lettered; key = k ∙ n.key; end = n.end }
 
       -- the number fits
       pub key_fits : with_code r.key (code_of lead) < suffix_place

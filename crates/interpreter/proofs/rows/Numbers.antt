@@ -13,11 +13,10 @@ use Rattle.registers.specs.Words.{Node, must, may}
 use Rattle.registers.proofs.Tests.{and_both}
 use Rattle.interpreter.specs.Header.{name}
 use Rattle.interpreter.specs.Rows.{Row, rows, has_form, fits_row}
-use Rattle.interpreter.specs.NameParts.{key_of}
+use Rattle.interpreter.specs.NameParts.{key_of, most_names}
 use Rattle.interpreter.specs.DeedParts.{row_count}
 use Rattle.interpreter.specs.TableParts.{first_fit, most_nodes}
 use Rattle.interpreter.specs.RowsParts.{row_of, key_matches, greedy, fits_keys, row_of_keys}
-use Rattle.interpreter.specs.HeaderParts.{most_names}
 use Rattle.interpreter.proofs.rows.Greedy.{clear, rows-clear, greedy-spells}
 use Rattle.interpreter.proofs.rows.Rows.{few, rows_few}
 use Rattle.interpreter.proofs.table.Lengths.{rows-many, first-most}

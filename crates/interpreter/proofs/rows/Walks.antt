@@ -8,11 +8,11 @@ use native.Mathlib.Omega.{arith}
 use lib.Dec.{ltb}
 use lib.ListN.{length, get_or, drop, drop_of_length-le}
 use lib.Seq.{drop-cons}
+use Rattle.std.specs.Prelude.{Some, None}
 use Rattle.registers.specs.Text.{if◌then◌otherwise◌}
 use Rattle.registers.specs.Words.{Node, must, may}
 use Rattle.interpreter.specs.TableParts.{node_at, optional}
 use Rattle.interpreter.specs.RowsParts.{key_matches, greedy, word_in, node_of, left_out, Walked}
-use Rattle.interpreter.specs.declared.rows.Walk.TheVariants.{To, Missed}
 
 module _ (node : ℕ) (keys : List ℕ) (at : ℕ) where
   -- a node that is not spelled is missed, or left out if it is optional
@@ -23,7 +23,7 @@ module _ (node : ℕ) (keys : List ℕ) (at : ℕ) where
   unfolding node_of left_out if◌then◌otherwise◌
   left-out l m o = go (ltb node optional)
     where
-      go : (b : Bool) → Walked (if b then must (node_at (word_in node)) otherwise may (node_at (word_in node))) keys at (if b then Missed otherwise To at)
+      go : (b : Bool) → Walked (if b then must (node_at (word_in node)) otherwise may (node_at (word_in node))) keys at (if b then None otherwise Some at)
       go true = m
       go false = (o, l)
 
@@ -37,7 +37,7 @@ module _ (node : ℕ) (keys : List ℕ) (at : ℕ) where
     unfolding greedy if◌then◌otherwise◌
     walk-past e = left-out (omega arith) (λ nodes. rw (drop-cons keys at 0 h, e)) (λ nodes. rw (drop-cons keys at 0 h, e))
 
-    pub walk-on : key_matches (node_at (word_in node)) (get_or keys at 0) ≡ true → Walked (node_of node) keys at (To (at + 1))
+    pub walk-on : key_matches (node_at (word_in node)) (get_or keys at 0) ≡ true → Walked (node_of node) keys at (Some (at + 1))
     unfolding node_of greedy if◌then◌otherwise◌
     walk-on e = (λ nodes. go (ltb node optional) nodes, omega arith)
       where

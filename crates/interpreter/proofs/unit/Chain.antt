@@ -3,39 +3,33 @@
 use mathlib.Core.Path.{◌≡◌, refl, ap, sym, ◌∙◌}
 use mathlib.Core.Bool.{Bool, true, false}
 use mathlib.Core.List.{List}
-use Prim.Native.Nat.{ℕ, ◌+◌, ◌-◌, ◌≤◌, ◌<◌}
+use Prim.Native.Nat.{ℕ, ◌+◌, ◌-◌, ◌≤◌}
 use native.Mathlib.Omega.{arith}
-use lib.Dec.{leb, ltb, eqb}
+use lib.Dec.{leb}
 use lib.ListN.{length, take, drop}
-use borrow.Author.Tests.{ltb-true}
 use Rattle.registers.specs.Text.{Text, if◌then◌otherwise◌, white, visible, every, start, after}
 use Rattle.registers.specs.Check.{Checked, refused, passed, check, ◌>>=◌, ◌>>◌}
 use Rattle.registers.specs.Label.{text_in}
+use Rattle.registers.specs.Error.{meant}
+use Rattle.std.specs.Prelude.{Option, Some, None}
 use Rattle.registers.specs.declared.settings.Settings.{Settings}
 use Rattle.registers.proofs.text.Laws.{end-drop, end-within}
 use Rattle.interpreter.specs.Cuts.{trim}
 use Rattle.interpreter.specs.Header.{Header, header, is_common, full_names, path_after}
-use Rattle.interpreter.specs.HeaderParts.{Holds, FoundRow, LookedUp}
+use Rattle.interpreter.specs.HeaderParts.{IsPath, FoundRow, LookedUp}
 use Rattle.interpreter.specs.Rows.{find_role}
-use Rattle.interpreter.specs.DeedParts.{place_count, nowhere, no_channel}
 use Rattle.interpreter.specs.Parameter.{parameters, none_empty, least, greatest, deed_of}
 use Rattle.interpreter.specs.Unit.{allowed, Read, header_text, parameter_text, read_unit}
-use Rattle.interpreter.specs.ParameterParts.{meant_deed}
-use Rattle.interpreter.specs.UnitParts.{role_found, decided, decided_text, header_refusal, part_of, SpanOf, UnitRead}
-use Rattle.interpreter.specs.declared.unit.Span.{Span}
+use Rattle.interpreter.specs.UnitParts.{role_found, decided, decided_text, header_refusal, Accepted}
+use Rattle.interpreter.specs.declared.unit.Reading.{Reading}
 use Rattle.interpreter.specs.declared.deed.Deed.{Deed}
 use Rattle.interpreter.specs.declared.deed.Role.{Role}
-use Rattle.interpreter.specs.declared.deed.Heading.{Heading}
 use Rattle.interpreter.specs.declared.header.Looked.{Looked}
-use Rattle.interpreter.specs.declared.header.Looked.TheVariants.{Bad, At}
-use Rattle.interpreter.specs.declared.parameter.Decision.{Decision}
-use Rattle.interpreter.specs.declared.parameter.Decision.TheVariants.{Refused as no_deed, Obey as some_deed}
+use Rattle.interpreter.specs.declared.path.Path.{Path}
 use Rattle.interpreter.proofs.Lists.{rest-is}
-use Rattle.interpreter.proofs.header.Laws.{found-most}
 use Rattle.interpreter.proofs.Checks.{apart, first-check}
 use Rattle.interpreter.proofs.unit.HeaderAllowed.{allowed-after}
 use Rattle.interpreter.proofs.unit.Found.{role-found}
-use Rattle.interpreter.proofs.deed.Laws.{place-most}
 
 -- ---- the header starts at s, and the parameters' text comes after it
 
@@ -94,40 +88,39 @@ module _ (s : Settings) (asked : Bool) (ps : List Text) where
   abbrev checks_with : Checked Role → (Deed → Checked Read) → Checked Read
   checks_with m k = full >> m >>= λ r. few r >> enough r >> deed_of s r asked ps >>= k
 
-decided-then : (s : Settings) (row : ℕ) (asked : Bool) (t : Text) (k : Deed → Checked Read)
-    → (decided s row asked t >>= k) ≡ checks_with s asked (parameters t) (role_found row) k
+decided-then : (s : Settings) (place : Checked ℕ) (asked : Bool) (t : Text) (k : Deed → Checked Read)
+    → (decided s place asked t >>= k) ≡ checks_with s asked (parameters t) (role_found place) k
 unfolding decided
-decided-then s row asked t k =
+decided-then s place asked t k =
     let ps = parameters t in
-    joined (full s asked ps) (role_found row) (few s asked ps) (enough s asked ps) (λ r. deed_of s r asked ps) k
+    joined (full s asked ps) (role_found place) (few s asked ps) (enough s asked ps) (λ r. deed_of s r asked ps) k
 
 -- what the checks after the header leave of a unit
-pub record Headed (s : Settings) (path : List Text) (u : Text) (st row used : ℕ) (asked : Bool) (end : ℕ) (keys : List ℕ) : Type 0 where
-  pub within : row ≤ no_channel
+pub record Headed (s : Settings) (path : List Text) (u : Text) (st : ℕ) (place : Checked ℕ) (asked : Bool) (end : ℕ) (p : Path) : Type 0 where
   pub left : List Text
-  pub is : read_unit s path u ≡ (decided_text s row asked (parameter_text u) >>= λ d. passed (record { deed = d; text = text_in (parameter_text u); path = left }))
-  pub holds : row < place_count → Holds left keys used
+  pub is : read_unit s path u ≡ (decided_text s place asked (parameter_text u) >>= λ d. passed (record { deed = d; text = text_in (parameter_text u); path = left }))
+  pub holds : (i : ℕ) → place ≡ passed i → IsPath left p
   pub ends : st + end ≤ length u
   pub text : trim (drop (st + end) u) ≡ parameter_text u
 
 module _ (s : Settings) (path : List Text) (u : Text) where
   -- what is left once the header's row is found
   good-header : (h : Header) → header (header_text u) ≡ passed h
-      → {t : Text} {row used end : ℕ} {asked : Bool} {keys : List ℕ} → FoundRow path t h row used asked end keys
+      → {t : Text} {place : Checked ℕ} {end : ℕ} {asked : Bool} {p : Path} → FoundRow path t h place asked end p
       → read_unit s path u
-      ≡ (decided_text s row asked (parameter_text u) >>= λ d. passed (record { deed = d; text = text_in (parameter_text u); path = path_after h.place path h.names }))
+      ≡ (decided_text s place asked (parameter_text u) >>= λ d. passed (record { deed = d; text = text_in (parameter_text u); path = path_after h.place path h.names }))
   unfolding read_unit decided_text ◌>>=◌
-  good-header h is {row = row} {asked = asked} f =
+  good-header h is {place = place} {asked = asked} f =
       let t = parameter_text u in
       let k : Deed → Checked Read = λ d. passed (record { deed = d; text = text_in (parameter_text u); path = path_after h.place path h.names }) in
       let role = role-found (is_common h.place) (full_names h.place path h.names) h.query in
-      let e : read_unit s path u ≡ (check 101 (every allowed t) >> checks_with s asked (parameters t) (role_found row) k) =
+      let e : read_unit s path u ≡ (check 101 (every allowed t) >> checks_with s asked (parameters t) (role_found place) k) =
       rw (allowed-after u h is, is, f.query, f.at, role) in
-      e ∙ ap (λ (m : Checked Read). check 101 (every allowed t) >> m) (sym (decided-then s row asked t k))
-      ∙ sym (first-check (check 101 (every allowed t)) (decided s row asked t) k)
+      e ∙ ap (λ (m : Checked Read). check 101 (every allowed t) >> m) (sym (decided-then s place asked t k))
+      ∙ sym (first-check (check 101 (every allowed t)) (decided s place asked t) k)
 
-  module _ {st : ℕ} (at : Runs u st) (r : Looked) (keys : List ℕ) (k : LookedUp path (lent_from u st) r keys) where
-    pub bad-header : r ≡ Bad → (n : ℕ) → n ≡ header_refusal u → read_unit s path u ≡ refused n
+  module _ {st : ℕ} (at : Runs u st) (r : Option Looked) (p : Path) (k : LookedUp path (lent_from u st) r p) where
+    pub bad-header : r ≡ None → (n : ℕ) → n ≡ header_refusal u → read_unit s path u ≡ refused n
     unfolding read_unit header_refusal check ◌>>◌ ◌>>=◌ if◌then◌otherwise◌
     bad-header q n e = rw e (go (every allowed u) (ap (λ (t : Text). header (start visible t)) (sym at.is) ∙ rw q at k))
       where
@@ -137,13 +130,12 @@ module _ (s : Settings) (path : List Text) (u : Text) where
         go true i = rw i
         go false i = refl
 
-    pub headed : {x : Heading} {used end : ℕ} → r ≡ At x used end → Headed s path u st x.place used x.asked end keys
+    pub headed : {x : Looked} → r ≡ Some x → Headed s path u st (meant x.heading.place) x.heading.asked x.end p
     headed q =
         let g = rw q at k in
         let h = g.0 in
         let f = g.2 in
         record {
-          within = rw f.at (place-most _ _ (found-most (is_common h.place) (full_names h.place path h.names) h.query));
           left = path_after h.place path h.names;
           is = good-header h (ap (λ (t : Text). header (start visible t)) (sym at.is) ∙ g.1) f;
           holds = f.left;
@@ -152,37 +144,36 @@ module _ (s : Settings) (path : List Text) (u : Text) where
         }
 
 -- only a header that has a row has a deed
-none_passes : {A B : Type 0} (x : Checked (Unit {0})) (n : ℕ) (k : A → Checked B) (d : B) → (x >> refused n >>= k) ≡ passed d → ⊥
-unfolding ◌>>◌ ◌>>=◌
-none_passes (refused m) n k d e = apart m d e
-none_passes (passed _) n k d e = apart n d e
+none_passes : {A : Type 0} (x : Checked (Unit {0})) (n : ℕ) (a : A) → (x >> refused n) ≡ passed a → ⊥
+unfolding ◌>>◌
+none_passes (refused m) n a e = apart m a e
+none_passes (passed _) n a e = apart n a e
 
 second-passes : {A : Type 0} (x : Checked (Unit {0})) (m : Checked A) (a : A) → (x >> m) ≡ passed a → m ≡ passed a
 unfolding ◌>>◌
 second-passes (refused n) m a e = absurd (apart n a e)
 second-passes (passed _) m a e = e
 
-found-deed : (s : Settings) (row : ℕ) (asked : Bool) (t : Text) (d : Deed) → decided_text s row asked t ≡ passed d → row < place_count
-unfolding decided_text decided role_found if◌then◌otherwise◌
-found-deed s row asked t d e = go (ltb row place_count) refl (second-passes (check 101 (every allowed t)) _ d e)
-  where
-    go : (b : Bool) → ltb row place_count ≡ b → decided s row asked t ≡ passed d → row < place_count
-    go true q k = ltb-true row place_count q
-    go false q k = absurd (none_passes (full s asked (parameters t)) (if eqb row nowhere then 113 otherwise 114) _ d (rw q at k))
+found-deed : (s : Settings) (place : Checked ℕ) (asked : Bool) (t : Text) (d : Deed) → decided_text s place asked t ≡ passed d → (i : ℕ) × (place ≡ passed i)
+unfolding decided_text decided role_found ◌>>=◌
+found-deed s (passed i) asked t d e = (i, refl)
+found-deed s (refused n) asked t d e =
+    absurd (none_passes (full s asked (parameters t)) n d (second-passes (check 101 (every allowed t)) (decided s (refused n) asked t) d e))
 
-module _ (s : Settings) (path : List Text) (u : Text) {st row used end : ℕ} {asked : Bool} {keys : List ℕ} where
-  pub read-to : Headed s path u st row used asked end keys → (g : Span) → SpanOf u (st + end) g
-      → (d : Decision) → meant_deed d ≡ decided_text s row asked (part_of g.from g.to u) → UnitRead s path u d g used keys
+-- what check 1 and those after the header say of the text that stands behind it
+module _ (s : Settings) (path : List Text) (u : Text) {st end : ℕ} {place : Checked ℕ} {asked : Bool} {p : Path} (h : Headed s path u st place asked end p)
+    (t : Text) (trims : t ≡ trim (drop (st + end) u)) where
+  pub read-refused : {n : ℕ} → refused n ≡ decided_text s place asked t → read_unit s path u ≡ refused n
   unfolding ◌>>=◌
-  read-to h g w d says = go d (rw (w.is ∙ h.text) at says)
-    where
-      go : (d : Decision) → meant_deed d ≡ decided_text s row asked (parameter_text u) → UnitRead s path u d g used keys
-      go (no_deed e) is = h.is ∙ rw (sym is)
-      go (some_deed d) is =
-          record {
-            left = h.left;
-            is = rw (w.is ∙ h.text) (h.is ∙ rw (sym is));
-            holds = h.holds (found-deed s row asked (parameter_text u) d (sym is));
-            within = w.within;
-            ends = w.ends;
-          }
+  read-refused says = h.is ∙ rw (sym (rw (trims ∙ h.text) at says))
+
+  pub read-passed : (r : Reading) → r.given.now ≡ t → passed r.deed ≡ decided_text s place asked t → Accepted s path u r p
+  unfolding ◌>>=◌
+  read-passed r given says =
+      let is = rw (trims ∙ h.text) at says in
+      let there = found-deed s place asked (parameter_text u) r.deed (sym is) in
+      record {
+        left = h.left;
+        is = rw (given ∙ trims ∙ h.text) (h.is ∙ rw (sym is));
+        holds = h.holds there.0 there.1;
+      }

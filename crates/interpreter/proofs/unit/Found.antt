@@ -4,7 +4,7 @@ use mathlib.Core.Bool.{Bool, true, false, ◌&&◌, ◌||◌}
 use mathlib.Core.List.{List}
 use Prim.Native.Nat.{ℕ, ◌≤◌, ◌<◌}
 use lib.Dec.{eqb, ltb}
-use borrow.Author.Tests.{eqb-true, ltb-true, ltb-false, le-leb}
+use borrow.Author.Tests.{eqb-true, ltb-true, ltb-false}
 use Rattle.registers.specs.Text.{Text, if◌then◌otherwise◌, bytes, same, digit, every, empty}
 use Rattle.registers.specs.Check.{refused, passed, ◌>>=◌}
 use Rattle.registers.specs.Settings.{count, table, slots}
@@ -18,6 +18,7 @@ use Rattle.interpreter.specs.UnitParts.{role_found}
 use Rattle.interpreter.specs.declared.deed.Role.{Role}
 use Rattle.interpreter.specs.declared.deed.Role.TheVariants.{Setting, Register, Only, Saving, Label}
 use Rattle.interpreter.proofs.Lists.{listed, agree}
+use Rattle.interpreter.proofs.deed.Laws.{placeless}
 use Rattle.interpreter.proofs.header.Laws.{found_none, found-role}
 
 -- ---- a row's place on the channel that a suffix names, by computing it for all rows
@@ -36,8 +37,8 @@ place-role row h t = go (empty t) (same t (bytes "1")) (same t (bytes "2")) (eve
     go false false false false = agree row_count (λ k. refused 114) (λ k. role_found (place_of k 4)) refl row h
 
 no_place : (row x : ℕ) → row_count ≤ row → role_found (place_of row x) ≡ refused 113
-unfolding place_of role_found if◌then◌otherwise◌
-no_place row x h = rw (le-leb row_count row h)
+unfolding role_found ◌>>=◌
+no_place row x h = rw (placeless row x h)
 
 pub role-found : (star : Bool) (names : List Text) (asked : Bool)
     → find_role star names asked ≡ role_found (place_of (row_of star names asked) (class_of (suffix_in names)))

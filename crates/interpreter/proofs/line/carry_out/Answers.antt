@@ -11,7 +11,7 @@ pub returns-then-not-is_permitted : goal.returns-then-not-is_permitted
 returns-then-not-is_permitted c =
     let a = c.args in
     let bar = barred _ _ c.is_permitted.result c.is_permitted.ensures c.if-not-is_permitted.true-raw in
-    deed-barred a.present a.deed (text_in a.string.now) a.used a.out.now (memory a.store.now) c.requires.out_len.1 c.requires.allowed.1 _ c.stop.result c.stop.ensures bar
+    deed-barred a.present a.deed (text_in a.string.now) a.out.now (memory a.store.now) c.requires.out_len.1 c.requires.allowed.1 _ c.stop.result c.stop.ensures bar
 
 pub set_up-requires : goal.set_up-requires
 set_up-requires c =

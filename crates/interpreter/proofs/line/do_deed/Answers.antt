@@ -14,11 +14,11 @@ answer-requires c = (c.requires.answered_lt_most_answer.0, search rules, c.requi
 pub returns-in-Err : goal.returns-in-Err
 returns-in-Err c =
     let a = c.args in
-    λ m. deed-unanswered a.present a.deed (text_in a.string.now) a.used a.out.now m c.requires.answered_lt_most_answer.2 c.requires.answered_lt_most_answer.0 _ c.stop.result c.stop.ensures c.requires.status_value.0 _
+    λ m. deed-unanswered a.present a.deed (text_in a.string.now) a.out.now m c.requires.answered_lt_most_answer.2 c.requires.answered_lt_most_answer.0 _ c.stop.result c.stop.ensures c.requires.status_value.0 _
     c.answer.result c.in-Err.is (c.answer.ensures (text_in a.string.now))
 
 pub returns-in-Ok : goal.returns-in-Ok
 returns-in-Ok c =
     let a = c.args in
-    λ m. deed-done a.present a.deed (text_in a.string.now) a.used a.out.now m c.requires.status_value.0 c.requires.status_value.1 c.after-next.result c.after-next.ensures _ _
+    λ m. deed-done a.present a.deed (text_in a.string.now) a.out.now m c.requires.status_value.0 c.requires.status_value.1 c.after-next.result c.after-next.ensures _ _
     c.answer.result c.in-Ok.is (c.answer.ensures (text_in a.string.now))

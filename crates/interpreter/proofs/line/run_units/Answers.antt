@@ -5,7 +5,7 @@ use Rattle.interpreter.proofs.line.run_units.Goals as goal
 pub loop-path-init : goal.loop-path-init
 loop-path-init c =
     let a = c.args in
-    going_start a.present _ a.line.now _ a.out.now a.store.now c.requires.answered_eq0 c.requires.out_len.1 c.requires.out_len.0 c.requires.out_len.2
+    going_start a.present _ a.line.now _ a.out.now a.store.now c.root-path.ensures c.requires.answered_eq0 c.requires.out_len.1 c.requires.out_len.0 c.requires.out_len.2
 
 pub part_end-end-requires : goal.part_end-end-requires
 part_end-end-requires c = c.loop-path.invariant.within

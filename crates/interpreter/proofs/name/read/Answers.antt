@@ -5,14 +5,12 @@ use borrow.Author.Tests.{not-true, not-false}
 use Rattle.registers.specs.Text.{letter, digit}
 use Rattle.interpreter.specs.NameParts.{with_code, code_of}
 use Rattle.interpreter.proofs.table.Codes.{code-small}
-use Rattle.interpreter.proofs.name.Laws.{no_name, name-within, whole-name, plain-name, suffix-most, key_fits}
+use Rattle.interpreter.proofs.name.Laws.{name-within, whole-name, plain-name, suffix-most, key_fits}
 use native.Mathlib.Omega.{arith}
 use Rattle.interpreter.proofs.name.read.Goals as goal
 
 pub returns-then-not-is_letter : goal.returns-then-not-is_letter
-returns-then-not-is_letter c =
-    let a = c.args in
-    no_name a.text.now a.at _ c.byte_at-lead.ensures (sym c.is_letter.ensures ∙ not-true _ c.if-not-is_letter.true-raw)
+returns-then-not-is_letter c = ap letter (sym c.byte_at-lead.ensures) ∙ sym c.is_letter.ensures ∙ not-true _ c.if-not-is_letter.true-raw
 
 pub overflow_add-at : goal.overflow_add-at
 overflow_add-at c =

@@ -100,11 +100,11 @@ returns c =
     let r = c.match-branch-2.rounded in
     let is : put_fit a.settings a.row a.asked r.fit r.side ≡ put a.settings a.row a.asked (given_by c.in_ok-word.field-0) =
     elim c.match-branch-2.branch [
-      in-Word w ↦
-        rw (w.rounded-is, w.in-Word.is)
-        (word-put a.settings a.row a.asked a.text.now c.requires.row_lt_count some c.requires.asked_in_bounds.1 _ takes w.in-Word.word _
-        (rw w.in-Word.is at c.in_ok-word.ensures) (back w.word_value.result w.word_value.type_inv ∙ w.word_value.ensures))
-    | in-Figure w ↦ rw (w.rounded-is, w.in-Figure.is, w.figure_value-rounded.ensures)
+      | in-Word w ↦
+          rw (w.rounded-is, w.in-Word.is)
+          (word-put a.settings a.row a.asked a.text.now c.requires.row_lt_count some c.requires.asked_in_bounds.1 _ takes w.in-Word.word _
+          (rw w.in-Word.is at c.in_ok-word.ensures) (back w.word_value.result w.word_value.type_inv ∙ w.word_value.ensures))
+      | in-Figure w ↦ rw (w.rounded-is, w.in-Figure.is, w.figure_value-rounded.ensures)
     ] in
     c.decide_value.ensures
     ∙ is
