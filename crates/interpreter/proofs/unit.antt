@@ -5,4 +5,3 @@ pub mod Found
 pub mod Laws
 pub mod Chain
 pub mod Allowed
-pub mod Spans

@@ -1,13 +1,13 @@
 -- What the unit reader's own functions say. Nothing of 01 is defined here: see Unit.antt.
-use Rattle.std.specs.Prelude.{◌≡◌, Bool, true, List, ℕ, ◌-◌, ◌≤◌, ◌<◌, leb, length, take, drop}
+use Rattle.std.specs.Prelude.{◌≡◌, Bool, true, List, ℕ, ◌≤◌, ◌<◌, leb, length, Result, Ok, Err}
 use Rattle.registers.specs.Text.{Text, if◌then◌otherwise◌, every}
 use Rattle.registers.specs.Check.{Checked, refused, passed, ◌>>=◌, ◌>>◌, check}
 use Rattle.registers.specs.Error.{number_of}
+use Rattle.registers.specs.declared.error.Error.{Error}
 use Rattle.registers.specs.Settings.{count, within, accepted}
 use Rattle.registers.specs.Label.{most_text, may_stand, text_in}
 use Rattle.registers.specs.Status.{widest}
 use Rattle.registers.specs.declared.settings.Settings.{Settings}
-use Rattle.interpreter.specs.Cuts.{trim}
 use Rattle.interpreter.specs.Parameter.{parameters, none_empty, least, greatest, deed_of}
 use Rattle.interpreter.specs.DeedParts.{role_at}
 use Rattle.interpreter.specs.HeaderParts.{IsPath}
@@ -20,10 +20,8 @@ use Rattle.interpreter.specs.declared.deed.Change.TheVariants.{Nothing, Put, Res
 use Rattle.interpreter.specs.declared.deed.Query.{Query}
 use Rattle.interpreter.specs.declared.deed.Query.TheVariants.{Identity, SelfTest, Completed, Limit, Value, Stored, Condition, SetEvents, Label as label_asked}
 use Rattle.interpreter.specs.declared.deed.Role.{Role}
-use Rattle.interpreter.specs.declared.unit.Span.{Span}
+use Rattle.interpreter.specs.declared.unit.Reading.{Reading}
 use Rattle.interpreter.specs.declared.path.Path.{Path}
-use Rattle.interpreter.specs.declared.parameter.Decision.{Decision}
-use Rattle.interpreter.specs.declared.parameter.Decision.TheVariants.{Refused, Obey}
 
 -- the role of the place that a search found, if it found one
 unfoldable pub role_found : Checked ℕ → Checked Role
@@ -46,28 +44,16 @@ decided_text s place asked t = check 101 (every allowed t) >> decided s place as
 unfoldable pub header_refusal : Text → ℕ
 header_refusal u = if every allowed u then 102 otherwise 101
 
--- the part of a text between two places
-abbrev pub part_of : ℕ → ℕ → Text → Text
-part_of from to t = take (to - from) (drop from t)
-
--- what stands after a place, without white space around it, stands between two places
-pub record SpanOf (t : Text) (at : ℕ) (r : Span) : Type 0 where
-  pub within : r.from ≤ r.to
-  pub ends : r.to ≤ length t
-  pub is : part_of r.from r.to t ≡ trim (drop at t)
-
--- a unit leaves its deed, a path, and the text that its parameter between two places gives
-pub record Accepted (s : Settings) (path : List Text) (u : Text) (d : Deed) (given : Span) (p : Path) : Type 0 where
+-- a unit is accepted: it leaves its deed, a path, and the text that its parameter gives
+pub record Accepted (s : Settings) (path : List Text) (u : Text) (r : Reading) (p : Path) : Type 0 where
   pub left : List Text
-  pub is : read_unit s path u ≡ passed (record { deed = d; text = text_in (part_of given.from given.to u); path = left })
+  pub is : read_unit s path u ≡ passed (record { deed = r.deed; text = text_in r.given.now; path = left })
   pub holds : IsPath left p
-  pub within : given.from ≤ given.to
-  pub ends : given.to ≤ length u
 
 -- a unit is refused by an error's number, or accepted
-abbrev pub UnitRead : Settings → List Text → Text → Decision → Span → Path → Type 0
-UnitRead s path u (Refused e) given p = read_unit s path u ≡ refused (number_of e)
-UnitRead s path u (Obey d) given p = Accepted s path u d given p
+abbrev pub UnitRead : Settings → List Text → Text → Result Reading Error → Path → Type 0
+UnitRead s path u (Err e) p = read_unit s path u ≡ refused (number_of e)
+UnitRead s path u (Ok r) p = Accepted s path u r p
 
 -- ---- what a unit that was read asks for: what it stores is within its limits and, in exam mode, on the step, and the settings
 -- that it names are there

@@ -2,8 +2,9 @@
 ghost use Rattle.std.specs.Prelude.{◌≡◌, ◌<◌, IfOk};
 ghost use Rattle.std.proofs.Props.{props};
 ghost use Rattle.registers.specs.Error.{meant};
-ghost use Rattle.interpreter.specs.DeedParts.{row_count, place_count, place_of, role_at, set_at, role_of_set};
+ghost use Rattle.interpreter.specs.DeedParts.{row_count, place_count, place_of, role_at};
 
+use crate::table::ROWS;
 use registers::error::Error;
 use registers::rounding::Side;
 use registers::settings::Settings;
@@ -87,34 +88,39 @@ pub enum Role {
     Label,
 }
 
-// Names a register set by its place; past the last place it is the last set.
-fn set_at(place: usize) -> RegisterSet
-    ensures { result ≡ set_at place }
-{
-    match place {
-        0 => RegisterSet::Operation,
-        1 => RegisterSet::Lock,
-        _ => RegisterSet::Warning,
-    }
-}
-
-// Tells what a row of a register set is for, by its place among the set's five.
-fn of_set(set: RegisterSet, place: usize) -> Role
-    ensures { result ≡ role_of_set set place }
-{
-    match place {
-        0 => Role::Only(Deed::Query(Query::Condition(set))),
-        1 => Role::Only(Deed::Query(Query::SetEvents(set))),
-        2 => Role::Register(Register::Enable(set)),
-        3 => Role::Register(Register::Ntr(set)),
-        _ => Role::Register(Register::Ptr(set)),
-    }
-}
-
-// How many rows of 'Registers and queue' stand before those of the register sets, and how many a set has.
-const COMMON_ROWS: usize = 15;
-
-const SET_ROWS: usize = 5;
+// What each row of 'Registers and queue' is for, the register sets last.
+const OTHER_ROLES: [Role; ROWS - Settings::ROWS] = [
+    Role::Only(Deed::Query(Query::Identity)),
+    Role::Only(Deed::Query(Query::SelfTest)),
+    Role::Only(Deed::Query(Query::Completed)),
+    Role::Only(Deed::Change(Change::Nothing)),
+    Role::Only(Deed::Complete),
+    Role::Only(Deed::Change(Change::Reset)),
+    Role::Only(Deed::Clear),
+    Role::Register(Register::Ese),
+    Role::Register(Register::Sre),
+    Role::Only(Deed::Inquire(Inquiry::StandardEvents)),
+    Role::Only(Deed::Inquire(Inquiry::StatusByte)),
+    Role::Only(Deed::Inquire(Inquiry::NextError)),
+    Role::Saving(Saving::Save),
+    Role::Saving(Saving::Recall),
+    Role::Label,
+    Role::Only(Deed::Query(Query::Condition(RegisterSet::Operation))),
+    Role::Only(Deed::Query(Query::SetEvents(RegisterSet::Operation))),
+    Role::Register(Register::Enable(RegisterSet::Operation)),
+    Role::Register(Register::Ntr(RegisterSet::Operation)),
+    Role::Register(Register::Ptr(RegisterSet::Operation)),
+    Role::Only(Deed::Query(Query::Condition(RegisterSet::Lock))),
+    Role::Only(Deed::Query(Query::SetEvents(RegisterSet::Lock))),
+    Role::Register(Register::Enable(RegisterSet::Lock)),
+    Role::Register(Register::Ntr(RegisterSet::Lock)),
+    Role::Register(Register::Ptr(RegisterSet::Lock)),
+    Role::Only(Deed::Query(Query::Condition(RegisterSet::Warning))),
+    Role::Only(Deed::Query(Query::SetEvents(RegisterSet::Warning))),
+    Role::Register(Register::Enable(RegisterSet::Warning)),
+    Role::Register(Register::Ntr(RegisterSet::Warning)),
+    Role::Register(Register::Ptr(RegisterSet::Warning)),
+];
 
 // The rows that part the settings: those of a channel are the ones before monitor mode, and those between it and brightness.
 const MONITOR: usize = 3;
@@ -141,7 +147,7 @@ pub(crate) fn place_of(row: usize, suffix: u64) -> Result<usize, Error>
     Err(Error::HeaderSuffix)
 }
 
-// Tells what a place is for: the settings stand first, then 'Registers and queue', and the register sets last.
+// Tells what a place is for: the settings stand first, and then 'Registers and queue'.
 pub(crate) fn role_of(place: usize) -> Role
     requires { place < place_count }
     ensures { result ≡ role_at place }
@@ -149,26 +155,5 @@ pub(crate) fn role_of(place: usize) -> Role
     if place < Settings::COUNT {
         return Role::Setting(place);
     }
-    let other = place - Settings::COUNT;
-    if COMMON_ROWS <= other {
-        let within = other - COMMON_ROWS;
-        return of_set(set_at(within / SET_ROWS), within % SET_ROWS);
-    }
-    match other {
-        0 => return Role::Only(Deed::Query(Query::Identity)),
-        1 => return Role::Only(Deed::Query(Query::SelfTest)),
-        2 => return Role::Only(Deed::Query(Query::Completed)),
-        3 => return Role::Only(Deed::Change(Change::Nothing)),
-        4 => return Role::Only(Deed::Complete),
-        5 => return Role::Only(Deed::Change(Change::Reset)),
-        6 => return Role::Only(Deed::Clear),
-        7 => return Role::Register(Register::Ese),
-        8 => return Role::Register(Register::Sre),
-        9 => return Role::Only(Deed::Inquire(Inquiry::StandardEvents)),
-        10 => return Role::Only(Deed::Inquire(Inquiry::StatusByte)),
-        11 => return Role::Only(Deed::Inquire(Inquiry::NextError)),
-        12 => return Role::Saving(Saving::Save),
-        13 => return Role::Saving(Saving::Recall),
-        _ => return Role::Label,
-    }
+    OTHER_ROLES[place - Settings::COUNT]
 }

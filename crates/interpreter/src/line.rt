@@ -13,7 +13,6 @@ ghost use Rattle.interpreter.specs.UnitParts.{Allowed, AllowedText};
 ghost use Rattle.interpreter.specs.LineParts.{CarriedOut, UnitRan, UnitsRan, LineRan};
 
 use crate::deed::{Deed, Saving};
-use crate::parameter::Decision;
 use crate::path::Path;
 use crate::present::{Present, Running};
 use crate::sizes::{ANSWER, STORE};
@@ -102,15 +101,8 @@ fn run_unit(
     requires { Held path.old }
     ensures { (names : List Text) → IsPath names path.old → UnitRan running.present names unit.now out.old (memory store.old) result path.new out.new (memory store.new) }
 {
-    let reading = unit::read(table, running.present.settings, path, unit);
-    let decision = reading.decision;
-    match decision {
-        Decision::Refused(error) => Err(error),
-        Decision::Obey(deed) => {
-            let given = reading.given;
-            carry_out(running, deed, &unit[given.from..given.to], out, store)
-        }
-    }
+    let reading = unit::read(table, running.present.settings, path, unit)?;
+    carry_out(running, reading.deed, reading.given, out, store)
 }
 
 // Runs the units of a line, which is cut at every `;` outside quotes, up to the first that is refused. The path lives as long as

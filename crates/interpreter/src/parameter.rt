@@ -1,18 +1,19 @@
 // Checks 4 to 7: how many parameters a unit has, what each is, and the value that it gives.
-ghost use Rattle.std.specs.Prelude.{◌≡◌, true, not, ◌&&◌, ◌+◌, ◌≤◌, ◌<◌, length};
-ghost use Rattle.registers.specs.Rounding.{rounded, side_in};
+ghost use Rattle.std.specs.Prelude.{◌≡◌, false, not, ◌&&◌, [], ◌+◌, ◌≤◌, ◌<◌, length};
+ghost use Rattle.registers.specs.Text.{letter, first};
+ghost use Rattle.registers.specs.Error.{meant};
 ghost use Rattle.registers.specs.Settings.{count, kind_of, quantity_of};
-ghost use Rattle.interpreter.specs.Parameter.{Word, Figure, parameter, words_of, takes_numbers, least, greatest, value_given, side_given, deed_of, is_number, read_word, store_given, place_given};
+ghost use Rattle.interpreter.specs.Parameter.{Word, Figure, words_of, takes_numbers, least, greatest, value_given, side_given, deed_of, is_number, read_word};
 ghost use Rattle.interpreter.specs.WordsParts.{word_count, words_in};
-ghost use Rattle.interpreter.specs.ParameterParts.{meant_given, meant_deed, CountedIn, TakesOf, rounded_to, put_fit, register_to, saving_to, parts_of};
+ghost use Rattle.interpreter.specs.ParameterParts.{counted, meant_given, meant_word, meant_figure, whole_given, TakesOf, parameter_where, rounded_to, put_fit, register_to, saving_to, parts_of};
 
 use crate::deed::{Change, Deed, Query, Role, Saving};
 use crate::table::Table;
 use crate::words::{FIRST_WITH_NUMBERS, Words};
 use crate::{cuts, words};
 use registers::error::Error;
-use registers::number::{Decimal, ReadNumber};
-use registers::rounding::{Fit, Rounded, Side};
+use registers::number::Decimal;
+use registers::rounding::{Rounded, Side};
 use registers::settings::{Settings, Values};
 use registers::status::Register;
 use registers::suffix::Quantity;
@@ -20,54 +21,44 @@ use registers::{number, rounding, text};
 
 // Checks 5 and 6 on a parameter: a word of the row by its place in the row's list, or a number.
 #[derive(Clone, Copy)]
-pub(crate) enum Parameter {
-    Refused(Error),
+enum Parameter {
     Word(usize),
     Figure(Decimal),
 }
 
-// Checks 5 to 7 on a unit's parameters.
-#[derive(Clone, Copy)]
-pub(crate) enum Decision {
-    Refused(Error),
-    Obey(Deed),
-}
-
-// How many parameters there are, and whether none of them is empty.
-#[derive(Clone, Copy)]
-pub(crate) struct Counted {
-    pub(crate) parts: usize,
-    pub(crate) full: bool,
-}
-
-// What may be given: words, and numbers of a quantity or none.
+// What may be given: words, and numbers of a quantity, if any.
 #[derive(Clone, Copy)]
 struct Takes {
     words: Words,
-    numbers: bool,
-    quantity: Quantity,
+    numbers: Option<Quantity>,
 }
 
-// Counts the parameters of a text without white space around it; a comma inside quotes separates nothing.
-pub(crate) fn count(text: &[u8]) -> Counted
-    ensures { CountedIn text.now result }
+// The last place of the store.
+const LAST_PLACE: u16 = 9;
+
+// A whole number within the limits, and what was rounded off.
+#[derive(Clone, Copy)]
+struct Whole {
+    value: u16,
+    side: Side,
+}
+
+// Counts the parameters of a text without white space around it, of which none may be empty by check 2; a comma inside quotes
+// separates nothing.
+pub(crate) fn count(text: &[u8]) -> Result<usize, Error>
+    ensures { meant result ≡ counted text.now }
 {
-    if text.len() == 0 {
-        return Counted {
-            parts: 0,
-            full: true,
-        };
+    if text.is_empty() {
+        return Ok(0);
     }
     let mut parts: usize = 1;
-    let mut full = true;
     let mut visible = false;
     let mut mark: u8 = 0;
-    let mut i: usize = 0;
-    while i < text.len() {
-        let b = text[i];
-        i += 1;
+    for &b in text {
         if (mark == 0) & (b == b',') {
-            full = full & visible;
+            if !visible {
+                return Err(Error::Syntax);
+            }
             visible = false;
             parts += 1;
             continue;
@@ -75,71 +66,70 @@ pub(crate) fn count(text: &[u8]) -> Counted
         visible = visible | !text::is_white(b);
         mark = cuts::quote_next(mark, b);
     }
-    Counted {
-        parts,
-        full: full & visible,
+    if !visible {
+        return Err(Error::Syntax);
     }
+    Ok(parts)
 }
 
-// Tells what a setting takes; where its words begin in the table tells whether it takes numbers.
-fn setting_takes(row: usize) -> Takes
+// Tells what a setting takes; where its words begin in the table tells whether it takes numbers. No query takes one.
+fn setting_takes(row: usize, asked: bool) -> Takes
     requires { row < count }
-    ensures { TakesOf (words_of (kind_of row)) (takes_numbers (kind_of row)) (quantity_of row) result }
+    ensures { TakesOf (words_of (kind_of row)) (takes_numbers (kind_of row) && not asked) (quantity_of row) result }
 {
     let words = words::of_setting(row);
-    Takes {
-        words,
-        numbers: FIRST_WITH_NUMBERS <= words.first,
-        quantity: Settings::quantity_of(row),
-    }
+    let numbers = if (FIRST_WITH_NUMBERS <= words.first) & !asked {
+        Some(Settings::quantity_of(row))
+    } else {
+        None
+    };
+    Takes { words, numbers }
 }
 
 // Makes check 5 on a parameter that starts with a letter. A word with other bytes than letters, digits and
 // underscore is none of the table, so the search refuses it by the same number.
-fn find_word(table: &Table, words: Words, text: &[u8]) -> Parameter
-    requires { (words.first + words.count ≤ word_count) }
-    ensures { meant_given result ≡ read_word (words_in words) text.now }
+fn find_word(table: &Table, words: Words, text: &[u8]) -> Result<usize, Error>
+    requires { words.first + words.count ≤ word_count }
+    ensures { meant_word result ≡ read_word (words_in words) text.now }
 {
-    let mut n: usize = 0;
-    while n < words.count {
+    for n in 0..words.count {
         if words::is_word(table, text, words.first + n) {
-            return Parameter::Word(n);
+            return Ok(n);
         }
-        n += 1;
     }
-    Parameter::Refused(Error::InvalidCharacterData)
+    Err(Error::InvalidCharacterData)
 }
 
-// Makes checks 5 and 6. A digit, a sign or a point starts a number, and no query takes one.
-fn read_parameter(table: &Table, takes: Takes, asked: bool, text: &[u8]) -> Parameter
-    requires { (takes.words.first + takes.words.count ≤ word_count) }
-    ensures { meant_given result ≡ parameter (words_in takes.words) (takes.numbers && not asked) takes.quantity text.now }
+// Makes checks 5 and 6 on a parameter that starts with no letter. A digit, a sign or a point starts a number.
+fn read_figure(numbers: Option<Quantity>, text: &[u8]) -> Result<Decimal, Error>
+    ensures { letter (first text.now) ≡ false → meant_figure result ≡ parameter_where [] numbers text.now }
 {
     let b = text::byte_at(text, 0);
-    if text::is_letter(b) {
-        return find_word(table, takes.words, text);
-    }
     let starts = text::is_digit(b) | ((b == b'+') | (b == b'-')) | (b == b'.');
-    if !(takes.numbers & !asked & starts) {
-        return Parameter::Refused(Error::DataType);
+    match numbers {
+        Some(quantity) if starts => number::read(text, quantity),
+        _ => Err(Error::DataType),
     }
-    let quantity = takes.quantity;
-    let reading = number::read(text, quantity);
-    match reading {
-        ReadNumber::Refused(e) => return Parameter::Refused(e),
-        ReadNumber::Number(d) => return Parameter::Figure(d),
+}
+
+// Makes checks 5 and 6.
+fn read_parameter(table: &Table, takes: Takes, text: &[u8]) -> Result<Parameter, Error>
+    requires { takes.words.first + takes.words.count ≤ word_count }
+    ensures { meant_given result ≡ parameter_where (words_in takes.words) takes.numbers text.now }
+{
+    if text::is_letter(text::byte_at(text, 0)) {
+        let word = find_word(table, takes.words, text)?;
+        return Ok(Parameter::Word(word));
     }
+    let d = read_figure(takes.numbers, text)?;
+    Ok(Parameter::Figure(d))
 }
 
 // Tells whether a setting's values are numbers, so that it has MINimum and MAXimum.
 fn is_number(row: usize) -> bool
     ensures { result ≡ is_number (kind_of row) }
 {
-    let values = Settings::values_of(row);
-    match values {
-        Values::Tenths | Values::Whole => true,
-        Values::Bool | Values::Word => false,
-    }
+    matches!(Settings::values_of(row), Values::Tenths | Values::Whole)
 }
 
 // Rounds a number to a setting's step and compares it with the limits, and tells what was rounded off. A bool
@@ -154,11 +144,11 @@ fn figure_value(settings: Settings, row: usize, d: Decimal) -> Rounded
         Values::Tenths => rounding::round_in(d, 1, low, high),
         Values::Whole => rounding::round_in(d, 0, low, high),
         Values::Bool => Rounded {
-            fit: Fit::Within(rounding::switches_on(d) as i32),
+            fit: Some(i32::from(rounding::switches_on(d))),
             side: Side::On,
         },
         Values::Word => Rounded {
-            fit: Fit::Within(0),
+            fit: Some(0),
             side: Side::On,
         },
     }
@@ -185,55 +175,32 @@ pub(crate) fn most(role: Role, asked: bool) -> usize
     ensures { result ≡ greatest role asked }
 {
     match role {
-        Role::Setting(row) => (!asked | is_number(row)) as usize,
-        Role::Register(_) => !asked as usize,
+        Role::Setting(row) => usize::from(!asked | is_number(row)),
+        Role::Register(_) | Role::Saving(_) | Role::Label => usize::from(!asked),
         Role::Only(_) => 0,
-        Role::Saving(_) => !asked as usize,
-        Role::Label => !asked as usize,
     }
-}
-
-fn obey_query(query: Query) -> Decision
-    ensures { result ≡ Decision.Obey (Deed.Query query) }
-{
-    Decision::Obey(Deed::Query(query))
 }
 
 // Decides on a value of a setting: the limits let it pass or not, and so does exam mode. A query asks for it.
-fn decide_value(settings: Settings, row: usize, asked: bool, rounded: Rounded) -> Decision
-    ensures { meant_deed result ≡ put_fit settings row asked rounded.fit rounded.side }
+fn decide_value(
+    settings: Settings,
+    row: usize,
+    asked: bool,
+    rounded: Rounded,
+) -> Result<Deed, Error>
+    ensures { meant result ≡ put_fit settings row asked rounded.fit rounded.side }
 {
-    let fit = rounded.fit;
     let side = rounded.side;
-    match fit {
-        Fit::Outside => return Decision::Refused(Error::DataOutOfRange),
-        Fit::Within(value) => {
-            if asked {
-                return obey_query(Query::Limit { row, value });
-            }
-            if !settings.accepts(side) {
-                return Decision::Refused(Error::DataOutOfRange);
-            }
-            return Decision::Obey(Deed::Change(Change::Put { row, value, side }));
-        }
+    let Some(value) = rounded.fit else {
+        return Err(Error::DataOutOfRange);
+    };
+    if asked {
+        return Ok(Deed::Query(Query::Limit { row, value }));
     }
-}
-
-// Decides on a number for a register, by check 7.
-fn decide_figure(register: Register, d: Decimal) -> Decision
-    ensures { meant_deed result ≡ store_given register (rounded 1 d) (side_in 1 d) }
-{
-    let rounded = rounding::round_in(d, 0, 0, register.widest() as i32);
-    let fit = rounded.fit;
-    let side = rounded.side;
-    match fit {
-        Fit::Outside => return Decision::Refused(Error::DataOutOfRange),
-        Fit::Within(value) => return Decision::Obey(Deed::Change(Change::Store {
-            register,
-            value: value as u16,
-            side,
-        })),
+    if !settings.accepts(side) {
+        return Err(Error::DataOutOfRange);
     }
+    Ok(Deed::Change(Change::Put { row, value, side }))
 }
 
 // Makes checks 5 to 7 on a setting, where check 4 let the number of parameters pass: the text is one, or there is none.
@@ -243,86 +210,69 @@ pub(crate) fn decide_setting(
     row: usize,
     asked: bool,
     text: &[u8],
-) -> Decision
+) -> Result<Deed, Error>
     requires row_lt_count { row < count }
     requires asked_in_bounds { (least (Role.Setting row) asked ≤ length (parts_of text.now)) × (length (parts_of text.now) ≤ greatest (Role.Setting row) asked) }
-    ensures { meant_deed result ≡ deed_of settings (Role.Setting row) asked (parts_of text.now) }
+    ensures { meant result ≡ deed_of settings (Role.Setting row) asked (parts_of text.now) }
 {
-    if text.len() == 0 {
-        return obey_query(Query::Value(row));
+    if text.is_empty() {
+        return Ok(Deed::Query(Query::Value(row)));
     }
-    let parameter = read_parameter(table, setting_takes(row), asked, text);
-    match parameter {
-        Parameter::Refused(e) => return Decision::Refused(e),
-        Parameter::Word(word) => {
-            let within = Rounded {
-                fit: Fit::Within(word_value(settings, row, word)),
-                side: Side::On,
-            };
-            return decide_value(settings, row, asked, within);
-        }
-        Parameter::Figure(d) => {
-            return decide_value(settings, row, asked, figure_value(settings, row, d));
-        }
-    }
+    let takes = setting_takes(row, asked);
+    let rounded = match read_parameter(table, takes, text)? {
+        Parameter::Word(word) => Rounded {
+            fit: Some(word_value(settings, row, word)),
+            side: Side::On,
+        },
+        Parameter::Figure(d) => figure_value(settings, row, d),
+    };
+    decide_value(settings, row, asked, rounded)
 }
 
-// Makes checks 5 to 7 on a register, which takes no words.
-pub(crate) fn decide_register(
-    table: &Table,
-    register: Register,
-    asked: bool,
-    text: &[u8],
-) -> Decision
-    ensures { meant_deed result ≡ register_to register asked text.now }
+// Makes checks 5 to 7 on the parameter of a row that takes a number from 0 to a highest one, and no words.
+fn read_whole(text: &[u8], highest: u16) -> Result<Whole, Error>
+    ensures { meant result ≡ whole_given highest text.now }
+{
+    if text::is_letter(text::byte_at(text, 0)) {
+        return Err(Error::InvalidCharacterData);
+    }
+    let d = read_figure(Some(Quantity::Nothing), text)?;
+    let rounded = rounding::round_in(d, 0, 0, i32::from(highest));
+    let side = rounded.side;
+    let Some(value) = rounded.fit else {
+        return Err(Error::DataOutOfRange);
+    };
+    Ok(Whole {
+        value: value as u16,
+        side,
+    })
+}
+
+// Makes checks 5 to 7 on a register.
+pub(crate) fn decide_register(register: Register, asked: bool, text: &[u8]) -> Result<Deed, Error>
+    ensures { meant result ≡ register_to register asked text.now }
 {
     if asked {
-        return obey_query(Query::Stored(register));
+        return Ok(Deed::Query(Query::Stored(register)));
     }
-    let takes = Takes {
-        words: Words { first: 0, count: 0 },
-        numbers: true,
-        quantity: Quantity::Nothing,
-    };
-    let parameter = read_parameter(table, takes, false, text);
-    match parameter {
-        Parameter::Refused(e) => return Decision::Refused(e),
-        Parameter::Word(_) => return Decision::Refused(Error::InvalidCharacterData),
-        Parameter::Figure(d) => return decide_figure(register, d),
-    }
+    let whole = read_whole(text, register.widest())?;
+    let value = whole.value;
+    let side = whole.side;
+    Ok(Deed::Change(Change::Store {
+        register,
+        value,
+        side,
+    }))
 }
 
-// Decides on a number for a place of the store, by check 7.
-fn decide_number(saving: Saving, d: Decimal) -> Decision
-    ensures { meant_deed result ≡ place_given saving (rounded 1 d) }
-{
-    let rounded = rounding::round_in(d, 0, 0, 9);
-    let fit = rounded.fit;
-    match fit {
-        Fit::Outside => return Decision::Refused(Error::DataOutOfRange),
-        Fit::Within(value) => return Decision::Obey(Deed::Saving {
-            saving,
-            place: value as usize,
-        }),
-    }
-}
-
-// Makes checks 5 to 7 on *SAV and *RCL, which take a number and no words.
-pub(crate) fn decide_place(table: &Table, saving: Saving, asked: bool, text: &[u8]) -> Decision
-    ensures { meant_deed result ≡ saving_to saving asked text.now }
+// Makes checks 5 to 7 on *SAV and *RCL, whose number is a place of the store.
+pub(crate) fn decide_place(saving: Saving, asked: bool, text: &[u8]) -> Result<Deed, Error>
+    ensures { meant result ≡ saving_to saving asked text.now }
 {
     if asked {
-        return Decision::Refused(Error::MissingParameter);
+        return Err(Error::MissingParameter);
     }
-    let takes = Takes {
-        words: Words { first: 0, count: 0 },
-        numbers: true,
-        quantity: Quantity::Nothing,
-    };
-    let parameter = read_parameter(table, takes, false, text);
-    match parameter {
-        Parameter::Refused(e) => return Decision::Refused(e),
-        Parameter::Word(_) => return Decision::Refused(Error::InvalidCharacterData),
-        Parameter::Figure(d) => return decide_number(saving, d),
-    }
+    let whole = read_whole(text, LAST_PLACE)?;
+    let place = usize::from(whole.value);
+    Ok(Deed::Saving { saving, place })
 }

@@ -19,19 +19,16 @@ use registers::status::Status;
 pub(crate) fn is_permitted(present: Present, deed: Deed) -> bool
     ensures { permitted deed (core_in present.settings present.status) ≡ check 221 result }
 {
+    let open = !present.status.is_locked();
     match deed {
-        Deed::Change(change) => match change {
-            Change::Put { row, value, .. } => {
-                let off = ((row == Settings::OUTPUT) | (row == Settings::OUTPUT_2)) & (value <= 0);
-                let free = off | !present.status.is_locked();
-                return free & !present.settings.conflicts(row, value);
-            }
-            Change::Reset => return !present.status.is_locked(),
-            Change::Label => return !present.status.is_locked(),
-            _ => return true,
-        },
-        Deed::Saving { .. } => return !present.status.is_locked(),
-        _ => return true,
+        Deed::Change(Change::Put { row, value, .. }) => {
+            let off = matches!(row, Settings::OUTPUT | Settings::OUTPUT_2) & (value <= 0);
+            (off | open) & !present.settings.conflicts(row, value)
+        }
+        Deed::Change(Change::Reset) => open,
+        Deed::Change(Change::Label) => open,
+        Deed::Saving { .. } => open,
+        _ => true,
     }
 }
 
@@ -41,17 +38,14 @@ fn settings_after(settings: Settings, deed: Deed, string: &[u8]) -> Settings
     ensures { result ≡ settings_left deed (text_in string.now) settings }
 {
     match deed {
-        Deed::Change(change) => match change {
-            Change::Put { row, value, .. } => return settings.store(row, value),
-            Change::Reset => return Settings::reset(),
-            Change::Label => {
-                let label = label::read(string);
-                let bytes = label.bytes;
-                return settings.store_text(bytes);
-            }
-            _ => return settings,
-        },
-        _ => return settings,
+        Deed::Change(Change::Put { row, value, .. }) => settings.store(row, value),
+        Deed::Change(Change::Reset) => Settings::reset(),
+        Deed::Change(Change::Label) => {
+            let label = label::read(string);
+            let bytes = label.bytes;
+            settings.store_text(bytes)
+        }
+        _ => settings,
     }
 }
 
@@ -61,26 +55,19 @@ fn status_after(status: Status, deed: Deed) -> Status
     ensures { StatusLeft deed status result }
 {
     match deed {
-        Deed::Change(change) => match change {
+        Deed::Change(
             Change::Store {
                 register,
                 value,
                 ..
-            } => return status.store(register, value),
-            _ => return status,
-        },
-        Deed::Complete => return status.complete(),
-        Deed::Clear => return status.clear(),
-        Deed::Query(query) => match query {
-            Query::SetEvents(set) => return status.read_event(set),
-            _ => return status,
-        },
-        Deed::Inquire(inquiry) => match inquiry {
-            Inquiry::StandardEvents => return status.read_events(),
-            Inquiry::StatusByte => return status,
-            Inquiry::NextError => return status.read_oldest(),
-        },
-        Deed::Saving { .. } => return status,
+            },
+        ) => status.store(register, value),
+        Deed::Complete => status.complete(),
+        Deed::Clear => status.clear(),
+        Deed::Query(Query::SetEvents(set)) => status.read_event(set),
+        Deed::Inquire(Inquiry::StandardEvents) => status.read_events(),
+        Deed::Inquire(Inquiry::NextError) => status.read_oldest(),
+        _ => status,
     }
 }
 

@@ -1,15 +1,13 @@
 // Checks 1 to 7 on one unit, a part of the line where it stands.
-ghost use Rattle.std.specs.Prelude.{◌≡◌, List, ◌≤◌, length, take};
+ghost use Rattle.std.specs.Prelude.{◌≡◌, List};
 ghost use Rattle.registers.specs.Text.{Text, every};
 ghost use Rattle.registers.specs.Error.{number_of, meant};
-ghost use Rattle.interpreter.specs.Cuts.{trim, trim_end};
+ghost use Rattle.interpreter.specs.Cuts.{trim};
 ghost use Rattle.interpreter.specs.HeaderParts.{IsPath, Held};
-ghost use Rattle.interpreter.specs.ParameterParts.{meant_deed};
 ghost use Rattle.interpreter.specs.Unit.{allowed};
-ghost use Rattle.interpreter.specs.UnitParts.{decided, decided_text, header_refusal, SpanOf, UnitRead};
+ghost use Rattle.interpreter.specs.UnitParts.{decided, decided_text, header_refusal, UnitRead};
 
-use crate::deed::{Heading, Role};
-use crate::parameter::Decision;
+use crate::deed::{Deed, Heading, Role};
 use crate::path::Path;
 use crate::table::Table;
 use crate::{deed, header, parameter, quoted};
@@ -17,105 +15,73 @@ use registers::error::Error;
 use registers::settings::Settings;
 use registers::text;
 
-// A part of a text, by its places.
+// What checks 1 to 7 leave of a unit: its deed, and the text of its parameters.
 #[derive(Clone, Copy)]
-pub(crate) struct Span {
-    pub(crate) from: usize,
-    pub(crate) to: usize,
+pub(crate) struct Reading<'a> {
+    pub(crate) deed: Deed,
+    pub(crate) given: &'a [u8],
 }
 
-// What checks 1 to 7 say of a unit, and where its parameters stand in it.
-#[derive(Clone, Copy)]
-pub(crate) struct Reading {
-    pub(crate) decision: Decision,
-    pub(crate) given: Span,
-}
-
-// Makes check 1. All bytes are looked at, without a branch: a unit is short and mostly good.
+// Makes check 1.
 fn all_allowed(unit: &[u8]) -> bool
     ensures { result ≡ every allowed unit.now }
 {
-    let mut all = true;
-    let mut i: usize = 0;
-    while i < unit.len() {
-        let b = unit[i];
-        all = all & (b < 127) & (b != b'\n');
-        i += 1;
-    }
-    all
+    unit.iter().all(|b| (*b < 127) & (*b != b'\n'))
 }
 
-// Finds where a text ends without the white space at its end, which check 2 skips.
-fn trimmed_end(text: &[u8]) -> usize
-    ensures { (take result text.now ≡ trim_end text.now) × (result ≤ length text.now) }
+// Drops the white space around a text, which check 2 skips.
+fn trimmed(text: &[u8]) -> &[u8]
+    ensures { result.now ≡ trim text.now }
 {
-    let mut e = text.len();
-    while 0 < e {
-        if !text::is_white(text[e - 1]) {
-            return e;
+    let mut rest = &text[text::white_end(text, 0)..];
+    while let [front @ .., last] = rest {
+        if !text::is_white(*last) {
+            return rest;
         }
-        e -= 1;
+        rest = front;
     }
-    0
+    rest
 }
 
 // Makes checks 2 to 7 after the header, on the parameters' text without white space around it.
-fn decide(table: &Table, settings: Settings, heading: Heading, text: &[u8]) -> Decision
+fn decide(table: &Table, settings: Settings, heading: Heading, text: &[u8]) -> Result<Deed, Error>
     requires { trim text.now ≡ text.now }
-    ensures { meant_deed result ≡ decided settings (meant heading.place) heading.asked text.now }
+    ensures { meant result ≡ decided settings (meant heading.place) heading.asked text.now }
 {
-    let counted = parameter::count(text);
-    if !counted.full {
-        return Decision::Refused(Error::Syntax);
-    }
-    let place = match heading.place {
-        Ok(place) => place,
-        Err(error) => return Decision::Refused(error),
-    };
+    let parts = parameter::count(text)?;
+    let place = heading.place?;
     let asked = heading.asked;
     let role = deed::role_of(place);
     let most = parameter::most(role, asked);
-    if most < counted.parts {
-        return Decision::Refused(Error::ParameterNotAllowed);
+    if most < parts {
+        return Err(Error::ParameterNotAllowed);
     }
-    if !asked & (counted.parts < most) {
-        return Decision::Refused(Error::MissingParameter);
+    if !asked & (parts < most) {
+        return Err(Error::MissingParameter);
     }
     match role {
-        Role::Setting(row) => {
-            return parameter::decide_setting(table, settings, row, asked, text);
-        }
-        Role::Register(register) => {
-            return parameter::decide_register(table, register, asked, text);
-        }
-        Role::Only(deed) => return Decision::Obey(deed),
-        Role::Saving(saving) => return parameter::decide_place(table, saving, asked, text),
-        Role::Label => return quoted::decide(asked, text),
+        Role::Setting(row) => parameter::decide_setting(table, settings, row, asked, text),
+        Role::Register(register) => parameter::decide_register(register, asked, text),
+        Role::Only(deed) => Ok(deed),
+        Role::Saving(saving) => parameter::decide_place(saving, asked, text),
+        Role::Label => quoted::decide(asked, text),
     }
 }
 
 // Makes check 1 first: white space is allowed, and so is every byte of a header, so that only the parameters' text is looked at.
-fn decide_text(table: &Table, settings: Settings, heading: Heading, text: &[u8]) -> Decision
+fn decide_text(
+    table: &Table,
+    settings: Settings,
+    heading: Heading,
+    text: &[u8],
+) -> Result<Deed, Error>
     requires { trim text.now ≡ text.now }
-    ensures { meant_deed result ≡ decided_text settings (meant heading.place) heading.asked text.now }
+    ensures { meant result ≡ decided_text settings (meant heading.place) heading.asked text.now }
 {
     if !all_allowed(text) {
-        return Decision::Refused(Error::InvalidCharacter);
+        return Err(Error::InvalidCharacter);
     }
     decide(table, settings, heading, text)
-}
-
-// Finds the parameters' text of a unit whose header ends at a place: all that follows, without white space around it.
-fn span_after(unit: &[u8], at: usize) -> Span
-    requires { at ≤ length unit.now }
-    ensures { SpanOf unit.now at result }
-{
-    let from = text::white_end(unit, at);
-    let long = trimmed_end(&unit[from..]);
-    Span {
-        from,
-        to: from + long,
-    }
 }
 
 // Tells which of checks 1 and 2 refuses a unit that starts with no header.
@@ -129,22 +95,20 @@ fn header_error(unit: &[u8]) -> Error
 }
 
 // Reads a unit, its header after the path.
-pub(crate) fn read(table: &Table, settings: Settings, path: &mut Path, unit: &[u8]) -> Reading
+pub(crate) fn read<'a>(
+    table: &Table,
+    settings: Settings,
+    path: &mut Path,
+    unit: &'a [u8],
+) -> Result<Reading<'a>, Error>
     requires { Held path.old }
-    ensures { (names : List Text) → IsPath names path.old → UnitRead settings names unit.now result.decision result.given path.new }
+    ensures { (names : List Text) → IsPath names path.old → UnitRead settings names unit.now result path.new }
 {
     let start = text::white_end(unit, 0);
     let Some(looked) = header::look_up(table, path, &unit[start..]) else {
-        return Reading {
-            decision: Decision::Refused(header_error(unit)),
-            given: Span { from: 0, to: 0 },
-        };
+        return Err(header_error(unit));
     };
-    let given = span_after(unit, start + looked.end);
-    let from = given.from;
-    let to = given.to;
-    Reading {
-        decision: decide_text(table, settings, looked.heading, &unit[from..to]),
-        given,
-    }
+    let given = trimmed(&unit[start + looked.end..]);
+    let deed = decide_text(table, settings, looked.heading, given)?;
+    Ok(Reading { deed, given })
 }

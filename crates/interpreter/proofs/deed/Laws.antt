@@ -1,8 +1,10 @@
 -- Laws of the rows' roles, by computing them for all rows.
 use mathlib.Core.Path.{◌≡◌, refl, sym, ◌∙◌}
+use mathlib.Core.List.{map}
 use mathlib.Core.Bool.{Bool, true, false, ◌&&◌}
+use lib.ListN.{get_or}
 use lib.Dec.{leb, ltb, eqb}
-use Prim.Native.Nat.{ℕ, ◌+◌, ◌-◌, ◌/◌, ◌%◌, ◌≤◌, ◌<◌}
+use Prim.Native.Nat.{ℕ, ◌+◌, ◌-◌, ◌≤◌, ◌<◌}
 use native.Mathlib.Omega.{arith}
 use borrow.Author.Tests.{le-leb, leb-false, ltb-true}
 use Rattle.registers.proofs.Tests.{and_both}
@@ -12,8 +14,8 @@ use Rattle.registers.specs.Check.{refused, passed}
 use Rattle.registers.specs.Error.{meant}
 use Rattle.registers.specs.declared.error.Error.{Error}
 use Rattle.registers.specs.Settings.{count, table_count, table, slots}
-use Rattle.interpreter.specs.Rows.{setting_rows, other_rows, monitor, brightness}
-use Rattle.interpreter.specs.DeedParts.{row_count, place_count, place_of, role_at, set_at, role_of_set, common_rows, set_rows}
+use Rattle.interpreter.specs.Rows.{Row, setting_rows, other_rows, monitor, brightness}
+use Rattle.interpreter.specs.DeedParts.{row_count, place_count, place_of, role_at}
 use Rattle.interpreter.specs.declared.deed.Role.TheVariants.{Setting}
 use Rattle.interpreter.proofs.Lists.{listed, agree}
 use Rattle.interpreter.proofs.Checks.{apart}
@@ -22,11 +24,11 @@ pub role-setting : (i : ℕ) → i < count → Setting i ≡ role_at i
 unfolding listed role_at setting_rows other_rows slots table
 role-setting i h = agree count Setting role_at refl i h
 
--- the rows of the register sets, by their place after the others
-pub role-of-sets : (i : ℕ) → count + common_rows + i < place_count → role_of_set (set_at (i / set_rows)) (i % set_rows) ≡ role_at (count + common_rows + i)
-unfolding listed role_at setting_rows other_rows slots table if◌then◌otherwise◌
-role-of-sets i h =
-    agree (place_count - count - common_rows) (λ k. role_of_set (set_at (k / set_rows)) (k % set_rows)) (λ k. role_at (count + common_rows + k)) refl i (omega arith)
+-- what the rows after the slots are for
+pub role-other : (i : ℕ) → count + i < place_count → get_or (map (λ (r : Row). r.role) other_rows) i (Setting 0) ≡ role_at (count + i)
+unfolding listed role_at setting_rows other_rows slots table
+role-other i h =
+    agree (place_count - count) (λ k. get_or (map (λ (r : Row). r.role) other_rows) k (Setting 0)) (λ k. role_at (count + k)) refl i (omega arith)
 
 -- a header without a row has no place, whatever its suffix is
 pub placeless : (row x : ℕ) → row_count ≤ row → place_of row x ≡ refused 113

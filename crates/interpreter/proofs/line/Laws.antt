@@ -12,8 +12,8 @@ use Rattle.interpreter.specs.Box.{Memory, Box}
 use Rattle.interpreter.specs.Unit.{Read, read_unit}
 use Rattle.interpreter.specs.Perform.{permitted, perform}
 use Rattle.interpreter.specs.Line.{attempt}
-use Rattle.interpreter.specs.UnitParts.{UnitRead, Accepted, part_of, Allowed, AllowedText}
-use Rattle.interpreter.specs.declared.unit.Span.{Span}
+use Rattle.interpreter.specs.UnitParts.{UnitRead, Accepted, Allowed, AllowedText}
+use Rattle.interpreter.specs.declared.unit.Reading.{Reading}
 use Rattle.interpreter.specs.PresentParts.{core_in, box_at}
 use Rattle.interpreter.specs.PerformParts.{After}
 use Rattle.interpreter.specs.ReplyParts.{Answered}
@@ -23,7 +23,6 @@ use Rattle.interpreter.specs.declared.deed.Deed.{Deed}
 use Rattle.interpreter.specs.declared.present.Present.{Present}
 use Rattle.interpreter.specs.declared.present.Running.{Running}
 use Rattle.interpreter.specs.declared.path.Path.{Path}
-use Rattle.interpreter.specs.declared.parameter.Decision.TheVariants.{Refused}
 use Rattle.interpreter.proofs.Checks.{first-check}
 use Rattle.interpreter.proofs.unit.Allowed.{read-allowed, text-allowed}
 
@@ -64,23 +63,22 @@ module _ (path : List Text) (b : Box) (u : Text) where
   unfolding attempt ◌>>=◌
   attempt-carried r e = rw e (sym (first-check (permitted r.deed b.core) (perform r.deed r.text b) (λ c. passed (record { path = r.path; box = c }))))
 
-module _ (p : Present) (path : List Text) (unit : Text) (way : Path) (given : Span) where
-  pub unit-refused : (e : Error) → UnitRead p.settings path unit (Refused e) given way → (out : Text) (m : Memory)
-      → UnitRan p path unit out m (Err e) way out m
+module _ (p : Present) (path : List Text) (unit : Text) (way : Path) where
+  pub unit-refused : (e : Error) → UnitRead p.settings path unit (Err e) way → (out : Text) (m : Memory) → UnitRan p path unit out m (Err e) way out m
   unit-refused e read out m = (attempt-read path (box_at p out m) unit (number_of e) read, refl)
 
-  module _ (d : Deed) (read : Accepted p.settings path unit d given way) where
+  module _ (a : Reading) (read : Accepted p.settings path unit a way) where
     -- the text that its parameter gives
     abbrev said : Text
-    said = text_in (part_of given.from given.to unit)
+    said = text_in a.given.now
 
-    pub unit-allowed : Allowed p.settings d
+    pub unit-allowed : Allowed p.settings a.deed
     unit-allowed = read-allowed p.settings path unit read.is
 
-    pub unit-said : AllowedText d said
+    pub unit-said : AllowedText a.deed said
     unit-said = text-allowed p.settings path unit read.is
 
-    pub unit-carried : (r : Result Running Error) (out left : Text) (m m' : Memory) → CarriedOut d said p out m r left m' → UnitRan p path unit out m r way left m'
+    pub unit-carried : (r : Result Running Error) (out left : Text) (m m' : Memory) → CarriedOut a.deed said p out m r left m' → UnitRan p path unit out m r way left m'
     unfolding ◌>>=◌
     unit-carried (Ok r) out left m m' c = (read.left, attempt-carried path (box_at p out m) unit _ read.is ∙ rw c, read.holds)
     unit-carried (Err e) out left m m' c = (attempt-carried path (box_at p out m) unit _ read.is ∙ rw c.0, c.1)

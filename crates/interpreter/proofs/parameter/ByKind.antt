@@ -2,15 +2,13 @@
 -- computed over all rows at once (`kinds-agree`), and past the table a row counts as a bool.
 use mathlib.Core.Path.{◌≡◌, refl, ap, sym, ◌∙◌}
 use mathlib.Core.Bool.{Bool, true, false, not, ◌&&◌, ◌||◌, false≢true}
-use mathlib.Core.List.{[], ◌∷◌}
+use mathlib.Core.Logic.{◌⊎◌, inl, inr}
 use Prim.Native.Nat.{ℕ, zero, suc, ◌≤◌, ◌<◌}
 use native.Mathlib.Omega.{arith}
 use lib.Dec.{leb, ltb, eqb}
 use lib.ListN.{length}
 use lib.IntN.{ℤ, pos}
 use mir.Val.{bool_byte}
-use types.Run.{OneOf, miss}
-use denote.Enum.Declared.{tag_of}
 use borrow.Author.Tests.{leb-true, ltb-true, ltb-false}
 use Rattle.registers.specs.Text.{if◌then◌otherwise◌}
 use Rattle.registers.specs.Rounding.{switched_on, rounded, side_in}
@@ -23,9 +21,10 @@ use Rattle.registers.specs.declared.settings.Values.{Values}
 use Rattle.registers.specs.declared.settings.Values.TheVariants.{Bool as BoolValue, Word as WordValue, Tenths, Whole}
 use Rattle.registers.proofs.Tests.{below_at}
 use Rattle.registers.proofs.settings.Laws.{past_is, values_in, values-is}
-use Rattle.registers.specs.contracts.settings.Values as values
+use Rattle.registers.specs.declared.status.Register as registers
 use Rattle.interpreter.specs.WordsParts.{word_count}
 use Rattle.interpreter.specs.Parameter.{Word, Figure, least, greatest, asks_limits, words_of, limit_at, value_given, side_given, is_number}
+use Rattle.interpreter.specs.declared.deed.Saving as savings
 use Rattle.interpreter.specs.declared.deed.Role.{Role}
 use Rattle.interpreter.specs.declared.deed.Role.TheVariants.{Setting, Register, Only, Saving, Label}
 use Rattle.interpreter.proofs.Lists.{listed, agree}
@@ -87,29 +86,7 @@ number-in k is of = go k ∙ ap number_in (sym (values-is _ k of) ∙ is)
     go (words ws) = refl
     go (number n low high) = sort (eqb n 10)
 
--- ---- numbers, which are of two sorts
-
-module _ (k : Kind) (told : Values) (is : meant_values told ≡ sort_of k) where
-  pub told-number : OneOf (2 ∷ 3 ∷ []) (tag_of values.the_type told) → true ≡ is_number k
-  told-number h = go k (rw (values-is told k is) at h)
-    where
-      go : (k : Kind) → OneOf (2 ∷ 3 ∷ []) (tag_of values.the_type (values_in k)) → true ≡ is_number k
-      go bool h = absurd (miss (2 ∷ 3 ∷ []) 0 tt h)
-      go (words ws) h = absurd (miss (2 ∷ 3 ∷ []) 1 tt h)
-      go (number n low high) h = refl
-
-  pub told-other : OneOf (0 ∷ 1 ∷ []) (tag_of values.the_type told) → false ≡ is_number k
-  unfolding if◌then◌otherwise◌
-  told-other h = go k (rw (values-is told k is) at h)
-    where
-      none : (t : Bool) → OneOf (0 ∷ 1 ∷ []) (tag_of values.the_type (if t then Tenths otherwise Whole)) → ⊥
-      none true h = miss (0 ∷ 1 ∷ []) 2 tt h
-      none false h = miss (0 ∷ 1 ∷ []) 3 tt h
-
-      go : (k : Kind) → OneOf (0 ∷ 1 ∷ []) (tag_of values.the_type (values_in k)) → false ≡ is_number k
-      go bool h = refl
-      go (words ws) h = refl
-      go (number n low high) h = absurd (none (eqb n 10) h)
+-- ---- words
 
 -- a number's words are its limits, any other's are counted
 module _ (s : Settings) (i n : ℕ) where
@@ -150,10 +127,16 @@ setting-most bool true = refl
 setting-most (words ws) true = refl
 setting-most (number n low high) true = refl
 
-pub register-most : (asked : Bool) → bool_byte (not asked) ≡ (if asked then 0 otherwise 1)
+set-most : (asked : Bool) → bool_byte (not asked) ≡ (if asked then 0 otherwise 1)
 unfolding if◌then◌otherwise◌
-register-most true = refl
-register-most false = refl
+set-most true = refl
+set-most false = refl
+
+pub other-most : (r : Role) (asked : Bool) → ((x : registers.Register) × (r ≡ Register x)) ⊎ (((x : savings.Saving) × (r ≡ Saving x)) ⊎ (r ≡ Label)) → bool_byte (not asked) ≡ greatest r asked
+unfolding greatest
+other-most r asked (inl e) = rw e.1 (set-most asked)
+other-most r asked (inr (inl e)) = rw e.1 (set-most asked)
+other-most r asked (inr (inr e)) = rw e (set-most asked)
 
 least-asked : (r : Role) → 0 ≡ least r true
 unfolding least if◌then◌otherwise◌

@@ -9,8 +9,7 @@ use lib.ListN.{length, length-map}
 use Rattle.registers.specs.Text.{Text, if◌then◌otherwise◌, white, every, empty, after}
 use Rattle.interpreter.specs.Cuts.{join_first, quote_next, separates, cut_open, trim_end, trim}
 use Rattle.interpreter.specs.Parameter.{parameters}
-use Rattle.interpreter.specs.ParameterParts.{CountedIn, parts_of}
-use Rattle.interpreter.specs.declared.parameter.Counted.{Counted}
+use Rattle.interpreter.specs.ParameterParts.{parts_of}
 use Rattle.interpreter.proofs.cuts.Parts.{cut-some, join-length}
 
 -- ---- a text that is one part is that part
@@ -43,9 +42,6 @@ parts-one (b ∷ bs) e h =
     let n = length-map (cut_open (code ",") 0 t) trim in
     let one : cut_open (code ",") 0 t ≡ t ∷ [] = cut-one (code ",") 0 t (omega arith) in
     rw (one, e)
-
-pub parts_are : (t : Text) → trim t ≡ t → (n : Counted) → CountedIn t n → n.parts ≤ 1 → parts_of t ≡ parameters t
-parts_are t e n is h = let p = is.parts in parts-one t e (omega arith)
 
 -- ---- trimming: nothing is left of white space, and of nothing else
 

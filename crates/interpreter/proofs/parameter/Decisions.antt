@@ -1,5 +1,5 @@
 -- Checks 5 to 7 by the answers that the code gets: what a word or a number gives goes through check 7 and exam mode as in the definition's
--- chain (`setting-is`, `register-is`). By cases, in which the definition computes.
+-- chain (`setting-is`, `register-whole`). By cases, in which the definition computes.
 use mathlib.Core.Path.{◌≡◌, refl, sym, ap, ◌∙◌}
 use mathlib.Core.Bool.{Bool, true, false, not, ◌&&◌, false≢true, and-true}
 use mathlib.Core.List.{[], ◌∷◌}
@@ -8,38 +8,34 @@ use native.Mathlib.Omega.{arith}
 use lib.Dec.{T}
 use lib.IntN.{ℤ, pos, negsuc, nat_abs}
 use lib.Signed.{le_z, mag, non_neg}
-use mir.Syntax.{w16, w32, w64}
+use mir.Syntax.{w16, w32}
 use mir.Val.{Fits, of_z, to_z, bool_byte}
-use mir.Facts.{to_z-of_z, to_z_pos}
+use mir.Facts.{to_z-of_z}
 use lib.ListN.{length}
 use borrow.Author.Tests.{leb-true}
-use Rattle.registers.specs.Text.{Text, if◌then◌otherwise◌}
+use Rattle.std.specs.Prelude.{Option, Some, None}
+use Rattle.registers.specs.Text.{Text, if◌then◌otherwise◌, letter, word_byte, every, first}
 use Rattle.registers.specs.Check.{Checked, refused, passed, ◌>>=◌, ◌>>◌, check}
-use Rattle.registers.specs.Error.{number_of}
 use Rattle.registers.specs.Rounding.{rounded, fitted, side_in, meant_fit, RoundedIn}
 use Rattle.registers.specs.Settings.{count, Kind, bool, words, number, kind_of, quantity_of, lowest, highest, within, accepted}
 use Rattle.registers.specs.Status.{widest}
-use Rattle.registers.specs.declared.error.Error.{Error}
 use Rattle.registers.specs.declared.number.Decimal.{Decimal}
-use Rattle.registers.specs.declared.rounding.Fit.{Fit}
-use Rattle.registers.specs.declared.rounding.Fit.TheVariants.{Within, Outside}
 use Rattle.registers.specs.declared.rounding.Rounded.{Rounded}
 use Rattle.registers.specs.declared.rounding.Side.{Side}
 use Rattle.registers.specs.declared.settings.Settings.{Settings}
 use Rattle.registers.specs.declared.suffix.Quantity.TheVariants.{Nothing}
 use Rattle.registers.specs.declared.status.Register.{Register}
-use Rattle.registers.specs.declared.status.Register.TheVariants.{Ese, Sre, Enable, Ntr, Ptr}
 use Rattle.registers.proofs.rounding.Laws.{rounded-once}
 use Rattle.registers.proofs.rounding.Meaning.{fit_is, side-is}
-use Rattle.interpreter.specs.Parameter.{place_given, saving_deed, Given, Word, Figure, parameter, words_of, takes_numbers, asks_limits, limit_words, limit_at, limit_given, value_given, side_given, least, greatest, setting_deed, limit_deed, register_deed, deed_of, store_given}
-use Rattle.interpreter.specs.ParameterParts.{meant_given, fit_in, rounded_to, put_fit, register_to, saving_to, parts_of, label_to}
+use Rattle.interpreter.specs.Parameter.{place_given, saving_deed, register_given, register_side, read_word, find_word, Given, Word, Figure, parameter, words_of, takes_numbers, asks_limits, limit_words, limit_at, limit_given, value_given, side_given, least, greatest, setting_deed, limit_deed, register_deed, deed_of, store_given}
+use Rattle.interpreter.specs.ParameterParts.{parameter_where, whole_given, fit_in, rounded_to, put_fit, register_to, saving_to, parts_of, label_to}
+use Rattle.interpreter.specs.declared.deed.Deed.{Deed}
 use Rattle.interpreter.specs.declared.deed.Deed.TheVariants.{Change, Query, Saving}
 use Rattle.interpreter.specs.declared.deed.Change.TheVariants.{Put, Store}
 use Rattle.interpreter.specs.declared.deed.Query.TheVariants.{Limit, Value}
 use Rattle.interpreter.specs.declared.deed.Role.TheVariants.{Setting, Register as register, Saving as saving, Label as label}
 use Rattle.interpreter.specs.declared.deed.Saving as savings
-use Rattle.interpreter.specs.declared.parameter.Parameter.{Parameter}
-use Rattle.interpreter.specs.declared.parameter.Parameter.TheVariants.{Refused as no_parameter, Word as word_given, Figure as figure_given}
+use Rattle.interpreter.specs.declared.parameter.Whole.{Whole}
 use Rattle.interpreter.proofs.parameter.Limits.{limit-within}
 use Rattle.interpreter.proofs.parameter.Words.{asked-word}
 
@@ -48,22 +44,10 @@ pub back : (z : ℤ) → mag z < 2147483648 → to_z w32 (of_z w32 z) ≡ z
 back z h = to_z-of_z {w = w32} (record { sfits = h })
 
 -- on and off as a number
-pub switched-byte : (b : Bool) → to_z w32 (bool_byte b) ≡ (if b then pos 1 otherwise pos 0)
+pub switched-byte : (b : Bool) → pos (bool_byte b) ≡ (if b then pos 1 otherwise pos 0)
 unfolding if◌then◌otherwise◌
 switched-byte true = refl
 switched-byte false = refl
-
--- ---- what checks 5 and 6 say, where the code has been told their answer
-
-module _ {m : Checked Given} {p : Parameter} (is : meant_given p ≡ m) where
-  pub refused-by : {e : Error} → p ≡ no_parameter e → m ≡ refused (number_of e)
-  refused-by told = rw (← is, told)
-
-  pub word-by : {n : ℕ} → p ≡ word_given n → m ≡ passed (Word n)
-  word-by told = rw (← is, told)
-
-  pub figure-by : {d : Decimal} → p ≡ figure_given d → m ≡ passed (Figure d)
-  figure-by told = rw (← is, told)
 
 -- ---- check 7 and exam mode on a value of a setting
 
@@ -72,7 +56,7 @@ pub rounded-in : (k : ℕ) (s : Settings) (i : ℕ) (d : Decimal) {low high : �
 unfolding fit_in within
 rounded-in k s i d l h p = let q = rw (l, h) at p in λ j. record { fit = fit_is q j; side = side-is q j }
 
-pub fit-within : (s : Settings) (i : ℕ) (v : ℤ) → within s i v ≡ true → Within v ≡ fit_in s i v
+pub fit-within : (s : Settings) (i : ℕ) (v : ℤ) → within s i v ≡ true → Some v ≡ fit_in s i v
 unfolding fit_in if◌then◌otherwise◌
 fit-within s i v e = rw e
 
@@ -82,73 +66,75 @@ unfolding fit_in put_fit if◌then◌otherwise◌ check ◌>>◌
 fit-put s i v x = go (within s i v)
   where
     go : (w : Bool)
-        → (check 222 w >> check 222 (accepted s x) >> passed (Change (Put i v x))) ≡ put_fit s i false (if w then Within v otherwise Outside) x
+        → (check 222 w >> check 222 (accepted s x) >> passed (Change (Put i v x))) ≡ put_fit s i false (if w then Some v otherwise None) x
     go true = refl
     go false = refl
 
--- ---- check 7 on a number for a register
-
-widest-small : (x : Register) → widest x ≤ 32767
-widest-small Ese = omega arith
-widest-small Sre = omega arith
-widest-small (Enable y) = omega arith
-widest-small (Ntr y) = omega arith
-widest-small (Ptr y) = omega arith
-
-pub widest-back : (x : Register) → to_z w32 (widest x) ≡ pos (widest x)
-widest-back x = to_z_pos w32 {n = widest x} (omega (arith, widest-small x))
+-- ---- a whole number for a register or a place of the store
 
 -- a value within the limits is a number of 16 bits
-small-natural : (x : Register) (z : ℤ) → le_z (pos 0) z ≡ true → le_z z (pos (widest x)) ≡ true → T (non_neg z) × Fits w16 (nat_abs z)
-small-natural x (pos n) low high = (tt, omega (arith, leb-true n (widest x) high, widest-small x))
-small-natural x (negsuc n) low high = absurd (false≢true low)
+small-natural : (h : ℕ) (z : ℤ) → h < 65536 → le_z (pos 0) z ≡ true → le_z z (pos h) ≡ true → T (non_neg z) × Fits w16 (nat_abs z)
+small-natural h (pos n) few low high = (tt, omega (arith, leb-true n h high))
+small-natural h (negsuc n) few low high = absurd (false≢true low)
 
-module _ (x : Register) (d : Decimal) {f : Fit} (is : meant_fit f ≡ fitted 1 (pos 0) (pos (widest x)) d) where
-  pub store-natural : (z : ℤ) → f ≡ Within z → T (non_neg z) × Fits w16 (nat_abs z)
-  store-natural z told =
-      let h = (rounded-once 1 (pos 0) (pos (widest x)) d).within z (sym is ∙ ap meant_fit told) in
-      small-natural x z h.1 h.2
+abbrev whole : Given → Whole
+whole g = record { value = nat_abs (register_given g); side = register_side g }
 
-  pub store-within : (z : ℤ) → f ≡ Within z → (side : Side) → passed (Change (Store x (nat_abs z) side)) ≡ store_given x (rounded 1 d) side
-  unfolding store_given check ◌>>◌
-  store-within z told side =
-      let h = (rounded-once 1 (pos 0) (pos (widest x)) d).within z (sym is ∙ ap meant_fit told) in
-      rw (← h.0, h.1, h.2)
+module _ (h : ℕ) (t : Text) where
+  -- no word may be given
+  pub word-barred : letter (first t) ≡ true → refused 141 ≡ whole_given h t
+  unfolding whole_given parameter read_word find_word if◌then◌otherwise◌ check ◌>>◌ ◌>>=◌
+  word-barred l = rw l (go (every word_byte t))
+    where
+      go : (b : Bool)
+          → refused 141 ≡ ((check 141 b >> refused 141) >>= λ g. check 222 (le_z (pos 0) (register_given g) && le_z (register_given g) (pos h)) >> passed (whole g))
+      go true = refl
+      go false = refl
 
-  pub store-outside : f ≡ Outside → (side : Side) → refused 222 ≡ store_given x (rounded 1 d) side
-  unfolding store_given check ◌>>◌
-  store-outside told side = rw ((rounded-once 1 (pos 0) (pos (widest x)) d).outside (sym is ∙ ap meant_fit told))
+  pub whole-refused : {n : ℕ} → refused n ≡ parameter_where [] (Some Nothing) t → refused n ≡ whole_given h t
+  unfolding whole_given parameter_where ◌>>=◌
+  whole-refused e = rw (← e)
 
--- ---- check 7 on a number for a place of the store
+  module _ {d : Decimal} (is : passed (Figure d) ≡ parameter_where [] (Some Nothing) t) {r : Rounded} (near : RoundedIn 1 (pos 0) (pos h) d r) where
+    pub whole-natural : h < 65536 → (z : ℤ) → r.fit ≡ Some z → T (non_neg z) × Fits w16 (nat_abs z)
+    whole-natural few z told =
+        let k = (rounded-once 1 (pos 0) (pos h) d).within z (sym near.fit ∙ ap meant_fit told) in
+        small-natural h z few k.1 k.2
 
-small-place : (z : ℤ) → le_z (pos 0) z ≡ true → le_z z (pos 9) ≡ true → T (non_neg z) × Fits w64 (nat_abs z)
-small-place (pos n) low high = (tt, omega (arith, leb-true n 9 high))
-small-place (negsuc n) low high = absurd (false≢true low)
+    pub whole-within : (z : ℤ) → r.fit ≡ Some z → passed (record { value = nat_abs z; side = r.side }) ≡ whole_given h t
+    unfolding whole_given parameter_where check ◌>>◌ ◌>>=◌
+    whole-within z told =
+        let k = (rounded-once 1 (pos 0) (pos h) d).within z (sym near.fit ∙ ap meant_fit told) in
+        rw (← is, ← k.0, k.1, k.2, side-is near)
 
-module _ (x : savings.Saving) (d : Decimal) {f : Fit} (is : meant_fit f ≡ fitted 1 (pos 0) (pos 9) d) where
-  pub place-natural : (z : ℤ) → f ≡ Within z → T (non_neg z) × Fits w64 (nat_abs z)
-  place-natural z told =
-      let h = (rounded-once 1 (pos 0) (pos 9) d).within z (sym is ∙ ap meant_fit told) in
-      small-place z h.1 h.2
+    pub whole-outside : r.fit ≡ None → refused 222 ≡ whole_given h t
+    unfolding whole_given parameter_where check ◌>>◌ ◌>>=◌
+    whole-outside told = rw (← is, (rounded-once 1 (pos 0) (pos h) d).outside (sym near.fit ∙ ap meant_fit told))
 
-  pub place-within : (z : ℤ) → f ≡ Within z → passed (Saving x (nat_abs z)) ≡ place_given x (rounded 1 d)
-  unfolding place_given check ◌>>◌
-  place-within z told =
-      let h = (rounded-once 1 (pos 0) (pos 9) d).within z (sym is ∙ ap meant_fit told) in
-      rw (← h.0, h.1, h.2)
+  -- what is made of the number
+  whole-then : (k : ℕ → Side → Deed) → (whole_given h t >>= λ w. passed (k w.value w.side))
+      ≡ (parameter [] true Nothing t >>= λ g. check 222 (le_z (pos 0) (register_given g) && le_z (register_given g) (pos h)) >> passed (k (nat_abs (register_given g)) (register_side g)))
+  unfolding whole_given check ◌>>◌ ◌>>=◌
+  whole-then k = go (parameter [] true Nothing t)
+    where
+      fits : (g : Given) (b : Bool) → ((check 222 b >> passed (whole g)) >>= λ w. passed (k w.value w.side))
+          ≡ (check 222 b >> passed (k (nat_abs (register_given g)) (register_side g)))
+      fits g true = refl
+      fits g false = refl
 
-  pub place-outside : f ≡ Outside → refused 222 ≡ place_given x (rounded 1 d)
-  unfolding place_given check ◌>>◌
-  place-outside told = rw ((rounded-once 1 (pos 0) (pos 9) d).outside (sym is ∙ ap meant_fit told))
+      go : (m : Checked Given)
+          → ((m >>= λ g. check 222 (le_z (pos 0) (register_given g) && le_z (register_given g) (pos h)) >> passed (whole g)) >>= λ w. passed (k w.value w.side))
+          ≡ (m >>= λ g. check 222 (le_z (pos 0) (register_given g) && le_z (register_given g) (pos h)) >> passed (k (nat_abs (register_given g)) (register_side g)))
+      go (refused n) = refl
+      go (passed g) = fits g (le_z (pos 0) (register_given g) && le_z (register_given g) (pos h))
 
-module _ (x : savings.Saving) (t : Text) where
-  pub place-refused : {n : ℕ} → parameter [] true Nothing t ≡ refused n → refused n ≡ saving_to x false t
-  unfolding saving_to saving_deed place_given ◌>>=◌
-  place-refused e = rw e
+pub register-whole : (x : Register) (t : Text) → (whole_given (widest x) t >>= λ w. passed (Change (Store x w.value w.side))) ≡ register_to x false t
+unfolding register_to register_deed store_given
+register-whole x t = whole-then (widest x) t (λ n side. Change (Store x n side))
 
-  pub place-figure : {d : Decimal} → parameter [] true Nothing t ≡ passed (Figure d) → place_given x (rounded 1 d) ≡ saving_to x false t
-  unfolding saving_to saving_deed place_given ◌>>=◌
-  place-figure e = rw e
+pub place-whole : (x : savings.Saving) (t : Text) → (whole_given 9 t >>= λ w. passed (Saving x w.value)) ≡ saving_to x false t
+unfolding saving_to saving_deed place_given
+place-whole x t = whole-then 9 t (λ n side. Saving x n)
 
 -- a parameter is there where check 4 asked for one; a query of *SAV or *RCL has no row
 pub saving-is : (s : Settings) (x : savings.Saving) (asked : Bool) (t : Text) → least (saving x) asked ≤ length (parts_of t)
@@ -200,15 +186,6 @@ setting-is s i h true t one = kinded (kind_of i) one
     kinded (number k low high) h = found (parameter limit_words false (quantity_of i) t) refl k low high
 
 -- ---- checks 5 to 7 on a register
-
-module _ (x : Register) (t : Text) where
-  pub register-refused : {n : ℕ} → parameter [] true Nothing t ≡ refused n → refused n ≡ register_to x false t
-  unfolding register_to register_deed store_given ◌>>=◌
-  register-refused e = rw e
-
-  pub register-figure : {d : Decimal} → parameter [] true Nothing t ≡ passed (Figure d) → store_given x (rounded 1 d) (side_in 1 d) ≡ register_to x false t
-  unfolding register_to register_deed store_given ◌>>=◌
-  register-figure e = rw e
 
 -- a parameter is there where check 4 asked for one
 pub register-is : (s : Settings) (x : Register) (asked : Bool) (t : Text) → least (register x) asked ≤ length (parts_of t)

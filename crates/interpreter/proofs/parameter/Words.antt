@@ -11,6 +11,9 @@ use lib.ListN.{length, take, drop, length-take, length-drop, drop_of_length-le}
 use lib.Seq.{drop-cons, get_or-drop, get_or-take}
 use lib.Dec.{eqb}
 use borrow.Author.Tests.{eqb-true}
+use Rattle.std.specs.Prelude.{Option, Some, None, Result, Ok, Err}
+use Rattle.registers.specs.Error.{meant}
+use Rattle.registers.specs.declared.error.Error.{Error}
 use Rattle.registers.specs.Text.{Text, if◌then◌otherwise◌, bytes, between, small, letter, digit, word_byte, capital, every, first, same}
 use Rattle.registers.specs.Check.{Checked, refused, passed, ◌>>=◌, ◌>>◌, check}
 use Rattle.registers.specs.Words.{short_form, long_form, matches}
@@ -20,6 +23,7 @@ use Rattle.registers.proofs.Tests.{and_both, and-true}
 use Rattle.interpreter.proofs.Checks.{apart}
 use Rattle.interpreter.specs.WordsParts.{word_count, word_list, word_at}
 use Rattle.registers.specs.declared.suffix.Quantity.{Quantity}
+use Rattle.interpreter.specs.ParameterParts.{parameter_where, meant_figure}
 use Rattle.interpreter.specs.Parameter.{Given, Word, Figure, find_word, parameter, read_word, read_figure}
 use Rattle.interpreter.proofs.Lists.{every-at}
 
@@ -106,28 +110,43 @@ module _ {at count : ℕ} {t : Text} {n : ℕ} (w : Searching at count t n) wher
 
 -- ---- check 5 by the first byte
 
-module _ (ws : List String) (numbers : Bool) (q : Quantity) (t : Text) where
+pub starts-word : (ws : List String) (numbers : Option Quantity) (t : Text) → letter (first t) ≡ true → read_word ws t ≡ parameter_where ws numbers t
+unfolding parameter_where parameter read_word if◌then◌otherwise◌
+starts-word ws (Some q) t l = rw l
+starts-word ws None t l = rw l
+
+-- no word is read then, whatever words may be given
+pub no-letter : (ws : List String) (numbers : Option Quantity) (t : Text) → letter (first t) ≡ false → parameter_where [] numbers t ≡ parameter_where ws numbers t
+unfolding parameter_where parameter if◌then◌otherwise◌
+no-letter ws (Some q) t l = rw l
+no-letter ws None t l = rw l
+
+module _ (t : Text) (l : letter (first t) ≡ false) where
   abbrev starts : Bool
   starts = digit (first t) || sign (first t) || point (first t)
 
-  pub starts-word : letter (first t) ≡ true → read_word ws t ≡ parameter ws numbers q t
-  unfolding parameter read_word if◌then◌otherwise◌
-  starts-word l = rw l
+  pub starts-figure : (q : Quantity) (r : Result Decimal Error) → meant r ≡ number q t → starts ≡ true → meant_figure r ≡ parameter_where [] (Some q) t
+  unfolding parameter_where parameter read_figure check ◌>>◌ ◌>>=◌ if◌then◌otherwise◌
+  starts-figure q (Ok d) is e = rw (l, e, ← is)
+  starts-figure q (Err f) is e = rw (l, e, ← is)
 
-  pub starts-figure : letter (first t) ≡ false → (numbers && starts) ≡ true → read_figure q t ≡ parameter ws numbers q t
-  unfolding parameter read_figure check ◌>>◌ if◌then◌otherwise◌
-  starts-figure l e = let p = and_both numbers starts e in rw (l, p.0, p.1)
+  pub starts-neither : (q : Quantity) → starts ≡ false → refused 104 ≡ parameter_where [] (Some q) t
+  unfolding parameter_where parameter check ◌>>◌ if◌then◌otherwise◌
+  starts-neither q e = rw (l, e)
 
-  pub starts-neither : letter (first t) ≡ false → (numbers && starts) ≡ false → refused 104 ≡ parameter ws numbers q t
-  unfolding parameter check ◌>>◌ if◌then◌otherwise◌
-  starts-neither l e = rw l (go numbers starts e)
+  pub starts-nothing : refused 104 ≡ parameter_where [] None t
+  unfolding parameter_where parameter check ◌>>◌ if◌then◌otherwise◌
+  starts-nothing = rw l (go starts)
     where
-      go : (n d : Bool) → (n && d) ≡ false
-          → refused 104 ≡ (if d then (check 104 n >> read_figure q t) otherwise refused 104)
-      go true true e = absurd (false≢true (sym e))
-      go true false e = refl
-      go false true e = refl
-      go false false e = refl
+      go : (d : Bool) → ◌≡◌ {A = Checked Given} (refused 104) (if d then refused 104 otherwise refused 104)
+      go true = refl
+      go false = refl
+
+-- as the definition has it, what numbers measure doesn't matter where none may be given
+pub where-is : (ws : List String) (also : Bool) (q : Quantity) (t : Text) → parameter_where ws (if also then Some q otherwise None) t ≡ parameter ws also q t
+unfolding parameter_where parameter check ◌>>◌ if◌then◌otherwise◌
+where-is ws true q t = refl
+where-is ws false q t = refl
 
 -- ---- what a search finds has a place in the list
 

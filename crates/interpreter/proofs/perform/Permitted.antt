@@ -18,7 +18,6 @@ use Rattle.interpreter.specs.Box.{Core}
 use Rattle.interpreter.specs.Perform.{is_output, blocked, conflicting, permitted}
 use Rattle.interpreter.specs.declared.deed.Deed.{Deed}
 use Rattle.interpreter.specs.declared.deed.Deed.TheVariants.{Change, Complete, Clear, Query, Inquire, Saving}
-use Rattle.interpreter.specs.declared.deed.Saving as savings
 use Rattle.interpreter.specs.declared.deed.Change as changes
 use Rattle.interpreter.specs.declared.deed.Change.TheVariants.{Nothing, Put, Reset, Store, Label as labelled}
 use Rattle.interpreter.specs.contracts.deed.Deed as deeds
@@ -80,28 +79,10 @@ put-permitted i v side c = go (is_output i && le_z v (pos 0)) (locked c.register
     go false true conflicts = refl
     go false false conflicts = refl
 
--- *RST: the lock is open
-pub reset-permitted : (c : Core) → permitted (Change Reset) c ≡ check 221 (not (locked c.registers))
+-- *RST, the display's text, *SAV and *RCL: the lock is open
+pub only-locked : (d : Deed) (c : Core) → blocked d ≡ true → conflicting d c.settings ≡ false → permitted d c ≡ check 221 (not (locked c.registers))
 unfolding permitted check ◌>>◌
-reset-permitted c = go (locked c.registers)
-  where
-    go : (locks : Bool) → (check 221 (not locks) >> check 221 true) ≡ check 221 (not locks)
-    go true = refl
-    go false = refl
-
--- *SAV and *RCL
-pub saving-permitted : (x : savings.Saving) (p : ℕ) (c : Core) → permitted (Saving x p) c ≡ check 221 (not (locked c.registers))
-unfolding permitted check ◌>>◌
-saving-permitted x p c = go (locked c.registers)
-  where
-    go : (locks : Bool) → (check 221 (not locks) >> check 221 true) ≡ check 221 (not locks)
-    go true = refl
-    go false = refl
-
--- and so for the display's text
-pub label-permitted : (c : Core) → permitted (Change labelled) c ≡ check 221 (not (locked c.registers))
-unfolding permitted check ◌>>◌
-label-permitted c = go (locked c.registers)
+only-locked d c b e = rw (b, e) (go (locked c.registers))
   where
     go : (locks : Bool) → (check 221 (not locks) >> check 221 true) ≡ check 221 (not locks)
     go true = refl

@@ -8,10 +8,12 @@ use lib.Dec.{leb, ltb, eqb}
 use lib.ListN.{length, get_or, drop, drop_of_length-le}
 use lib.Seq.{drop-cons}
 use borrow.Author.Tests.{eqb-true, leb-true, leb-false, le-leb, lt-ltb, le-ltb}
+use mathlib.Core.List.{[], ◌∷◌}
+use Rattle.std.specs.List.{list_all}
 use Rattle.registers.specs.Text.{Text, white, printable, every}
 use Rattle.interpreter.specs.Unit.{allowed}
 
-pub allowed-is : (b : ℕ) → allowed b ≡ (ltb b 127 && not (eqb b 10))
+allowed-is : (b : ℕ) → allowed b ≡ (ltb b 127 && not (eqb b 10))
 unfolding white printable
 allowed-is b = go (eqb b 10) refl
   where
@@ -27,21 +29,10 @@ allowed-is b = go (eqb b 10) refl
     go true e = rw (eqb-true b 10 e)
     go false e = rw (and-true (leb b 32), and-true (ltb b 127)) (other (leb b 32) refl)
 
--- one more byte is looked at
-pub more-allowed : (l : Text) (i : ℕ) (all : Bool) → i < length l → (all && every allowed (drop i l)) ≡ every allowed l
-    → let b = get_or l i 0 in
-    (all && ltb b 127 && not (eqb b 10) && every allowed (drop (i + 1) l)) ≡ every allowed l
-more-allowed l i all h e =
-    let b = get_or l i 0 in
-    let left = every allowed (drop (i + 1) l) in
-    let step : every allowed (drop i l) ≡ (allowed b && left) = rw (drop-cons l i 0 h, add-one i) in
-    go all (ltb b 127) (not (eqb b 10)) left ∙ ap (λ (w : Bool). all && (w && left)) (sym (allowed-is b)) ∙ rw step at e
-  where
-    go : (a x y z : Bool) → (a && x && y && z) ≡ (a && (x && y && z))
-    go true x y z = refl
-    go false x y z = refl
+-- and so for a whole text, as the code asks
+abbrev pub as_asked : ℕ → Bool
+as_asked b = ltb b 127 && not (eqb b 10)
 
--- and no byte is left
-pub all-allowed : (l : Text) (i : ℕ) (all : Bool) → length l ≤ i → (all && every allowed (drop i l)) ≡ every allowed l → all ≡ every allowed l
-all-allowed l i true h e = rw (drop_of_length-le l h) at e
-all-allowed l i false h e = e
+pub all-allowed : (t : Text) → list_all as_asked t ≡ every allowed t
+all-allowed [] = refl
+all-allowed (b ∷ bs) = rw (allowed-is b, all-allowed bs)

@@ -20,15 +20,12 @@ use Rattle.interpreter.specs.HeaderParts.{IsPath, FoundRow, LookedUp}
 use Rattle.interpreter.specs.Rows.{find_role}
 use Rattle.interpreter.specs.Parameter.{parameters, none_empty, least, greatest, deed_of}
 use Rattle.interpreter.specs.Unit.{allowed, Read, header_text, parameter_text, read_unit}
-use Rattle.interpreter.specs.ParameterParts.{meant_deed}
-use Rattle.interpreter.specs.UnitParts.{role_found, decided, decided_text, header_refusal, part_of, SpanOf, UnitRead}
-use Rattle.interpreter.specs.declared.unit.Span.{Span}
+use Rattle.interpreter.specs.UnitParts.{role_found, decided, decided_text, header_refusal, Accepted}
+use Rattle.interpreter.specs.declared.unit.Reading.{Reading}
 use Rattle.interpreter.specs.declared.deed.Deed.{Deed}
 use Rattle.interpreter.specs.declared.deed.Role.{Role}
 use Rattle.interpreter.specs.declared.header.Looked.{Looked}
 use Rattle.interpreter.specs.declared.path.Path.{Path}
-use Rattle.interpreter.specs.declared.parameter.Decision.{Decision}
-use Rattle.interpreter.specs.declared.parameter.Decision.TheVariants.{Refused as no_deed, Obey as some_deed}
 use Rattle.interpreter.proofs.Lists.{rest-is}
 use Rattle.interpreter.proofs.Checks.{apart, first-check}
 use Rattle.interpreter.proofs.unit.HeaderAllowed.{allowed-after}
@@ -163,20 +160,20 @@ found-deed s (passed i) asked t d e = (i, refl)
 found-deed s (refused n) asked t d e =
     absurd (none_passes (full s asked (parameters t)) n d (second-passes (check 101 (every allowed t)) (decided s (refused n) asked t) d e))
 
-module _ (s : Settings) (path : List Text) (u : Text) {st end : ℕ} {place : Checked ℕ} {asked : Bool} {p : Path} where
-  pub read-to : Headed s path u st place asked end p → (g : Span) → SpanOf u (st + end) g
-      → (d : Decision) → meant_deed d ≡ decided_text s place asked (part_of g.from g.to u) → UnitRead s path u d g p
+-- what check 1 and those after the header say of the text that stands behind it
+module _ (s : Settings) (path : List Text) (u : Text) {st end : ℕ} {place : Checked ℕ} {asked : Bool} {p : Path} (h : Headed s path u st place asked end p)
+    (t : Text) (trims : t ≡ trim (drop (st + end) u)) where
+  pub read-refused : {n : ℕ} → refused n ≡ decided_text s place asked t → read_unit s path u ≡ refused n
   unfolding ◌>>=◌
-  read-to h g w d says = go d (rw (w.is ∙ h.text) at says)
-    where
-      go : (d : Decision) → meant_deed d ≡ decided_text s place asked (parameter_text u) → UnitRead s path u d g p
-      go (no_deed e) is = h.is ∙ rw (sym is)
-      go (some_deed d) is =
-          let there = found-deed s place asked (parameter_text u) d (sym is) in
-          record {
-            left = h.left;
-            is = rw (w.is ∙ h.text) (h.is ∙ rw (sym is));
-            holds = h.holds there.0 there.1;
-            within = w.within;
-            ends = w.ends;
-          }
+  read-refused says = h.is ∙ rw (sym (rw (trims ∙ h.text) at says))
+
+  pub read-passed : (r : Reading) → r.given.now ≡ t → passed r.deed ≡ decided_text s place asked t → Accepted s path u r p
+  unfolding ◌>>=◌
+  read-passed r given says =
+      let is = rw (trims ∙ h.text) at says in
+      let there = found-deed s place asked (parameter_text u) r.deed (sym is) in
+      record {
+        left = h.left;
+        is = rw (given ∙ trims ∙ h.text) (h.is ∙ rw (sym is));
+        holds = h.holds there.0 there.1;
+      }

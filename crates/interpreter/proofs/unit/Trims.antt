@@ -1,11 +1,11 @@
 -- White space around a text: at its end, byte by byte from the last, and that a trimmed text stays as it is.
-use mathlib.Core.Path.{◌≡◌, refl, ap, ◌∙◌}
+use mathlib.Core.Path.{◌≡◌, refl, sym, ap, ◌∙◌}
 use mathlib.Core.Bool.{Bool, true, false, ◌&&◌}
 use mathlib.Core.List.{[], ◌∷◌, ◌++◌}
 use Prim.Native.Nat.{ℕ, suc, ◌-◌, ◌≤◌, ◌<◌}
 use native.Mathlib.Omega.{arith}
 use lib.ListN.{length, get_or, take}
-use lib.Seq.{take-suc}
+use lib.Seq.{take-suc, take-length}
 use Rattle.registers.specs.Text.{Text, if◌then◌otherwise◌, white, empty, after}
 use Rattle.registers.proofs.Tests.{and-fails}
 use Rattle.interpreter.specs.Cuts.{trim_end, trim}
@@ -26,16 +26,23 @@ unfolding trim_end if◌then◌otherwise◌
 visible_more [] x h = rw h
 visible_more (y ∷ l) x h = rw (visible_more l x h, and-fails (white y) (empty (l ++ x ∷ [])) (some_after l x []))
 
--- what a text up to a place keeps, by the byte before that place
-module _ (l : Text) (e : ℕ) (pos : 0 < e) (h : e ≤ length l) where
-  up_to : take e l ≡ take (e - 1) l ++ get_or l (e - 1) 0 ∷ []
-  up_to = let s : suc (e - 1) ≡ e = omega arith in rw s at (take-suc l (e - 1) 0 (omega arith))
+-- what a text keeps, by its last byte
+module _ (l : Text) (some : 1 ≤ length l) where
+  front_last : take (length l - 1) l ++ get_or l (length l - 1) 0 ∷ [] ≡ l
+  front_last =
+      let n : suc (length l - 1) ≡ length l = omega arith in
+      sym (take-suc l (length l - 1) 0 (omega arith)) ∙ ap (λ k. take k l) n ∙ take-length l
 
-  pub end-white : white (get_or l (e - 1) 0) ≡ true → trim_end (take e l) ≡ trim_end (take (e - 1) l)
-  end-white w = rw up_to (white-more (take (e - 1) l) (get_or l (e - 1) 0) w)
+  pub end-white : white (get_or l (length l - 1) 0) ≡ true → trim_end (take (length l - 1) l) ≡ trim_end l
+  end-white w = sym (white-more (take (length l - 1) l) (get_or l (length l - 1) 0) w) ∙ ap trim_end front_last
 
-  pub end-visible : white (get_or l (e - 1) 0) ≡ false → trim_end (take e l) ≡ take e l
-  end-visible w = rw up_to (visible_more (take (e - 1) l) (get_or l (e - 1) 0) w)
+  pub end-visible : white (get_or l (length l - 1) 0) ≡ false → l ≡ trim_end l
+  end-visible w = sym front_last ∙ sym (visible_more (take (length l - 1) l) (get_or l (length l - 1) 0) w) ∙ ap trim_end front_last
+
+pub end-none : (l : Text) → length l < 1 → l ≡ trim_end l
+unfolding trim_end
+end-none [] h = refl
+end-none (x ∷ l) h = absurd (omega arith)
 
 -- ---- trimmed twice
 

@@ -1,30 +1,29 @@
+-- A turn of the loop, and what comes of it after the last byte, are laws of parameter/Counting.
+use mathlib.Core.Path.{sym}
 use native.Mathlib.Omega.{arith}
-use Rattle.interpreter.proofs.Lists.{fewer}
-use Rattle.interpreter.proofs.parameter.Counting.{counting-start, counting-comma, counting-byte, counting-end, counting-none}
+use borrow.Author.Tests.{eqb-true, eqb-false}
+use Rattle.interpreter.proofs.parameter.Counting.{counting-start, counting-empty, counting-comma, counting-byte, counting-last, counting-end, counting-none}
 use Rattle.interpreter.proofs.parameter.count.Goals as goal
 
-pub returns-then-text-eq0 : goal.returns-then-text-eq0
-returns-then-text-eq0 c = counting-none c.args.text.now c.if-text-eq0.true
+pub returns-then-is_empty : goal.returns-then-is_empty
+returns-then-is_empty c = counting-none c.args.text.now (eqb-true _ 0 (sym c.if-is_empty.ensures))
 
-pub loop-i-init : goal.loop-i-init
-loop-i-init c = counting-start c.args.text.now
+pub loop-b-init : goal.loop-b-init
+loop-b-init c = counting-start c.args.text.now
 
-pub bounds-text-i : goal.bounds-text-i
-bounds-text-i c = c.loop-i-test.true
+pub returns-then-not-visible : goal.returns-then-not-visible
+returns-then-not-visible c = counting-empty c.loop-b.invariant c.loop-b-test.true c.if-mark-b.true c.if-not-visible.true
 
-pub loop-i-smaller-then-mark-b : goal.loop-i-smaller-then-mark-b
-loop-i-smaller-then-mark-b c = fewer c.loop-i-test.true
+pub loop-b-preserved-then-mark-b : goal.loop-b-preserved-then-mark-b
+loop-b-preserved-then-mark-b c = counting-comma c.loop-b.invariant c.loop-b-test.true c.if-mark-b.true c.if-not-visible.false
 
-pub loop-i-preserved-then-mark-b : goal.loop-i-preserved-then-mark-b
-loop-i-preserved-then-mark-b c = counting-comma c.loop-i.invariant (omega arith) c.if-mark-b.true
-
-pub loop-i-smaller : goal.loop-i-smaller
-loop-i-smaller c = fewer c.loop-i-test.true
-
-pub loop-i-preserved : goal.loop-i-preserved
-loop-i-preserved c =
+pub loop-b-preserved : goal.loop-b-preserved
+loop-b-preserved c =
     rw (c.quote_next-mark.ensures, c.is_white.ensures)
-    (counting-byte c.loop-i.invariant (omega arith) c.if-mark-b.false)
+    (counting-byte c.loop-b.invariant c.loop-b-test.true c.if-mark-b.false)
+
+pub returns-then-not-visible-2 : goal.returns-then-not-visible-2
+returns-then-not-visible-2 c = counting-last c.loop-b.invariant (eqb-false _ 0 (sym c.if-is_empty.ensures)) c.loop-b-test.false c.if-not-visible-2.true
 
 pub returns : goal.returns
-returns c = counting-end c.loop-i.invariant c.if-text-eq0.false c.loop-i-test.false
+returns c = counting-end c.loop-b.invariant (eqb-false _ 0 (sym c.if-is_empty.ensures)) c.loop-b-test.false c.if-not-visible-2.false

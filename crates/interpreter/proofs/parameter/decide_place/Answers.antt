@@ -1,33 +1,22 @@
--- Its one parameter is read (`read_is`): a number is decided on, and a word can't be read where none may be given.
-use mathlib.Core.Path.{◌≡◌, ◌∙◌}
-use mathlib.Core.Bool.{true}
-use mathlib.Core.List.{[]}
-use native.Mathlib.Omega.{arith}
-use Rattle.registers.specs.declared.suffix.Quantity.TheVariants.{Nothing}
-use Rattle.interpreter.specs.Parameter.{parameter}
-use Rattle.interpreter.specs.ParameterParts.{meant_given, saving_to}
-use Rattle.interpreter.proofs.parameter.Decisions.{refused-by, word-by, figure-by, place-refused, place-figure}
-use Rattle.interpreter.proofs.parameter.Words.{word-placed}
+-- Neither has a query; otherwise the whole number is the place (parameter/Decisions).
+use mathlib.Core.Path.{◌≡◌, sym, ap, ◌∙◌}
+use mathlib.Core.Bool.{false}
+use borrow.Author.Rules.{rules}
+use Rattle.registers.specs.Check.{◌>>=◌}
+use Rattle.interpreter.specs.ParameterParts.{saving_to}
+use Rattle.interpreter.proofs.parameter.Decisions.{place-whole}
 use Rattle.interpreter.proofs.parameter.decide_place.Goals as goal
 
 pub returns-then-asked : goal.returns-then-asked
 unfolding saving_to
 returns-then-asked c = rw c.if-asked.true
 
-pub returns-in-Refused : goal.returns-in-Refused
-returns-in-Refused c =
-    let read_is : meant_given c.read_parameter-parameter.result ≡ parameter [] true Nothing c.args.text.now = c.read_parameter-parameter.ensures in
-    let a = c.args in
-    rw c.if-asked.false (place-refused a.saving a.text.now (refused-by read_is c.in-Refused.is))
+pub returns-in_err-whole : goal.returns-in_err-whole
+unfolding ◌>>=◌
+returns-in_err-whole c =
+    let says = rw (← c.in_err-whole.ensures) at (place-whole c.args.saving c.args.text.now) in
+    rw c.if-asked.false (search rules)
 
-pub returns-in-Word : goal.returns-in-Word
-returns-in-Word c =
-    let read_is : meant_given c.read_parameter-parameter.result ≡ parameter [] true Nothing c.args.text.now = c.read_parameter-parameter.ensures in
-    absurd (omega (arith, word-placed [] true Nothing c.args.text.now c.in-Word.field-0 (word-by read_is c.in-Word.is)))
-
-pub returns-in-Figure : goal.returns-in-Figure
-returns-in-Figure c =
-    let read_is : meant_given c.read_parameter-parameter.result ≡ parameter [] true Nothing c.args.text.now = c.read_parameter-parameter.ensures in
-    let a = c.args in
-    rw c.if-asked.false
-    (c.decide_number.ensures ∙ place-figure a.saving a.text.now (figure-by read_is c.in-Figure.is))
+pub returns : goal.returns
+unfolding ◌>>=◌
+returns c = rw (c.if-asked.false, ← place-whole c.args.saving c.args.text.now, ← c.in_ok-whole.ensures, c.from-place.ensures)

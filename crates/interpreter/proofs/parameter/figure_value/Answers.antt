@@ -9,7 +9,7 @@ use mir.Syntax.{w32}
 use mir.Val.{of_z, to_z}
 use Rattle.registers.specs.Rounding.{rounded, side_in, RoundedIn}
 use Rattle.registers.specs.Settings.{kind_of, sort_of, meant_values, lowest, highest}
-use Rattle.registers.specs.declared.rounding.Fit.TheVariants.{Within}
+use Rattle.std.specs.Prelude.{Some}
 use Rattle.registers.specs.declared.rounding.Rounded.{Rounded}
 use Rattle.registers.specs.declared.rounding.Side.{Side}
 use Rattle.registers.specs.declared.rounding.Side.TheVariants.{On}
@@ -24,7 +24,7 @@ use Rattle.interpreter.proofs.parameter.ByKind.{figure_in, figure-in, side_of, s
 use Rattle.interpreter.proofs.parameter.figure_value.Goals as goal
 
 abbrev plain : ℤ → Rounded
-plain z = record { fit = Within z; side = On }
+plain z = record { fit = Some z; side = On }
 
 -- what is to be answered
 abbrev value : Settings → ℕ → Decimal → ℤ
@@ -72,7 +72,7 @@ returns-in-Whole c =
 pub returns-in-Bool : goal.returns-in-Bool
 returns-in-Bool c =
     let a = c.args in
-    ap plain (switched-byte c.switches_on.result)
+    ap plain (as-said c.from.type_inv c.from.ensures ∙ switched-byte c.switches_on.result)
     ∙ rw (← c.switches_on.ensures) at (other-is a.settings a.row a.d c.in-Bool.is c.values_of-values.ensures refl refl)
 
 pub returns-in-Word : goal.returns-in-Word

@@ -1,6 +1,5 @@
 use mathlib.Core.Path.{refl, sym, ◌∙◌}
 use native.Mathlib.Omega.{arith}
-use Rattle.interpreter.proofs.Lists.{fewer}
 use Rattle.interpreter.proofs.parameter.Words.{search-hit, search-miss, search-end}
 use Rattle.interpreter.proofs.parameter.find_word.Goals as goal
 
@@ -12,9 +11,6 @@ is_word-requires c = omega arith
 
 pub returns-then-is_word : goal.returns-then-is_word
 returns-then-is_word c = search-hit c.loop-n.invariant (omega arith) (sym c.is_word.ensures ∙ c.if-is_word.true)
-
-pub loop-n-smaller : goal.loop-n-smaller
-loop-n-smaller c = fewer c.loop-n-test.true
 
 pub loop-n-preserved : goal.loop-n-preserved
 loop-n-preserved c = search-miss c.loop-n.invariant (omega arith) (sym c.is_word.ensures ∙ c.if-is_word.false)

@@ -1,42 +1,34 @@
--- By the first byte: a letter starts a word, which is searched for; a digit, a sign or a point starts a number, where one may be given;
--- any other byte is refused.
-use mathlib.Core.Path.{◌≡◌, sym, ◌∙◌}
-use mathlib.Core.Bool.{false, not, ◌&&◌}
-use borrow.Author.Tests.{not-true, not-false}
+-- By the first byte: a letter starts a word, which is searched for, and any other byte is left to `read_figure`.
+use mathlib.Core.Path.{◌≡◌, sym, ap, ◌∙◌}
+use mathlib.Core.Bool.{false}
+use borrow.Author.Rules.{rules}
 use Rattle.registers.specs.Text.{letter, first}
-use Rattle.registers.specs.Check.{◌>>=◌}
-use Rattle.interpreter.specs.Parameter.{parameter, read_figure}
 use Rattle.interpreter.specs.WordsParts.{words_in}
-use Rattle.interpreter.proofs.parameter.Words.{starts-word, starts-figure, starts-neither}
+use Rattle.interpreter.proofs.parameter.Words.{starts-word, no-letter}
 use Rattle.interpreter.proofs.parameter.read_parameter.Goals as goal
+
+pub returns-in_err-word : goal.returns-in_err-word
+returns-in_err-word c =
+    let a = c.args in
+    let starts = sym (c.is_letter.ensures ∙ ap letter c.byte_at.ensures) ∙ c.if-is_letter.true in
+    let says = c.in_err-word.ensures ∙ starts-word (words_in a.takes.words) a.takes.numbers a.text.now starts in
+    search rules
 
 pub returns-then-is_letter : goal.returns-then-is_letter
 returns-then-is_letter c =
     let a = c.args in
-    let letter = sym (rw c.byte_at-b.ensures at c.is_letter.ensures) ∙ c.if-is_letter.true in
-    c.find_word.ensures ∙ starts-word (words_in a.takes.words) (a.takes.numbers && not a.asked) a.takes.quantity a.text.now letter
+    let starts = sym (c.is_letter.ensures ∙ ap letter c.byte_at.ensures) ∙ c.if-is_letter.true in
+    c.in_ok-word.ensures ∙ starts-word (words_in a.takes.words) a.takes.numbers a.text.now starts
 
-pub returns-then-not-takes-asked : goal.returns-then-not-takes-asked
-returns-then-not-takes-asked c =
-    let no-letter : letter (first c.args.text.now) ≡ false = sym (rw c.byte_at-b.ensures at c.is_letter.ensures) ∙ c.if-is_letter.false in
+pub returns-in_err-d : goal.returns-in_err-d
+returns-in_err-d c =
     let a = c.args in
-    let no-figure = rw (c.is_digit.ensures, c.byte_at-b.ensures) at c.if-not-takes-asked.true-raw in
-    starts-neither (words_in a.takes.words) (a.takes.numbers && not a.asked) a.takes.quantity a.text.now no-letter (not-true _ no-figure)
+    let starts = sym (c.is_letter.ensures ∙ ap letter c.byte_at.ensures) ∙ c.if-is_letter.false in
+    let says = c.in_err-d.ensures starts ∙ no-letter (words_in a.takes.words) a.takes.numbers a.text.now starts in
+    search rules
 
-pub returns-in-Refused : goal.returns-in-Refused
-unfolding read_figure ◌>>=◌
-returns-in-Refused c =
-    let no-letter : letter (first c.args.text.now) ≡ false = sym (rw c.byte_at-b.ensures at c.is_letter.ensures) ∙ c.if-is_letter.false in
-    let figure-is : let a = c.args in read_figure a.takes.quantity a.text.now ≡ parameter (words_in a.takes.words) (a.takes.numbers && not a.asked) a.takes.quantity a.text.now = let a = c.args in
-    let left = rw (c.is_digit.ensures, c.byte_at-b.ensures) at c.if-not-takes-asked.false-raw in
-    starts-figure (words_in a.takes.words) (a.takes.numbers && not a.asked) a.takes.quantity a.text.now no-letter (not-false _ left) in
-    rw (← figure-is, ← c.read-reading.ensures, c.in-Refused.is)
-
-pub returns-in-Number : goal.returns-in-Number
-unfolding read_figure ◌>>=◌
-returns-in-Number c =
-    let no-letter : letter (first c.args.text.now) ≡ false = sym (rw c.byte_at-b.ensures at c.is_letter.ensures) ∙ c.if-is_letter.false in
-    let figure-is : let a = c.args in read_figure a.takes.quantity a.text.now ≡ parameter (words_in a.takes.words) (a.takes.numbers && not a.asked) a.takes.quantity a.text.now = let a = c.args in
-    let left = rw (c.is_digit.ensures, c.byte_at-b.ensures) at c.if-not-takes-asked.false-raw in
-    starts-figure (words_in a.takes.words) (a.takes.numbers && not a.asked) a.takes.quantity a.text.now no-letter (not-false _ left) in
-    rw (← figure-is, ← c.read-reading.ensures, c.in-Number.is)
+pub returns : goal.returns
+returns c =
+    let a = c.args in
+    let starts = sym (c.is_letter.ensures ∙ ap letter c.byte_at.ensures) ∙ c.if-is_letter.false in
+    c.in_ok-d.ensures starts ∙ no-letter (words_in a.takes.words) a.takes.numbers a.text.now starts
