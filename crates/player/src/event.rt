@@ -1,7 +1,7 @@
 // Plays an event that is lent the store, and writes what its report has after the letter.
 use crate::report::Report;
 use crate::script;
-use interpreter::state::State;
+use interpreter::state::{Refusal, State};
 use registers::status::RegisterSet;
 
 // The longest buffer that take is lent.
@@ -58,20 +58,23 @@ fn receive(state: &mut State, store: &mut [u8], digits: &[u8], report: &mut Repo
     let mut bytes = [0; PIECE];
     let piece = script::unhex(digits, &mut bytes)?;
     let fed = state.piece(store, piece);
-    report.number(fed.outcome.number());
-    report.number(fed.count);
+    report.outcome(&fed.count);
+    report.number(fed.count.unwrap_or(0));
     *state = fed.state;
     Some(())
 }
 
-// Plays a take into a buffer of a length, and reports all of the buffer, so that a byte that was
-// touched shows.
+// Plays a take into a buffer of a length. It reports the answer's length, also where the buffer is too
+// short for it, and all of the buffer, so that a byte that was touched shows.
 fn take(state: &mut State, store: &[u8], length: usize, report: &mut Report) -> Option<()> {
     let mut bytes = [UNTOUCHED; BUFFER];
     let buffer = bytes.get_mut(..length)?;
     let taken = state.take(store, buffer);
-    report.number(taken.outcome.number());
-    report.number(taken.length);
+    report.outcome(&taken.length);
+    report.number(match taken.length {
+        Ok(length) | Err(Refusal::BufferTooShort { needed: length }) => length,
+        Err(_) => 0,
+    });
     report.put(' ');
     report.hex(buffer);
     *state = taken.state;
@@ -81,13 +84,13 @@ fn take(state: &mut State, store: &[u8], length: usize, report: &mut Report) -> 
 // Plays the report of a set's condition.
 fn condition(state: &mut State, store: &[u8], set: RegisterSet, value: u16, report: &mut Report) {
     let reported = state.condition(store, set, value);
-    report.number(reported.outcome.number());
+    report.outcome(&reported.outcome);
     *state = reported.state;
 }
 
 // Plays a look, and reports the status byte.
 fn look(state: &State, store: &[u8], report: &mut Report) {
-    let seen = state.look(store);
-    report.number(seen.outcome.number());
-    report.number(seen.byte);
+    let byte = state.look(store);
+    report.outcome(&byte);
+    report.number(byte.unwrap_or(0));
 }

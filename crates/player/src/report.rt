@@ -1,5 +1,7 @@
 // The line that answers an event, as it is written.
 use arrayvec::ArrayVec;
+use interpreter::state;
+use interpreter::state::Refusal;
 use std::fmt::Display;
 use std::io::Write;
 
@@ -39,6 +41,11 @@ impl Report {
     // Writes a blank and a number.
     pub(crate) fn number(&mut self, n: impl Display + Drop) {
         self.put(format_args!(" {n}"));
+    }
+
+    // Writes a blank and the number of the refusal, 0 where there was none.
+    pub(crate) fn outcome<T>(&mut self, outcome: &Result<T, Refusal>) {
+        self.number(state::number_of(outcome));
     }
 
     // Writes numbers with commas between, or a dash where there is none.
