@@ -1,9 +1,13 @@
 -- What the functions that read the fields of a script line say: hex digits and decimal numbers. Nothing of 01 is defined here; the script is the
 -- player's own.
-use Rattle.std.specs.Prelude.{◌≡◌, ℕ, Bool, ◌&&◌, ◌+◌, ◌-◌, ◌*◌, ◌^◌, ◌<◌, ◌≤◌, nat_lt, [], ◌∷◌, Option, Some, None}
+use Rattle.std.specs.Prelude.{◌≡◌, ℕ, ◌+◌, ◌-◌, ◌*◌, ◌^◌, ◌<◌, ◌≤◌, nat_lt, [], ◌∷◌, Option, Some, None}
 use Prim.Native.Char.{code}
 use Rattle.registers.specs.Text.{Text, if◌then◌otherwise◌, digit, every}
 use Rattle.registers.specs.Number.{numeral_from}
+
+-- what parts the fields
+abbrev pub blank : ℕ
+blank = code " "
 
 -- r is the value of the hex digit b, in capitals or small letters, and nothing where b is none
 pub record HexValueOf (b : ℕ) (r : Option ℕ) : Type 0 where

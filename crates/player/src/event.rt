@@ -1,5 +1,5 @@
 // Plays an event that is lent the store, and writes what its report has after the letter.
-use crate::report::Report;
+use crate::report::{Hex, Report};
 use crate::script;
 use interpreter::state::{Refusal, State};
 use registers::status::RegisterSet;
@@ -59,7 +59,7 @@ fn receive(state: &mut State, store: &mut [u8], digits: &[u8], report: &mut Repo
     let piece = script::unhex(digits, &mut bytes)?;
     let fed = state.piece(store, piece);
     report.outcome(&fed.count);
-    report.number(fed.count.unwrap_or(0));
+    report.field(fed.count.unwrap_or(0));
     *state = fed.state;
     Some(())
 }
@@ -71,12 +71,11 @@ fn take(state: &mut State, store: &[u8], length: usize, report: &mut Report) -> 
     let buffer = bytes.get_mut(..length)?;
     let taken = state.take(store, buffer);
     report.outcome(&taken.length);
-    report.number(match taken.length {
+    report.field(match taken.length {
         Ok(length) | Err(Refusal::BufferTooShort { needed: length }) => length,
         Err(_) => 0,
     });
-    report.put(' ');
-    report.hex(buffer);
+    report.field(Hex(buffer));
     *state = taken.state;
     Some(())
 }
@@ -92,5 +91,5 @@ fn condition(state: &mut State, store: &[u8], set: RegisterSet, value: u16, repo
 fn look(state: &State, store: &[u8], report: &mut Report) {
     let byte = state.look(store);
     report.outcome(&byte);
-    report.number(byte.unwrap_or(0));
+    report.field(byte.unwrap_or(0));
 }

@@ -105,7 +105,7 @@ impl Player {
         if self.play_line().is_none() {
             self.report.clear();
             self.report.put('?');
-            self.report.number(self.lines);
+            self.report.field(self.lines);
         }
         self.report.put('\n');
         self.line.clear();

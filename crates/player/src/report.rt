@@ -2,6 +2,7 @@
 use arrayvec::ArrayVec;
 use interpreter::state;
 use interpreter::state::Refusal;
+use std::fmt;
 use std::fmt::Display;
 use std::io::Write;
 
@@ -33,39 +34,56 @@ impl Report {
         self.bytes.clear();
     }
 
-    // Writes a letter or a number.
+    // Writes a value as it is displayed.
     pub(crate) fn put(&mut self, value: impl Display + Drop) {
         let _ = write!(self.bytes, "{value}");
     }
 
-    // Writes a blank and a number.
-    pub(crate) fn number(&mut self, n: impl Display + Drop) {
-        self.put(format_args!(" {n}"));
+    // Writes a blank and a value.
+    pub(crate) fn field(&mut self, value: impl Display + Drop) {
+        let _ = write!(self.bytes, " {value}");
     }
 
     // Writes a blank and the number of the refusal, 0 where there was none.
     pub(crate) fn outcome<T>(&mut self, outcome: &Result<T, Refusal>) {
-        self.number(state::number_of(outcome));
+        self.field(state::number_of(outcome));
     }
+}
 
-    // Writes numbers with commas between, or a dash where there is none.
-    pub(crate) fn list<T: Display>(&mut self, numbers: &[T]) {
-        let Some((first, others)) = numbers.split_first() else {
-            return self.put('-');
+// Numbers with commas between, or a dash where there is none.
+#[derive(Clone, Copy)]
+pub(crate) struct List<'a, T>(pub(crate) &'a [T]);
+
+impl<T: Display> Display for List<'_, T> {
+    fn fmt<W: fmt::Write>(&self, f: &mut fmt::Formatter<W>) -> fmt::Result {
+        let Some((first, others)) = self.0.split_first() else {
+            return write!(f, "-");
         };
-        self.put(first);
+        write!(f, "{first}")?;
         for n in others {
-            self.put(format_args!(",{n}"));
+            write!(f, ",{n}")?;
         }
+        Ok(())
     }
+}
 
-    // Writes bytes in hex, or a dash where there is none.
-    pub(crate) fn hex(&mut self, bytes: &[u8]) {
-        if bytes.is_empty() {
-            self.put('-');
+// Bytes in hex, or a dash where there is none.
+#[derive(Clone, Copy)]
+pub(crate) struct Hex<'a>(pub(crate) &'a [u8]);
+
+impl Display for Hex<'_> {
+    ghost use Rattle.std.specs.Prelude.{Some};
+    ghost use Rattle.player.specs.ReportParts.{in_hex};
+
+    ghost output = { λ h. Some (in_hex h.0.now) };
+
+    fn fmt<W: fmt::Write>(&self, f: &mut fmt::Formatter<W>) -> fmt::Result {
+        if self.0.is_empty() {
+            return write!(f, "-");
         }
-        for b in bytes {
-            self.put(format_args!("{b:02X}"));
+        for &b in self.0 {
+            write!(f, "{b:02X}")?;
         }
+        Ok(())
     }
 }

@@ -1,11 +1,13 @@
 // Reads the fields of a script line: numbers, bytes in hex, and what a blank parts.
 ghost use Rattle.std.specs.Prelude.{◌≡◌, ◌∷◌, ◌++◌, IfSome};
-ghost use Rattle.player.specs.ScriptParts.{HexValueOf, with_digit, decimal_in};
+ghost use Rattle.player.specs.ScriptParts.{blank, HexValueOf, with_digit, decimal_in};
 
 // Parts a text at its first blank.
-pub(crate) fn parted(text: &[u8]) -> Option<(&[u8], &[u8])> {
-    let blank = text.iter().position(|b| *b == b' ')?;
-    Some((&text[..blank], &text[blank + 1..]))
+pub(crate) fn parted(text: &[u8]) -> Option<(&[u8], &[u8])>
+    ensures { IfSome result (λ parts. text.now ≡ parts.0.now ++ blank ∷ parts.1.now) }
+{
+    let end = text.iter().position(|b| *b == b' ')?;
+    Some((&text[..end], &text[end + 1..]))
 }
 
 // Gives a hex digit's value, if the byte is one.

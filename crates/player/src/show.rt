@@ -1,5 +1,5 @@
 // Reports the state, in the order that the head of main.rt gives, after the letter.
-use crate::report::Report;
+use crate::report::{Hex, List, Report};
 use interpreter::state::State;
 use registers::group::Group;
 use registers::label::TEXT;
@@ -16,12 +16,8 @@ fn front<T>(items: &[T], count: usize) -> &[T] {
 fn settings(settings: &Settings, report: &mut Report) {
     let (rows, others) = settings.values.split_at(Settings::ROWS);
     let end = settings.text.iter().position(|b| *b == 0);
-    report.put(' ');
-    report.list(rows);
-    report.put(',');
-    report.hex(front(&settings.text, end.unwrap_or(TEXT)));
-    report.put(',');
-    report.list(others);
+    let text = Hex(front(&settings.text, end.unwrap_or(TEXT)));
+    report.field(format_args!("{},{text},{}", List(rows), List(others)));
 }
 
 // Writes the five registers of a set.
@@ -33,18 +29,17 @@ fn group(group: &Group, report: &mut Report) {
         group.ptr,
         group.ntr,
     ] {
-        report.number(n);
+        report.field(n);
     }
 }
 
 // Writes the event status register, the two enables, OPERation's registers, and the errors that wait.
 fn status(status: &Status, report: &mut Report) {
     for n in [status.events, status.ese, status.sre] {
-        report.number(n);
+        report.field(n);
     }
     group(&status.group(RegisterSet::Operation), report);
-    report.put(' ');
-    report.list(front(&status.errors, status.queued));
+    report.field(List(front(&status.errors, status.queued)));
 }
 
 // Writes the state: the overlong mark, and the bytes that are held of the line, stand before the answer
@@ -52,14 +47,9 @@ fn status(status: &Status, report: &mut Report) {
 pub(crate) fn state(state: &State, report: &mut Report) {
     settings(&state.settings, report);
     status(&state.status, report);
-    report.number(u8::from(state.overlong));
-    for bytes in [
-        front(&state.line, state.filled),
-        front(&state.answer, state.waiting),
-    ] {
-        report.put(' ');
-        report.hex(bytes);
-    }
+    report.field(u8::from(state.overlong));
+    report.field(Hex(front(&state.line, state.filled)));
+    report.field(Hex(front(&state.answer, state.waiting)));
     group(&state.status.group(RegisterSet::Lock), report);
     group(&state.status.group(RegisterSet::Warning), report);
 }

@@ -1,4 +1,4 @@
-use Rattle.std.proofs.Common.{sym, ◌∙◌}
+use Rattle.std.proofs.Common.{◌∙◌}
 use Rattle.player.proofs.script.Laws.{nothing-spelt, reading-start, reading-more, reading-stop, reading-end}
 use Rattle.player.proofs.script.decimal.Goals as goal
 
