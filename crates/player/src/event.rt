@@ -22,18 +22,24 @@ pub(crate) enum Event<'a> {
     Look,
 }
 
+// Gives the set whose condition an event of this letter reports.
+fn set_of(letter: u8) -> Option<RegisterSet> {
+    match letter {
+        b'c' => Some(RegisterSet::Operation),
+        b'k' => Some(RegisterSet::Lock),
+        b'w' => Some(RegisterSet::Warning),
+        _ => None,
+    }
+}
+
 impl<'a> Event<'a> {
     // Reads the event that a letter names and a text describes.
     pub(crate) fn read(letter: u8, text: &'a [u8]) -> Option<Event<'a>> {
-        let set = match letter {
-            b'p' => return Some(Event::Piece(text)),
-            b't' => return Some(Event::Take(script::number(text)?)),
-            b'c' => RegisterSet::Operation,
-            b'k' => RegisterSet::Lock,
-            b'w' => RegisterSet::Warning,
-            _ => return None,
-        };
-        Some(Event::Condition(set, script::number(text)?))
+        match letter {
+            b'p' => Some(Event::Piece(text)),
+            b't' => Some(Event::Take(script::number(text)?)),
+            _ => Some(Event::Condition(set_of(letter)?, script::number(text)?)),
+        }
     }
 
     // Plays the event, if its digits can be read and its buffer is not too long.

@@ -6,33 +6,33 @@ use interpreter::state::STORE;
 use registers::setup;
 use registers::setup::BLOCK;
 
+// Gives the block at the place that a text spells.
+fn block<'a>(store: &'a mut [u8; STORE], place: &[u8]) -> Option<&'a mut [u8; BLOCK]> {
+    let (blocks, _) = store.as_chunks_mut::<BLOCK>();
+    blocks.get_mut(number::<usize>(place)?)
+}
+
 // Adds a value to a byte of a block, modulo 256: the text is the block's place, the byte's offset in
 // it, and what is added.
 pub(crate) fn add(store: &mut [u8; STORE], text: &[u8]) -> Option<()> {
     let (place, text) = parted(text)?;
     let (offset, value) = parted(text)?;
-    let (blocks, _) = store.as_chunks_mut::<BLOCK>();
-    let block = blocks.get_mut(number::<usize>(place)?)?;
-    let byte = block.get_mut(number::<usize>(offset)?)?;
+    let byte = block(store, place)?.get_mut(number::<usize>(offset)?)?;
     *byte = byte.wrapping_add(number(value)?);
     Some(())
 }
 
 // Makes a block zeros: the text is its place.
 pub(crate) fn zero(store: &mut [u8; STORE], text: &[u8]) -> Option<()> {
-    let (blocks, _) = store.as_chunks_mut::<BLOCK>();
-    let block = blocks.get_mut(number::<usize>(text)?)?;
-    *block = [0; BLOCK];
+    *block(store, text)? = [0; BLOCK];
     Some(())
 }
 
 // Copies a block onto another place, also onto its own: the text is the two places.
 pub(crate) fn copy(store: &mut [u8; STORE], text: &[u8]) -> Option<()> {
     let (from, to) = parted(text)?;
-    let (blocks, _) = store.as_chunks_mut::<BLOCK>();
-    let copied = *blocks.get(number::<usize>(from)?)?;
-    let block = blocks.get_mut(number::<usize>(to)?)?;
-    *block = copied;
+    let copied = *block(store, from)?;
+    *block(store, to)? = copied;
     Some(())
 }
 
