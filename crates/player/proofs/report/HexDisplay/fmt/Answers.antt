@@ -1,6 +1,5 @@
-use Rattle.std.proofs.Common.{rules, ◌<◌, refl, get_or}
-use Rattle.std.proofs.Output.{has_written_append, has_written_of_eq}
-use Rattle.player.proofs.report.Laws.{byte-shown, one-more}
+use Rattle.std.proofs.Common.{rules, ◌<◌, true, refl, get_or}
+use Rattle.player.proofs.report.Laws.{byte-shown, written-more}
 use Rattle.player.proofs.report.HexDisplay.fmt.Goals as goal
 
 pub loop-b-preserved : goal.loop-b-preserved
@@ -10,5 +9,5 @@ loop-b-preserved g c = λ p.
     let so_far = c.loop-b.invariant p in
     let low : b < 256 = search rules in
     let shown = byte-shown c.in_radix.result c.laid_out.result b low c.in_radix.ensures c.laid_out.ensures in
-    let wrote = (rw shown at c.in_ok-write.ensures.writes) so_far.plain refl in
-    has_written_of_eq _ _ _ _ _ (one-more bytes c.loop-b.b-index c.loop-b-test.true) (has_written_append _ _ _ _ _ _ so_far wrote)
+    let wrote = (rw shown at c.in_ok-write.ensures.writes) so_far.plain (refl {a = true}) in
+    written-more bytes c.loop-b.b-index c.loop-b-test.true so_far wrote
