@@ -2,12 +2,13 @@
 -- whose rows stand one after the other.
 use mathlib.Core.Path.{◌≡◌, refl, sym, ◌∙◌, ap, ap₂}
 use mathlib.Core.Bool.{Bool, true, false, false≢true}
-use mathlib.Core.List.{List, [], ◌∷◌, map}
+use mathlib.Core.List.{List, [], ◌∷◌, map, append_assoc}
 use Prim.Native.Nat.{ℕ, zero, suc, ◌+◌, ◌-◌, ◌≤◌, ◌<◌}
 use native.Mathlib.Omega.{arith}
 use lib.Dec.{eqb}
 use lib.ListN.{length, get_or, take, drop, length-drop}
-use lib.Seq.{take_all}
+use lib.Seq.{take_all, drop-drop, paste}
+use borrow.Rule.Slice.PartMut.{put_mid}
 use borrow.Author.Tests.{eqb-true, eqb-false, eq-eqb}
 use Rattle.registers.specs.Text.{Text, every, empty, same}
 use Rattle.registers.proofs.Tests.{and_both, and-true}
@@ -97,3 +98,10 @@ agree (suc n) f g e i h = go (eqb i n) refl (agree n f g (cc) i)
     go : (t : Bool) → eqb i n ≡ t → (i < n → f i ≡ g i) → f i ≡ g i
     go true q ih = rw (eqb-true i n q) cc
     go false q ih = ih (omega (arith, eqb-false i n q))
+
+-- ---- a text laid over another at a place: the kit's copy over a part makes the kit's `paste` of the whole
+
+pub pasted : (d : Text) (at : ℕ) (s : Text) (n : ℕ) (ys : Text) → ys ≡ take n s → put_mid at (at + n - at) d ys ≡ paste d at s n
+pasted d at s n ys is =
+    let k : at + n - at ≡ n = omega arith in
+    rw (is, k, drop-drop n at d, append_assoc)

@@ -1,52 +1,49 @@
 -- What the line reader's own functions say. Nothing of 01 is defined here: see Line.antt.
-use Rattle.std.specs.Prelude.{◌≡◌, Bool, true, false, List, [], ℕ, ◌≤◌, ◌<◌}
+use Rattle.std.specs.Prelude.{◌≡◌, Bool, List, [], ℕ, ◌≤◌, ◌<◌, Result, Ok, Err}
 use Prim.Native.Char.{code}
 use Rattle.registers.specs.Text.{Text}
 use Rattle.registers.specs.Check.{Checked, refused, passed, ◌>>◌}
 use Rattle.registers.specs.Queue.{most}
 use Rattle.registers.specs.Status.{registers_of, trouble_of}
+use Rattle.registers.specs.Error.{number_of}
 use Rattle.registers.specs.declared.error.Error.{Error}
 use Rattle.interpreter.specs.Cuts.{cut_open}
 use Rattle.interpreter.specs.Box.{Memory, Box, box, most_answer}
 use Rattle.interpreter.specs.Perform.{permitted, perform}
 use Rattle.interpreter.specs.Line.{attempt, refuse, run_units, run_line}
 use Rattle.interpreter.specs.HeaderParts.{Holds}
-use Rattle.interpreter.specs.PresentParts.{box_in, box_at, RefusedWith}
+use Rattle.interpreter.specs.PresentParts.{box_in, box_at}
 use Rattle.interpreter.specs.declared.deed.Deed.{Deed}
 use Rattle.interpreter.specs.declared.present.Present.{Present}
 use Rattle.interpreter.specs.declared.line.Done.{Done}
 
--- the last unit was refused
-pub record StoppedWith (e : Error) (p : Present) (r : Done) : Type 0 where
-  pub stops : r.obeyed ≡ false
-  pub left : RefusedWith e p r.present
+-- while a line runs its answers leave room for the newline, and the errors fit their queue
+pub record Running (p : Present) : Type 0 where
+  pub queued : p.status.queued ≤ most
+  pub room : p.answered < most_answer
 
 -- what comes of a unit that was read: the lock and check 8, and what it does with check 9
 abbrev pub carried : Deed → Text → Box → Checked Box
 carried d t b = permitted d b.core >> perform d t b
 
-pub record CarriedOut (d : Deed) (t : Text) (used : ℕ) (p : Present) (out : Text) (m : Memory) (r : Done) (out' : Text) (m' : Memory) : Type 0 where
-  pub queued : r.present.status.queued ≤ most
-  pub room : r.present.answered < most_answer
-  pub goes : r.obeyed ≡ true → (carried d t (box_at p out m) ≡ passed (box_at r.present out' m')) × (r.used ≡ used)
-  pub stops : r.obeyed ≡ false → (n : ℕ) × (carried d t (box_at p out m) ≡ refused n) × (box_at r.present out' m' ≡ refuse n (box_at p out m))
+-- it is obeyed; or it is refused, and of the answers so far is left what the refusal leaves of them
+abbrev pub Left : Error → Present → Text → Memory → Text → Memory → Type 0
+Left e p out m out' m' = refuse (number_of e) (box_at p out' m') ≡ refuse (number_of e) (box_at p out m)
 
--- a unit was obeyed, or refused
-pub record UnitRan (d : Done) (path : List Text) (unit out : Text) (m : Memory) (r : Done) (keys : List ℕ) (out' : Text) (m' : Memory) : Type 0 where
-  pub queued : r.present.status.queued ≤ most
-  pub room : r.present.answered < most_answer
-  pub goes : r.obeyed ≡ true
-      → (names : List Text)
-      × (attempt path (box_at d.present out m) unit ≡ passed (record { path = names; box = box_at r.present out' m' }))
-      × Holds names keys r.used
-  pub stops : r.obeyed ≡ false
-      → (n : ℕ)
-      × (attempt path (box_at d.present out m) unit ≡ refused n)
-      × (box_at r.present out' m' ≡ refuse n (box_at d.present out m))
+abbrev pub CarriedOut : Deed → Text → Present → Text → Memory → Result Present Error → Text → Memory → Type 0
+CarriedOut d t p out m (Ok r) out' m' = Running r × (carried d t (box_at p out m) ≡ passed (box_at r out' m'))
+CarriedOut d t p out m (Err e) out' m' = (carried d t (box_at p out m) ≡ refused (number_of e)) × Left e p out m out' m'
+
+abbrev pub UnitRan : Present → List Text → Text → Text → Memory → Result Done Error → List ℕ → Text → Memory → Type 0
+UnitRan p path unit out m (Ok r) keys out' m' =
+    Running r.present
+    × ((names : List Text)
+    × (attempt path (box_at p out m) unit ≡ passed (record { path = names; box = box_at r.present out' m' }))
+    × Holds names keys r.used)
+UnitRan p path unit out m (Err e) keys out' m' = (attempt path (box_at p out m) unit ≡ refused (number_of e)) × Left e p out m out' m'
 
 pub record UnitsRan (p : Present) (line : Text) (m : Memory) (r : Present) (out' : Text) (m' : Memory) : Type 0 where
-  pub queued : r.status.queued ≤ most
-  pub room : r.answered < most_answer
+  pub running : Running r
   pub box : box_at r out' m' ≡ run_units (cut_open (code ";") 0 line) [] (box_in p [] m)
 
 pub record LineRan (p : Present) (line : Text) (overlong : Bool) (m : Memory) (r : Present) (out' : Text) (m' : Memory) : Type 0 where

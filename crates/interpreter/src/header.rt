@@ -4,13 +4,13 @@
 // the path that is left is all of them but the last.
 ghost use Rattle.std.specs.Prelude.{◌≡◌, List, ◌≤◌, ◌<◌, length};
 ghost use Rattle.registers.specs.Text.{Text};
-ghost use Rattle.interpreter.specs.TableParts.{command_table};
 ghost use Rattle.interpreter.specs.TableParts.{or_zero};
 ghost use Rattle.interpreter.specs.DeedParts.{place_of};
 ghost use Rattle.interpreter.specs.RowsParts.{row_of_keys, class_in};
 ghost use Rattle.interpreter.specs.HeaderParts.{most_names, Entered, TailRead, HeaderRead, Holds, LookedUp};
 
 use crate::deed::Heading;
+use crate::table::Table;
 use crate::{deed, name, rows};
 use registers::text;
 
@@ -80,8 +80,8 @@ fn read_tail(text: &[u8], at: usize, count: usize) -> Names
 
 // Reads the names of the header that a text starts with and adds them to the path, or to none where a `:` leads. After a `*` there is
 // one name; others are joined by single colons.
-fn read_names(table: &[u8], path: &mut [u64], used: usize, text: &[u8]) -> Names
-    requires { (table.now ≡ command_table) × (used ≤ most_names) × (length path.old ≡ most_names) }
+fn read_names(table: &Table, path: &mut [u64], used: usize, text: &[u8]) -> Names
+    requires { (used ≤ most_names) × (length path.old ≡ most_names) }
     ensures { HeaderRead used text.now path.old result path.new }
 {
     let lead = text::byte_at(text, 0);
@@ -109,8 +109,7 @@ fn read_names(table: &[u8], path: &mut [u64], used: usize, text: &[u8]) -> Names
 }
 
 // Finds the place of a header's names: their row, on the channel that their suffix names.
-fn place_of(table: &[u8], names: &[u64], star: bool, asked: bool) -> usize
-    requires { table.now ≡ command_table }
+fn place_of(table: &Table, names: &[u64], star: bool, asked: bool) -> usize
     ensures { result ≡ place_of (row_of_keys star names.now asked) (class_in names.now) }
 {
     let row = rows::find(table, names, star, asked);
@@ -119,8 +118,8 @@ fn place_of(table: &[u8], names: &[u64], star: bool, asked: bool) -> usize
 
 // Finds the place of the header that a text starts with, and the path that it leaves. A common command is added to the path too,
 // and the search begins with it.
-pub(crate) fn look_up(table: &[u8], path: &mut [u64], used: usize, text: &[u8]) -> Looked
-    requires { (table.now ≡ command_table) × (used < most_names) × (length path.old ≡ most_names) }
+pub(crate) fn look_up(table: &Table, path: &mut [u64], used: usize, text: &[u8]) -> Looked
+    requires { (used < most_names) × (length path.old ≡ most_names) }
     ensures { (names : List Text) → Holds names path.old used → LookedUp names text.now result path.new }
 {
     let star = text::byte_at(text, 0) == b'*';

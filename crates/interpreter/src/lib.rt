@@ -11,7 +11,6 @@ mod deed;
 mod flow;
 mod header;
 mod line;
-mod memory;
 mod name;
 mod parameter;
 mod perform;

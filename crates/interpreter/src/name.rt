@@ -5,10 +5,9 @@
 // none: its twelve lowest places are all taken.
 ghost use Rattle.std.specs.Prelude.{◌≡◌, ◌<◌};
 ghost use Rattle.registers.specs.Text.{word_byte};
-ghost use Rattle.interpreter.specs.NameParts.{code_count, code_of, with_code, class_by, NameRead, RestRead, SuffixRead};
-ghost use Rattle.interpreter.specs.TableParts.{command_table};
+ghost use Rattle.interpreter.specs.NameParts.{code_count, with_code, class_by, NameRead, RestRead, SuffixRead};
 
-use crate::table::FIRST_CODE;
+use crate::table::Table;
 use registers::text;
 
 // A name's number, 0 where none starts, and where it ends.
@@ -27,14 +26,6 @@ const KEPT: u64 = 36_028_797_018_963_968;
 // Where a suffix stands in a name's number: above 60 bits.
 pub(crate) const SUFFIX_PLACE: u64 = 1_152_921_504_606_846_976;
 
-// Gives a byte of a name as a number of five bits, the same for a letter in either case; 0 for a digit, and for a byte that no name has.
-fn code(table: &[u8], b: u8) -> u64
-    requires { table.now ≡ command_table }
-    ensures { result ≡ code_of b }
-{
-    table[FIRST_CODE + b as usize] as u64
-}
-
 // Adds a byte to a number. What doesn't fit into 60 bits is shifted out.
 fn with_code(key: u64, code: u64) -> u64
     requires { code < code_count }
@@ -44,14 +35,13 @@ fn with_code(key: u64, code: u64) -> u64
 }
 
 // Reads the rest of a name after its first letter, up to its first digit.
-fn read_rest(table: &[u8], text: &[u8], at: usize) -> Name
-    requires { table.now ≡ command_table }
+fn read_rest(table: &Table, text: &[u8], at: usize) -> Name
     ensures { RestRead text.now at result }
 {
     let mut key: u64 = 0;
     let mut i = at;
     while i < text.len() {
-        let c = code(table, text[i]);
+        let c = table.code(text[i]);
         if c == 0 {
             return Name { key, end: i };
         }
@@ -112,8 +102,7 @@ fn read_suffix(text: &[u8], at: usize) -> Name
 }
 
 // Reads the name that starts at a place. Its first letter comes last into the number, and so stands lowest.
-pub(crate) fn read(table: &[u8], text: &[u8], at: usize) -> Name
-    requires { table.now ≡ command_table }
+pub(crate) fn read(table: &Table, text: &[u8], at: usize) -> Name
     ensures { NameRead text.now at result }
 {
     let lead = text::byte_at(text, at);
@@ -121,7 +110,7 @@ pub(crate) fn read(table: &[u8], text: &[u8], at: usize) -> Name
         return Name { key: 0, end: at };
     }
     let rest = read_rest(table, text, at + 1);
-    let key = with_code(rest.key, code(table, lead));
+    let key = with_code(rest.key, table.code(lead));
     let end = rest.end;
     if !text::is_digit(text::byte_at(text, end)) {
         return Name { key, end };

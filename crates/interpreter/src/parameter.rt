@@ -2,12 +2,12 @@
 ghost use Rattle.std.specs.Prelude.{◌≡◌, true, not, ◌&&◌, ◌+◌, ◌≤◌, ◌<◌, length};
 ghost use Rattle.registers.specs.Rounding.{rounded, side_in};
 ghost use Rattle.registers.specs.Settings.{count, kind_of, quantity_of};
-ghost use Rattle.interpreter.specs.TableParts.{command_table};
 ghost use Rattle.interpreter.specs.Parameter.{Word, Figure, parameter, words_of, takes_numbers, least, greatest, value_given, side_given, deed_of, is_number, read_word, store_given, place_given};
 ghost use Rattle.interpreter.specs.WordsParts.{word_count, words_in};
 ghost use Rattle.interpreter.specs.ParameterParts.{meant_given, meant_deed, CountedIn, TakesOf, rounded_to, put_fit, register_to, saving_to, parts_of};
 
 use crate::deed::{Change, Deed, Heading, Query, Role, Saving};
+use crate::table::Table;
 use crate::words::{FIRST_WITH_NUMBERS, Words};
 use crate::{cuts, words};
 use registers::error::Error;
@@ -96,8 +96,8 @@ fn setting_takes(row: usize) -> Takes
 
 // Makes check 5 on a parameter that starts with a letter. A word with other bytes than letters, digits and
 // underscore is none of the table, so the search refuses it by the same number.
-fn find_word(table: &[u8], words: Words, text: &[u8]) -> Parameter
-    requires { (table.now ≡ command_table) × (words.first + words.count ≤ word_count) }
+fn find_word(table: &Table, words: Words, text: &[u8]) -> Parameter
+    requires { (words.first + words.count ≤ word_count) }
     ensures { meant_given result ≡ read_word (words_in words) text.now }
 {
     let mut n: usize = 0;
@@ -111,8 +111,8 @@ fn find_word(table: &[u8], words: Words, text: &[u8]) -> Parameter
 }
 
 // Makes checks 5 and 6. A digit, a sign or a point starts a number, and no query takes one.
-fn read_parameter(table: &[u8], takes: Takes, asked: bool, text: &[u8]) -> Parameter
-    requires { (table.now ≡ command_table) × (takes.words.first + takes.words.count ≤ word_count) }
+fn read_parameter(table: &Table, takes: Takes, asked: bool, text: &[u8]) -> Parameter
+    requires { (takes.words.first + takes.words.count ≤ word_count) }
     ensures { meant_given result ≡ parameter (words_in takes.words) (takes.numbers && not asked) takes.quantity text.now }
 {
     let b = text::byte_at(text, 0);
@@ -239,12 +239,12 @@ fn decide_figure(register: Register, d: Decimal) -> Decision
 
 // Makes checks 5 to 7 on a setting, where check 4 let the number of parameters pass: the text is one, or there is none.
 pub(crate) fn decide_setting(
-    table: &[u8],
+    table: &Table,
     settings: Settings,
     heading: Heading,
     text: &[u8],
 ) -> Decision
-    requires table_value { (table.now ≡ command_table) × (heading.place < count) }
+    requires place_lt_count { heading.place < count }
     requires asked_in_bounds { (least (Role.Setting heading.place) heading.asked ≤ length (parts_of text.now)) × (length (parts_of text.now) ≤ greatest (Role.Setting heading.place) heading.asked) }
     ensures { meant_deed result ≡ deed_of settings (Role.Setting heading.place) heading.asked (parts_of text.now) }
 {
@@ -270,12 +270,11 @@ pub(crate) fn decide_setting(
 
 // Makes checks 5 to 7 on a register, which takes no words.
 pub(crate) fn decide_register(
-    table: &[u8],
+    table: &Table,
     register: Register,
     asked: bool,
     text: &[u8],
 ) -> Decision
-    requires { table.now ≡ command_table }
     ensures { meant_deed result ≡ register_to register asked text.now }
 {
     if asked {
@@ -310,8 +309,7 @@ fn decide_number(saving: Saving, d: Decimal) -> Decision
 }
 
 // Makes checks 5 to 7 on *SAV and *RCL, which take a number and no words.
-pub(crate) fn decide_place(table: &[u8], saving: Saving, asked: bool, text: &[u8]) -> Decision
-    requires { table.now ≡ command_table }
+pub(crate) fn decide_place(table: &Table, saving: Saving, asked: bool, text: &[u8]) -> Decision
     ensures { meant_deed result ≡ saving_to saving asked text.now }
 {
     if asked {

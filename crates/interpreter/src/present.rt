@@ -37,12 +37,14 @@ impl Present {
     pub(crate) fn refuse(self, error: Error) -> Present
         ensures { RefusedWith error self result }
     {
-        let mut left = self.raise(error);
-        if error.number() == 430 {
-            left.answered = 0;
-            return left;
+        let raised = self.raise(error);
+        match error {
+            Error::QueryDeadlocked => Present {
+                answered: 0,
+                ..raised
+            },
+            _ => raised,
         }
-        left
     }
 
     // Empties the buffer for the answers of a new line: "a waiting answer is first discarded with -410".
@@ -52,8 +54,10 @@ impl Present {
         if self.answered == 0 {
             return self;
         }
-        let mut left = self.raise(Error::QueryInterrupted);
-        left.answered = 0;
-        left
+        let raised = self.raise(Error::QueryInterrupted);
+        Present {
+            answered: 0,
+            ..raised
+        }
     }
 }

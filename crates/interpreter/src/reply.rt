@@ -8,23 +8,22 @@ ghost use Rattle.registers.specs.Status.{registers_of, trouble_of};
 ghost use Rattle.interpreter.specs.Box.{most_answer};
 ghost use Rattle.interpreter.specs.Reply.{reply_to, inquiry_text};
 ghost use Rattle.interpreter.specs.PresentParts.{core_in};
-ghost use Rattle.interpreter.specs.ReplyParts.{ordinary, place_text, text_of, RepliesWith, ReplyTo, GivenTo, Answered};
+ghost use Rattle.interpreter.specs.ReplyParts.{ordinary, place_text, word_said, text_of, RepliesWith, ReplyTo, GivenTo, Answered};
 
 use crate::deed::{Deed, Inquiry, Query};
 use crate::present::Present;
-use crate::table::WORDS;
 use crate::words;
 use registers::error::Error;
 use registers::settings::{Settings, Values};
 use registers::status::Status;
 use registers::{answer, error, label};
 
-// What is answered, by how it is written: a word by its place in the table. The display's text goes beside it.
+// What is answered, by how it is written: a word by its place in the table, and none is written as nothing. The display's text goes
+// beside it.
 #[derive(Clone, Copy)]
 enum Reply {
-    Nothing,
     Identity,
-    Word(usize),
+    Word(Option<usize>),
     Tenths(i32),
     Whole(i32),
     Number(u16),
@@ -32,23 +31,17 @@ enum Reply {
     Label,
 }
 
-// What comes of answering a deed: the place where the line's answers end then, or a refusal.
-#[derive(Clone, Copy)]
-pub(crate) enum Told {
-    Until(usize),
-    Refused(Error),
-}
-
-// Says a setting's word, by its place in the setting's list; at a place that has none it says no word of the table.
-fn of_word(row: usize, value: i32) -> Reply
+// Finds a setting's word in the table, by its place in the setting's list.
+fn of_word(row: usize, value: i32) -> Option<usize>
     requires { row < count }
-    ensures { (label : Text) → RepliesWith label (place_text row value) result }
+    ensures { word_said result ≡ place_text row value }
 {
     let words = words::of_setting(row);
-    if (value < 0) | (words.count as i32 <= value) {
-        return Reply::Word(WORDS);
+    let place = usize::try_from(value).ok()?;
+    if words.count <= place {
+        return None;
     }
-    Reply::Word(words.first + value as usize)
+    Some(words.first + place)
 }
 
 // Says a setting's value as its kind is written: "0 or 1; plain integers; one decimal for step 0.1 ..; words in short form".
@@ -57,7 +50,7 @@ fn of_value(row: usize, value: i32) -> Reply
 {
     let values = Settings::values_of(row);
     match values {
-        Values::Word => of_word(row, value),
+        Values::Word => Reply::Word(of_word(row, value)),
         Values::Tenths => Reply::Tenths(value),
         Values::Whole | Values::Bool => Reply::Whole(value),
     }
@@ -86,19 +79,21 @@ fn of_inquiry(status: Status, answers: bool, inquiry: Inquiry) -> Reply
 {
     match inquiry {
         Inquiry::StandardEvents => Reply::Number(status.events),
-        Inquiry::StatusByte => Reply::Number(status.status_byte(answers) as u16),
+        Inquiry::StatusByte => Reply::Number(u16::from(status.status_byte(answers))),
         Inquiry::NextError => Reply::Error(status.oldest()),
     }
 }
 
 // Says the answer to a deed; one that asks nothing has none.
-fn of_deed(present: Present, deed: Deed) -> Reply
+fn of_deed(present: Present, deed: Deed) -> Option<Reply>
     ensures { ReplyTo deed present (not (eqb present.answered 0)) result }
 {
     match deed {
-        Deed::Query(query) => of_query(present, query),
-        Deed::Inquire(inquiry) => of_inquiry(present.status, present.answered != 0, inquiry),
-        _ => Reply::Nothing,
+        Deed::Query(query) => Some(of_query(present, query)),
+        Deed::Inquire(inquiry) => {
+            Some(of_inquiry(present.status, present.answered != 0, inquiry))
+        }
+        _ => None,
     }
 }
 
@@ -107,46 +102,47 @@ fn write(reply: Reply, text: &[u8], tail: &mut [u8]) -> usize
     ensures { Laid (text_of (held_in text.now) reply) tail.old result tail.new }
 {
     match reply {
-        Reply::Nothing => 0,
         Reply::Identity => answer::write_text(b"COURSE,BENCH24,0,4.00", tail),
-        Reply::Word(word) => words::write_short(word, tail),
+        Reply::Word(Some(word)) => words::write_short(word, tail),
+        Reply::Word(None) => 0,
         Reply::Tenths(value) => answer::write_tenths(value, tail),
         Reply::Whole(value) => answer::write_whole(value, tail),
-        Reply::Number(n) => answer::write_decimal(n as u32, tail),
+        Reply::Number(n) => answer::write_decimal(u32::from(n), tail),
         Reply::Error(n) => error::write_error(n, tail),
         Reply::Label => label::write_label(text, tail),
     }
 }
 
 // Check 9: writes a reply after the answers so far and their separator, which the first answer overwrites.
-// Gives where the answers end then; that is the buffer's end where they leave no room for the newline.
-fn append(reply: Reply, text: &[u8], out: &mut [u8], answered: usize) -> usize
+// Gives where the answers end then, if they leave room for the newline.
+fn append(
+    reply: Option<Reply>,
+    text: &[u8],
+    out: &mut [u8],
+    answered: usize,
+) -> Result<usize, Error>
     requires { (answered < most_answer) × (length out.old ≡ most_answer) }
     ensures { GivenTo (held_in text.now) reply answered out.old result out.new }
 {
-    if let Reply::Nothing = reply {
-        return answered;
-    }
+    let Some(reply) = reply else {
+        return Ok(answered);
+    };
     out[answered] = b';';
-    let start = answered + (answered != 0) as usize;
+    let start = answered + usize::from(answered != 0);
     let n = write(reply, text, &mut out[start..]);
     if out.len() - start <= n {
-        return out.len();
+        return Err(Error::QueryDeadlocked);
     }
-    start + n
+    Ok(start + n)
 }
 
-// Answers a deed after the line's earlier answers, if check 9 lets it.
-pub(crate) fn answer(present: Present, deed: Deed, out: &mut [u8]) -> Told
+// Answers a deed after the line's earlier answers, if check 9 lets it, and gives where the answers end then.
+pub(crate) fn answer(present: Present, deed: Deed, out: &mut [u8]) -> Result<usize, Error>
     requires { (present.answered < most_answer) × (length out.old ≡ most_answer) × (ordinary deed ≡ true) }
     ensures { (t : Text) → Answered deed t present out.old result out.new }
 {
     let reply = of_deed(present, deed);
     let settings = present.settings;
     let text = settings.text;
-    let end = append(reply, &text, out, present.answered);
-    if out.len() <= end {
-        return Told::Refused(Error::QueryDeadlocked);
-    }
-    Told::Until(end)
+    append(reply, &text, out, present.answered)
 }

@@ -1,53 +1,17 @@
 // Check 3: the row that spells the names of a header.
-ghost use Rattle.std.specs.Prelude.{◌≡◌, ◌+◌, ◌≤◌, ◌<◌, length};
+ghost use Rattle.std.specs.Prelude.{◌≡◌, ◌≤◌, ◌<◌, length};
 ghost use Rattle.interpreter.specs.Header.{numbered};
-ghost use Rattle.interpreter.specs.DeedParts.{row_count};
-ghost use Rattle.interpreter.specs.TableParts.{row_size, node_count, command_table, node_at, mark_of, start_of};
-ghost use Rattle.interpreter.specs.RowsParts.{row_cell, PairRead, QuadRead, key_cell, shown_key, key_matches, class_in, word_in, node_of, left_out, Walked, form_bit, row_of_keys, Marked};
+ghost use Rattle.interpreter.specs.TableParts.{node_count, node_at};
+ghost use Rattle.interpreter.specs.RowsParts.{shown_key, key_matches, class_in, word_in, node_of, left_out, Walked, form_bit, row_of_keys, Marked};
 
 use crate::name::{CODES, SUFFIX_PLACE};
-use crate::table::{
-    FIRST_KEY, FIRST_ROW, FIRST_START, KEYS_SIZE, MARKS, NUMBERED, OPTIONAL, ROW_SIZE, ROWS,
-};
+use crate::table::{MARKS, NUMBERED, OPTIONAL, ROWS, Table};
 
 // Where a walk over a row's nodes goes on.
 #[derive(Clone, Copy)]
 enum Walk {
     To(usize),
     Missed,
-}
-
-// Reads a byte of a row in the table: its forms, how many nodes it has, then the nodes.
-fn row_cell(table: &[u8], row: usize, i: usize) -> u8
-    requires { (table.now ≡ command_table) × (row < row_count) × (i < row_size) }
-    ensures { result ≡ row_cell row i }
-{
-    table[FIRST_ROW + row * ROW_SIZE + i]
-}
-
-// Reads two bytes as a number, low byte first.
-fn pair(bytes: &[u8], at: usize) -> u64
-    requires { at + 2 ≤ length bytes.now }
-    ensures { PairRead bytes.now at result }
-{
-    bytes[at] as u64 + bytes[at + 1] as u64 * 256
-}
-
-// Reads four bytes in the same way.
-fn quad(bytes: &[u8], at: usize) -> u64
-    requires { at + 4 ≤ length bytes.now }
-    ensures { QuadRead bytes.now at result }
-{
-    pair(bytes, at) + pair(bytes, at + 2) * 65536
-}
-
-// Reads the number of a node's word: i is 0 for its short form, 1 for its long one.
-fn key_cell(table: &[u8], word: usize, i: usize) -> u64
-    requires { (table.now ≡ command_table) × (word < node_count) × (i < 2) }
-    ensures { result ≡ key_cell word i }
-{
-    let at = FIRST_KEY + word * KEYS_SIZE + i * 8;
-    quad(table, at) + quad(table, at + 4) * 4294967296
 }
 
 // What a name's number has at least where its suffix is no number.
@@ -65,12 +29,12 @@ fn shown(key: u64, word: usize) -> u64
 }
 
 // Tells whether a name's number is that of a word's short or long form.
-fn spells(table: &[u8], key: u64, word: usize) -> bool
-    requires { (table.now ≡ command_table) × (word < node_count) }
+fn spells(table: &Table, key: u64, word: usize) -> bool
+    requires { word < node_count }
     ensures { result ≡ key_matches (node_at word) key }
 {
     let compared = shown(key, word);
-    (compared == key_cell(table, word, 0)) | (compared == key_cell(table, word, 1))
+    (compared == table.key_cell(word, 0)) | (compared == table.key_cell(word, 1))
 }
 
 // Goes past a node that no name spells, if it is optional; otherwise the row is missed.
@@ -84,8 +48,8 @@ fn leave_out(node: u8, at: usize) -> Walk
 }
 
 // Takes a row's node at a name, or leaves it out if it is optional.
-fn take_node(table: &[u8], names: &[u64], at: usize, node: u8) -> Walk
-    requires { (table.now ≡ command_table) × (at ≤ length names.now) × (word_in node < node_count) }
+fn take_node(table: &Table, names: &[u64], at: usize, node: u8) -> Walk
+    requires { (at ≤ length names.now) × (word_in node < node_count) }
     ensures { Walked (node_of node) names.now at result }
 {
     if names.len() <= at {
@@ -121,33 +85,24 @@ fn mark(names: &[u64], star: bool) -> usize
     letters
 }
 
-// Looks up the first row that can have names with these first letters, or ROWS: the second lookup of 02 (#113).
-fn start_row(table: &[u8], names: &[u64], star: bool) -> usize
-    requires { table.now ≡ command_table }
-    ensures { result ≡ start_of (mark_of star names.now) }
-{
-    table[FIRST_START + mark(names, star)] as usize
-}
-
 // Finds the first row that spells the names in the form asked for, or ROWS. No row before the one where it starts does. At the first
 // node that is missed the inner loop is left and the next row is tried.
-pub(crate) fn find(table: &[u8], names: &[u64], star: bool, asked: bool) -> usize
-    requires { table.now ≡ command_table }
+pub(crate) fn find(table: &Table, names: &[u64], star: bool, asked: bool) -> usize
     ensures { result ≡ row_of_keys star names.now asked }
 {
     let bit = form_bit(star, asked);
-    let mut next = start_row(table, names, star);
+    let mut next = table.start_row(mark(names, star));
     'rows: while next < ROWS {
         let row = next;
         next += 1;
-        if row_cell(table, row, 0) & bit == 0 {
+        if table.row_cell(row, 0) & bit == 0 {
             continue 'rows;
         }
-        let n = row_cell(table, row, 1) as usize;
+        let n = table.row_cell(row, 1) as usize;
         let mut at: usize = 0;
         let mut passed: usize = 0;
         while passed < n {
-            let walk = take_node(table, names, at, row_cell(table, row, passed + 2));
+            let walk = take_node(table, names, at, table.row_cell(row, passed + 2));
             match walk {
                 Walk::To(place) => at = place,
                 Walk::Missed => continue 'rows,

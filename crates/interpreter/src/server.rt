@@ -1,15 +1,16 @@
 // A chunk of input served for a program: fed line by line, each answer taken after the one before.
-ghost use Rattle.std.specs.Prelude.{◌≡◌, length};
-ghost use Rattle.interpreter.specs.Box.{store_size, memory};
+ghost use Rattle.std.specs.Prelude.{◌≡◌};
+ghost use Rattle.interpreter.specs.Box.{memory};
 ghost use Rattle.interpreter.specs.State.{number_of};
 ghost use Rattle.interpreter.specs.FlowParts.{FlowFits};
 ghost use Rattle.interpreter.specs.Server.{Serves};
 ghost use Rattle.interpreter.specs.ServerParts.{FlowServed};
 
+use crate::flow;
 use crate::flow::Flow;
-use crate::sizes::{ANSWER, LINE};
+use crate::sizes::{ANSWER, LINE, STORE};
 use crate::state::{Refusal, State};
-use crate::{flow, memory, table};
+use crate::table::Table;
 
 // How far a chunk was served: bytes read of the input, and written of the output.
 #[derive(Clone, Copy)]
@@ -33,19 +34,21 @@ fn lines(
     mut flow: Flow,
     line: &mut [u8; LINE],
     out: &mut [u8; ANSWER],
-    store: &mut [u8],
+    store: &mut [u8; STORE],
     input: &[u8],
     output: &mut [u8],
 ) -> Progress
-    requires { FlowFits flow × (flow.read ≡ 0) × (length store.old ≡ store_size) }
+    requires { FlowFits flow × (flow.read ≡ 0) }
     ensures { FlowServed flow line.old out.old (memory store.old) input.now output.old result line.new out.new (memory store.new) output.new }
 {
-    let table = table::commands();
+    let table = Table::commands();
     let mut written: usize = 0;
     while (flow.read < input.len()) & (ANSWER <= output.len() - written) {
         flow = flow::feed_line(&table, flow, line, out, store, input);
         let waiting = flow.present.answered;
-        written = memory::paste(out, waiting, output, written);
+        let end = written + waiting;
+        output[written..end].copy_from_slice(&out[..waiting]);
+        written = end;
         flow.present.answered = 0;
     }
     Progress { flow, written }
@@ -67,6 +70,7 @@ pub fn serve(mut state: State, store: &mut [u8], input: &[u8], output: &mut [u8]
             };
         }
     };
+    let store = store.as_mut_array::<STORE>().unwrap();
     let done = lines(
         begun,
         &mut state.line,

@@ -7,7 +7,7 @@ ghost use Rattle.interpreter.specs.StateParts.{Admitted, state_of};
 
 use crate::flow::Flow;
 use crate::present::Present;
-use crate::{flow, memory, sizes};
+use crate::{flow, sizes};
 use registers::error::Error;
 use registers::group::Group;
 use registers::settings::Settings;
@@ -135,6 +135,7 @@ impl State {
         ensures { Happens self.old (memory store.old) (received bytes.now) (result_of (number_of result) (value_of result) []) self.new (memory store.new) }
     {
         let begun = self.admit(store)?;
+        let store = store.as_mut_array::<STORE>().unwrap();
         let flow = flow::feed(begun, &mut self.line, &mut self.answer, store, bytes);
         self.keep(flow);
         Ok(flow.count)
@@ -152,7 +153,7 @@ impl State {
         if buffer.len() < waiting {
             return Err(Refusal::BufferTooShort { needed: waiting });
         }
-        memory::paste(&self.answer, waiting, buffer, 0);
+        buffer[..waiting].copy_from_slice(&self.answer[..waiting]);
         self.waiting = 0;
         Ok(waiting)
     }

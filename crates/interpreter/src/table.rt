@@ -1,7 +1,11 @@
 // The table that the header search and the parameter reader look into: made once where a chunk of bytes is served, and lent
-// down. It is tied to 01's rows and words by its statement.
-ghost use Rattle.std.specs.Prelude.{◌≡◌};
-ghost use Rattle.interpreter.specs.TableParts.{command_table};
+// down. It is tied to 01's rows and words by its invariant.
+ghost use Rattle.std.specs.Prelude.{◌≡◌, ◌+◌, ◌≤◌, ◌<◌, length};
+ghost use Rattle.interpreter.specs.NameParts.{code_of};
+ghost use Rattle.interpreter.specs.WordsParts.{word_count, word_size, word_cell};
+ghost use Rattle.interpreter.specs.DeedParts.{row_count};
+ghost use Rattle.interpreter.specs.TableParts.{command_table, row_size, node_count, mark_count, start_of};
+ghost use Rattle.interpreter.specs.RowsParts.{row_cell, key_cell, PairRead, QuadRead};
 
 // How many words the parameters have, how many rows there are, and how many words the rows' nodes have.
 pub(crate) const WORDS: usize = 10;
@@ -14,11 +18,11 @@ const NODES: usize = 48;
 pub(crate) const NUMBERED: usize = 4;
 
 // How many bytes a word of a parameter has in the table, a row, and the two numbers of a node's word.
-pub(crate) const WORD_SIZE: usize = 16;
+const WORD_SIZE: usize = 16;
 
-pub(crate) const ROW_SIZE: usize = 8;
+const ROW_SIZE: usize = 8;
 
-pub(crate) const KEYS_SIZE: usize = 16;
+const KEYS_SIZE: usize = 16;
 
 // How many bytes there are, each of which has a code, and how many marks of first letters.
 const BYTES: usize = 256;
@@ -30,13 +34,13 @@ pub(crate) const OPTIONAL: u8 = 128;
 
 // Where the rows begin, after the parameters' words; then the numbers of the nodes' words, the codes of all bytes, and the
 // rows where a search starts.
-pub(crate) const FIRST_ROW: usize = WORDS * WORD_SIZE;
+const FIRST_ROW: usize = WORDS * WORD_SIZE;
 
-pub(crate) const FIRST_KEY: usize = FIRST_ROW + ROWS * ROW_SIZE;
+const FIRST_KEY: usize = FIRST_ROW + ROWS * ROW_SIZE;
 
-pub(crate) const FIRST_CODE: usize = FIRST_KEY + NODES * KEYS_SIZE;
+const FIRST_CODE: usize = FIRST_KEY + NODES * KEYS_SIZE;
 
-pub(crate) const FIRST_START: usize = FIRST_CODE + BYTES;
+const FIRST_START: usize = FIRST_CODE + BYTES;
 
 const SIZE: usize = FIRST_START + MARKS;
 
@@ -112,145 +116,214 @@ const SIZE: usize = FIRST_START + MARKS;
 // as bits, the number of its nodes, and each node's word, with 128 more where the node may be left out. 16 bytes to a word of a
 // node: its short and its long form as numbers, low byte first. Then the code that each byte has in a name, and for each mark of
 // first letters the first row that can have it.
-pub(crate) fn commands() -> [u8; SIZE]
-    ensures { result ≡ command_table }
+//
+// Bytes stay packed: `command_table` computes all of them from 01's rows, and tests/print-table prints them by it.
+#[derive(Drop)]
+pub(crate) struct Table {
+    bytes: [u8; SIZE],
+    ghost has_01s_rows: { bytes ≡ command_table },
+}
+
+// Reads two bytes as a number, low byte first.
+fn pair(bytes: &[u8], at: usize) -> u64
+    requires { at + 2 ≤ length bytes.now }
+    ensures { PairRead bytes.now at result }
 {
-    *b"\
-        \x04\x07CURRENT\0\0\0\0\0\0\0\
-        \x04\x08SCURRENT\0\0\0\0\0\0\
-        \x04\x07VOLTAGE\0\0\0\0\0\0\0\
-        \x04\x04R12V\0\0\0\0\0\0\0\0\0\0\
-        \x04\x04R24V\0\0\0\0\0\0\0\0\0\0\
-        \x04\x0aCONTINUOUS\0\0\0\0\
-        \x03\x03OFF\0\0\0\0\0\0\0\0\0\0\0\
-        \x02\x02ON\0\0\0\0\0\0\0\0\0\0\0\0\
-        \x03\x07MINIMUM\0\0\0\0\0\0\0\
-        \x03\x07MAXIMUM\0\0\0\0\0\0\0\
-        \x03\x02\0\x84\0\0\0\0\
-        \x03\x02\0\x05\0\0\0\0\
-        \x03\x02\0\x06\0\0\0\0\
-        \x03\x03\0\x07\x08\0\0\0\
-        \x03\x05\x89\x01\x8a\x8b\x8c\0\
-        \x03\x03\x89\x01\x0d\0\0\0\
-        \x03\x02\x89\x02\0\0\0\0\
-        \x03\x05\x89\x03\x0e\x0f\x8c\0\
-        \x03\x05\x89\x03\x0e\x0f\x08\0\
-        \x03\x05\x89\x03\x0e\x10\x08\0\
-        \x03\x05\x89\x03\x0e\x0f\x11\0\
-        \x03\x05\x89\x03\x0e\x10\x11\0\
-        \x03\x05\x89\x03\x0e\x10\x12\0\
-        \x03\x05\x89\x03\x0e\x10\x13\0\
-        \x03\x02\x14\x15\0\0\0\0\
-        \x03\x02\x16\x17\0\0\0\0\
-        \x03\x02\x16\x2a\0\0\0\0\
-        \x08\x01\x18\0\0\0\0\0\
-        \x08\x01\x19\0\0\0\0\0\
-        \x08\x01\x1a\0\0\0\0\0\
-        \x04\x01\x1b\0\0\0\0\0\
-        \x04\x01\x1a\0\0\0\0\0\
-        \x04\x01\x1c\0\0\0\0\0\
-        \x04\x01\x1d\0\0\0\0\0\
-        \x0c\x01\x1e\0\0\0\0\0\
-        \x0c\x01\x1f\0\0\0\0\0\
-        \x08\x01\x20\0\0\0\0\0\
-        \x08\x01\x21\0\0\0\0\0\
-        \x02\x02\x16\x29\0\0\0\0\
-        \x04\x01\x2d\0\0\0\0\0\
-        \x04\x01\x2e\0\0\0\0\0\
-        \x03\x02\x14\x2f\0\0\0\0\
-        \x02\x03\x22\x23\x24\0\0\0\
-        \x02\x03\x22\x23\xa5\0\0\0\
-        \x03\x03\x22\x23\x26\0\0\0\
-        \x03\x03\x22\x23\x27\0\0\0\
-        \x03\x03\x22\x23\x28\0\0\0\
-        \x02\x03\x22\x2b\x24\0\0\0\
-        \x02\x03\x22\x2b\xa5\0\0\0\
-        \x03\x03\x22\x2b\x26\0\0\0\
-        \x03\x03\x22\x2b\x27\0\0\0\
-        \x03\x03\x22\x2b\x28\0\0\0\
-        \x02\x03\x22\x2c\x24\0\0\0\
-        \x02\x03\x22\x2c\xa5\0\0\0\
-        \x03\x03\x22\x2c\x26\0\0\0\
-        \x03\x03\x22\x2c\x27\0\0\0\
-        \x03\x03\x22\x2c\x28\0\0\0\
-        \x0f\xd2\x0a\0\0\0\0\0\x8f\x56\x48\x2b\0\0\0\0\
-        \x96\xb2\x07\0\0\0\0\0\xb6\x9c\x40\xd9\x03\0\0\0\
-        \x26\x16\x09\0\0\0\0\0\x26\x0f\x57\x6a\x2c\x12\0\0\
-        \x43\xca\x0a\0\0\0\0\0\x83\xba\x22\x65\x05\0\0\0\
-        \x93\x06\x0a\0\0\0\0\0\xb3\xd0\x40\x01\0\0\0\0\
-        \xd0\x3d\0\0\0\0\0\0\xd0\x3d\0\0\0\0\0\0\
-        \x92\x15\0\0\0\0\0\0\x32\x07\x56\0\0\0\0\0\
-        \xcd\x3d\0\0\0\0\0\0\x4d\x3e\x9a\xdc\x03\0\0\0\
-        \xad\x90\x07\0\0\0\0\0\xad\x90\x07\0\0\0\0\0\
-        \x53\xd6\x07\0\0\0\0\0\xb3\x0c\x59\x1f\0\0\0\0\
-        \xcc\x16\0\0\0\0\0\0\x8c\x15\x5b\0\0\0\0\0\
-        \xa9\x35\0\0\0\0\0\0\xa9\xd0\x90\x48\x69\x0d\0\0\
-        \x81\xc1\x06\0\0\0\0\0\xa1\x90\x4a\x13\x83\x0d\0\0\
-        \xf2\xb8\0\0\0\0\0\0\xb2\x1c\x17\0\0\0\0\0\
-        \xac\x25\0\0\0\0\0\0\x8c\xa6\x96\0\0\0\0\0\
-        \x72\x36\0\0\0\0\0\0\x72\x36\0\0\0\0\0\0\
-        \x70\x85\x02\0\0\0\0\0\x70\x85\x02\0\0\0\0\0\
-        \xb4\xb4\x04\0\0\0\0\0\xb4\xb4\x04\0\0\0\0\0\
-        \x08\x9d\x04\0\0\0\0\0\x08\x9d\x04\0\0\0\0\0\
-        \xec\x3e\0\0\0\0\0\0\xec\x3e\0\0\0\0\0\0\
-        \x04\xce\x04\0\0\0\0\0\x24\x07\x06\x67\x02\0\0\0\
-        \xe2\x24\x09\0\0\0\0\0\x62\xce\xe2\x28\x3a\x49\x02\0\
-        \x93\xce\x0c\0\0\0\0\0\xb3\x15\x3a\x33\0\0\0\0\
-        \x6b\x3c\x06\0\0\0\0\0\x6b\x8d\xc7\0\0\0\0\0\
-        \xc9\x11\0\0\0\0\0\0\xc9\x11\0\0\0\0\0\0\
-        \x94\x4e\0\0\0\0\0\0\x94\x4e\0\0\0\0\0\0\
-        \x6f\x40\0\0\0\0\0\0\x6f\x40\0\0\0\0\0\0\
-        \x37\x05\0\0\0\0\0\0\x37\x05\0\0\0\0\0\0\
-        \x92\x4e\0\0\0\0\0\0\x92\x4e\0\0\0\0\0\0\
-        \x63\x32\0\0\0\0\0\0\x63\x32\0\0\0\0\0\0\
-        \xa5\x4c\0\0\0\0\0\0\xa5\x4c\0\0\0\0\0\0\
-        \xb3\x48\0\0\0\0\0\0\xb3\x48\0\0\0\0\0\0\
-        \x45\x4e\0\0\0\0\0\0\x45\x4e\0\0\0\0\0\0\
-        \x53\x50\0\0\0\0\0\0\x53\x50\0\0\0\0\0\0\
-        \x93\x06\x0a\0\0\0\0\0\x73\x56\x1a\x28\0\0\0\0\
-        \x4f\x16\x08\0\0\0\0\0\xcf\xbd\x44\x83\x2c\x10\0\0\
-        \x83\xb8\x07\0\0\0\0\0\xc3\xbd\x44\x13\x71\x0f\0\0\
-        \xc5\x15\x0b\0\0\0\0\0\x85\xba\x62\x01\0\0\0\0\
-        \x45\x04\x07\0\0\0\0\0\xa5\x30\x11\x1c\0\0\0\0\
-        \x4e\x52\0\0\0\0\0\0\xce\xbd\x44\xd3\x74\x41\x52\0\
-        \x50\x52\0\0\0\0\0\0\xd0\xbd\x44\xd3\x74\x41\x52\0\
-        \x45\x4a\0\0\0\0\0\0\x45\x3e\x29\x01\0\0\0\0\
-        \xa5\x05\x0c\0\0\0\0\0\xa5\x05\x0c\0\0\0\0\0\
-        \x6c\x8d\x07\0\0\0\0\0\x6c\x8d\x07\0\0\0\0\0\
-        \xd7\xc9\0\0\0\0\0\0\xf7\xb8\xe4\x64\0\0\0\0\
-        \xd3\x06\0\0\0\0\0\0\xd3\x06\0\0\0\0\0\0\
-        \x92\x0d\0\0\0\0\0\0\x92\x0d\0\0\0\0\0\0\
-        \x94\xe2\x02\0\0\0\0\0\x94\xe2\x02\0\0\0\0\0\
-        \0\0\0\0\0\0\0\0\0\0\0\0\0\0\0\0\
-        \0\0\0\0\0\0\0\0\0\0\0\0\0\0\0\0\
-        \0\0\0\0\0\0\0\0\0\0\0\0\0\0\0\0\
-        \0\0\0\0\0\0\0\0\0\0\0\0\0\0\0\0\
-        \0\x01\x02\x03\x04\x05\x06\x07\x08\x09\x0a\x0b\x0c\x0d\x0e\x0f\
-        \x10\x11\x12\x13\x14\x15\x16\x17\x18\x19\x1a\0\0\0\0\x1f\
-        \0\x01\x02\x03\x04\x05\x06\x07\x08\x09\x0a\x0b\x0c\x0d\x0e\x0f\
-        \x10\x11\x12\x13\x14\x15\x16\x17\x18\x19\x1a\0\0\0\0\0\
-        \0\0\0\0\0\0\0\0\0\0\0\0\0\0\0\0\
-        \0\0\0\0\0\0\0\0\0\0\0\0\0\0\0\0\
-        \0\0\0\0\0\0\0\0\0\0\0\0\0\0\0\0\
-        \0\0\0\0\0\0\0\0\0\0\0\0\0\0\0\0\
-        \0\0\0\0\0\0\0\0\0\0\0\0\0\0\0\0\
-        \0\0\0\0\0\0\0\0\0\0\0\0\0\0\0\0\
-        \0\0\0\0\0\0\0\0\0\0\0\0\0\0\0\0\
-        \0\0\0\0\0\0\0\0\0\0\0\0\0\0\0\0\
-        \x2f\x2f\x2f\x2f\x2f\x03\x06\x2f\x2f\x2f\x2f\x2f\x2f\x2f\x2f\0\
-        \x2f\x04\x2f\x2f\x2f\x2f\x04\x2f\x2f\x04\x2f\x17\x04\x18\x2f\x2f\
-        \x2f\x11\x05\x2f\x2f\x2f\x2f\x13\x2f\x2f\x16\x19\x12\x21\x2f\x14\
-        \x2f\x2f\x2f\x2f\x2f\x2f\x23\x2f\x24\x2f\x2f\x2f\x2f\x2f\x2f\x2f\
-        \x2f\x2f\x2f\x2f\x2f\x2f\x2f\x2f\x2f\x2f\x2f\x2f\x2f\x2f\x2f\x2f\
-        \x2f\x2f\x2f\x2f\x2f\x2f\x2f\x2f\x2f\x04\x2f\x2f\x2f\x2f\x2f\x2f\
-        \x2f\x2f\x0e\x2f\x2f\x2f\x2f\x2f\x2f\x2f\x2f\x2f\x2f\x2f\x2f\x2f\
-        \x2f\x2f\x2f\x2f\x1f\x2f\x2f\x2f\x01\x2f\x02\0\x2f\x2f\x2f\x2f\
-        \x2f\x2f\x2f\x2f\x2f\x2f\x2f\x2f\x0c\x2f\x2f\x2f\x0d\x09\x2f\x2f\
-        \x2f\x2f\x2f\x2f\x0b\x2f\x2f\x2f\x2f\x2f\x2f\x2f\x2f\x2f\x2f\x2f\
-        \x2f\x04\x2f\x2f\x2f\x2f\x2f\x2f\x2f\x04\x2f\x2f\x2f\x2f\x2f\x2f\
-        \x2f\x07\x2f\x2f\x2f\x2f\x2f\x2f\x2f\x2f\x2f\x2f\x2f\x08\x2f\x2f\
-        \x2f\x2f\x2f\x2f\x0a\x2f\x2f\x2f\x2f\x2f\x2f\x2f\x2f\x10\x06\x2f\
-        \x2f\x04\x2f\x0f\x26\x2f\x2f\x21\x2f\x04\x2f\x2f\x04\x2f\x04\x2b\
-        \x2f\x2f\x05\x25\x2f\x26\x2f\x2f\x2f\x2f\x2f\x2a\x2f\x2b\x28\x2f\
-        \x29\x2f\x07\x2f\x2f\x2f\x2d\x2f\x2e\x2f\x2f\x2f\x2f\x2f\x2f\x2f"
+    bytes[at] as u64 + bytes[at + 1] as u64 * 256
+}
+
+// Reads four bytes in the same way.
+fn quad(bytes: &[u8], at: usize) -> u64
+    requires { at + 4 ≤ length bytes.now }
+    ensures { QuadRead bytes.now at result }
+{
+    pair(bytes, at) + pair(bytes, at + 2) * 65536
+}
+
+impl Table {
+    // Reads a byte of a parameter's word: the lengths of its two forms, then its letters.
+    pub(crate) fn word_cell(&self, word: usize, i: usize) -> u8
+        requires { (word < word_count) × (i < word_size) }
+        ensures { result ≡ word_cell word i }
+    {
+        self.bytes[word * WORD_SIZE + i]
+    }
+
+    // Reads a byte of a row: its forms, how many nodes it has, then the nodes.
+    pub(crate) fn row_cell(&self, row: usize, i: usize) -> u8
+        requires { (row < row_count) × (i < row_size) }
+        ensures { result ≡ row_cell row i }
+    {
+        self.bytes[FIRST_ROW + row * ROW_SIZE + i]
+    }
+
+    // Reads the number of a node's word: i is 0 for its short form, 1 for its long one.
+    pub(crate) fn key_cell(&self, word: usize, i: usize) -> u64
+        requires { (word < node_count) × (i < 2) }
+        ensures { result ≡ key_cell word i }
+    {
+        let at = FIRST_KEY + word * KEYS_SIZE + i * 8;
+        let bytes: &[u8] = &self.bytes;
+        quad(bytes, at) + quad(bytes, at + 4) * 4294967296
+    }
+
+    // Gives a byte of a name as a number of five bits, the same for a letter in either case; 0 for a digit, and for a byte that
+    // no name has.
+    pub(crate) fn code(&self, b: u8) -> u64
+        ensures { result ≡ code_of b }
+    {
+        self.bytes[FIRST_CODE + b as usize] as u64
+    }
+
+    // Looks up the first row that can have names with a mark, or ROWS: the second lookup of 02 (#113).
+    pub(crate) fn start_row(&self, mark: usize) -> usize
+        requires { mark < mark_count }
+        ensures { result ≡ start_of mark }
+    {
+        self.bytes[FIRST_START + mark] as usize
+    }
+
+    // Makes the table.
+    pub(crate) fn commands() -> Table {
+        Table {
+            bytes: *b"\
+            \x04\x07CURRENT\0\0\0\0\0\0\0\
+            \x04\x08SCURRENT\0\0\0\0\0\0\
+            \x04\x07VOLTAGE\0\0\0\0\0\0\0\
+            \x04\x04R12V\0\0\0\0\0\0\0\0\0\0\
+            \x04\x04R24V\0\0\0\0\0\0\0\0\0\0\
+            \x04\x0aCONTINUOUS\0\0\0\0\
+            \x03\x03OFF\0\0\0\0\0\0\0\0\0\0\0\
+            \x02\x02ON\0\0\0\0\0\0\0\0\0\0\0\0\
+            \x03\x07MINIMUM\0\0\0\0\0\0\0\
+            \x03\x07MAXIMUM\0\0\0\0\0\0\0\
+            \x03\x02\0\x84\0\0\0\0\
+            \x03\x02\0\x05\0\0\0\0\
+            \x03\x02\0\x06\0\0\0\0\
+            \x03\x03\0\x07\x08\0\0\0\
+            \x03\x05\x89\x01\x8a\x8b\x8c\0\
+            \x03\x03\x89\x01\x0d\0\0\0\
+            \x03\x02\x89\x02\0\0\0\0\
+            \x03\x05\x89\x03\x0e\x0f\x8c\0\
+            \x03\x05\x89\x03\x0e\x0f\x08\0\
+            \x03\x05\x89\x03\x0e\x10\x08\0\
+            \x03\x05\x89\x03\x0e\x0f\x11\0\
+            \x03\x05\x89\x03\x0e\x10\x11\0\
+            \x03\x05\x89\x03\x0e\x10\x12\0\
+            \x03\x05\x89\x03\x0e\x10\x13\0\
+            \x03\x02\x14\x15\0\0\0\0\
+            \x03\x02\x16\x17\0\0\0\0\
+            \x03\x02\x16\x2a\0\0\0\0\
+            \x08\x01\x18\0\0\0\0\0\
+            \x08\x01\x19\0\0\0\0\0\
+            \x08\x01\x1a\0\0\0\0\0\
+            \x04\x01\x1b\0\0\0\0\0\
+            \x04\x01\x1a\0\0\0\0\0\
+            \x04\x01\x1c\0\0\0\0\0\
+            \x04\x01\x1d\0\0\0\0\0\
+            \x0c\x01\x1e\0\0\0\0\0\
+            \x0c\x01\x1f\0\0\0\0\0\
+            \x08\x01\x20\0\0\0\0\0\
+            \x08\x01\x21\0\0\0\0\0\
+            \x02\x02\x16\x29\0\0\0\0\
+            \x04\x01\x2d\0\0\0\0\0\
+            \x04\x01\x2e\0\0\0\0\0\
+            \x03\x02\x14\x2f\0\0\0\0\
+            \x02\x03\x22\x23\x24\0\0\0\
+            \x02\x03\x22\x23\xa5\0\0\0\
+            \x03\x03\x22\x23\x26\0\0\0\
+            \x03\x03\x22\x23\x27\0\0\0\
+            \x03\x03\x22\x23\x28\0\0\0\
+            \x02\x03\x22\x2b\x24\0\0\0\
+            \x02\x03\x22\x2b\xa5\0\0\0\
+            \x03\x03\x22\x2b\x26\0\0\0\
+            \x03\x03\x22\x2b\x27\0\0\0\
+            \x03\x03\x22\x2b\x28\0\0\0\
+            \x02\x03\x22\x2c\x24\0\0\0\
+            \x02\x03\x22\x2c\xa5\0\0\0\
+            \x03\x03\x22\x2c\x26\0\0\0\
+            \x03\x03\x22\x2c\x27\0\0\0\
+            \x03\x03\x22\x2c\x28\0\0\0\
+            \x0f\xd2\x0a\0\0\0\0\0\x8f\x56\x48\x2b\0\0\0\0\
+            \x96\xb2\x07\0\0\0\0\0\xb6\x9c\x40\xd9\x03\0\0\0\
+            \x26\x16\x09\0\0\0\0\0\x26\x0f\x57\x6a\x2c\x12\0\0\
+            \x43\xca\x0a\0\0\0\0\0\x83\xba\x22\x65\x05\0\0\0\
+            \x93\x06\x0a\0\0\0\0\0\xb3\xd0\x40\x01\0\0\0\0\
+            \xd0\x3d\0\0\0\0\0\0\xd0\x3d\0\0\0\0\0\0\
+            \x92\x15\0\0\0\0\0\0\x32\x07\x56\0\0\0\0\0\
+            \xcd\x3d\0\0\0\0\0\0\x4d\x3e\x9a\xdc\x03\0\0\0\
+            \xad\x90\x07\0\0\0\0\0\xad\x90\x07\0\0\0\0\0\
+            \x53\xd6\x07\0\0\0\0\0\xb3\x0c\x59\x1f\0\0\0\0\
+            \xcc\x16\0\0\0\0\0\0\x8c\x15\x5b\0\0\0\0\0\
+            \xa9\x35\0\0\0\0\0\0\xa9\xd0\x90\x48\x69\x0d\0\0\
+            \x81\xc1\x06\0\0\0\0\0\xa1\x90\x4a\x13\x83\x0d\0\0\
+            \xf2\xb8\0\0\0\0\0\0\xb2\x1c\x17\0\0\0\0\0\
+            \xac\x25\0\0\0\0\0\0\x8c\xa6\x96\0\0\0\0\0\
+            \x72\x36\0\0\0\0\0\0\x72\x36\0\0\0\0\0\0\
+            \x70\x85\x02\0\0\0\0\0\x70\x85\x02\0\0\0\0\0\
+            \xb4\xb4\x04\0\0\0\0\0\xb4\xb4\x04\0\0\0\0\0\
+            \x08\x9d\x04\0\0\0\0\0\x08\x9d\x04\0\0\0\0\0\
+            \xec\x3e\0\0\0\0\0\0\xec\x3e\0\0\0\0\0\0\
+            \x04\xce\x04\0\0\0\0\0\x24\x07\x06\x67\x02\0\0\0\
+            \xe2\x24\x09\0\0\0\0\0\x62\xce\xe2\x28\x3a\x49\x02\0\
+            \x93\xce\x0c\0\0\0\0\0\xb3\x15\x3a\x33\0\0\0\0\
+            \x6b\x3c\x06\0\0\0\0\0\x6b\x8d\xc7\0\0\0\0\0\
+            \xc9\x11\0\0\0\0\0\0\xc9\x11\0\0\0\0\0\0\
+            \x94\x4e\0\0\0\0\0\0\x94\x4e\0\0\0\0\0\0\
+            \x6f\x40\0\0\0\0\0\0\x6f\x40\0\0\0\0\0\0\
+            \x37\x05\0\0\0\0\0\0\x37\x05\0\0\0\0\0\0\
+            \x92\x4e\0\0\0\0\0\0\x92\x4e\0\0\0\0\0\0\
+            \x63\x32\0\0\0\0\0\0\x63\x32\0\0\0\0\0\0\
+            \xa5\x4c\0\0\0\0\0\0\xa5\x4c\0\0\0\0\0\0\
+            \xb3\x48\0\0\0\0\0\0\xb3\x48\0\0\0\0\0\0\
+            \x45\x4e\0\0\0\0\0\0\x45\x4e\0\0\0\0\0\0\
+            \x53\x50\0\0\0\0\0\0\x53\x50\0\0\0\0\0\0\
+            \x93\x06\x0a\0\0\0\0\0\x73\x56\x1a\x28\0\0\0\0\
+            \x4f\x16\x08\0\0\0\0\0\xcf\xbd\x44\x83\x2c\x10\0\0\
+            \x83\xb8\x07\0\0\0\0\0\xc3\xbd\x44\x13\x71\x0f\0\0\
+            \xc5\x15\x0b\0\0\0\0\0\x85\xba\x62\x01\0\0\0\0\
+            \x45\x04\x07\0\0\0\0\0\xa5\x30\x11\x1c\0\0\0\0\
+            \x4e\x52\0\0\0\0\0\0\xce\xbd\x44\xd3\x74\x41\x52\0\
+            \x50\x52\0\0\0\0\0\0\xd0\xbd\x44\xd3\x74\x41\x52\0\
+            \x45\x4a\0\0\0\0\0\0\x45\x3e\x29\x01\0\0\0\0\
+            \xa5\x05\x0c\0\0\0\0\0\xa5\x05\x0c\0\0\0\0\0\
+            \x6c\x8d\x07\0\0\0\0\0\x6c\x8d\x07\0\0\0\0\0\
+            \xd7\xc9\0\0\0\0\0\0\xf7\xb8\xe4\x64\0\0\0\0\
+            \xd3\x06\0\0\0\0\0\0\xd3\x06\0\0\0\0\0\0\
+            \x92\x0d\0\0\0\0\0\0\x92\x0d\0\0\0\0\0\0\
+            \x94\xe2\x02\0\0\0\0\0\x94\xe2\x02\0\0\0\0\0\
+            \0\0\0\0\0\0\0\0\0\0\0\0\0\0\0\0\
+            \0\0\0\0\0\0\0\0\0\0\0\0\0\0\0\0\
+            \0\0\0\0\0\0\0\0\0\0\0\0\0\0\0\0\
+            \0\0\0\0\0\0\0\0\0\0\0\0\0\0\0\0\
+            \0\x01\x02\x03\x04\x05\x06\x07\x08\x09\x0a\x0b\x0c\x0d\x0e\x0f\
+            \x10\x11\x12\x13\x14\x15\x16\x17\x18\x19\x1a\0\0\0\0\x1f\
+            \0\x01\x02\x03\x04\x05\x06\x07\x08\x09\x0a\x0b\x0c\x0d\x0e\x0f\
+            \x10\x11\x12\x13\x14\x15\x16\x17\x18\x19\x1a\0\0\0\0\0\
+            \0\0\0\0\0\0\0\0\0\0\0\0\0\0\0\0\
+            \0\0\0\0\0\0\0\0\0\0\0\0\0\0\0\0\
+            \0\0\0\0\0\0\0\0\0\0\0\0\0\0\0\0\
+            \0\0\0\0\0\0\0\0\0\0\0\0\0\0\0\0\
+            \0\0\0\0\0\0\0\0\0\0\0\0\0\0\0\0\
+            \0\0\0\0\0\0\0\0\0\0\0\0\0\0\0\0\
+            \0\0\0\0\0\0\0\0\0\0\0\0\0\0\0\0\
+            \0\0\0\0\0\0\0\0\0\0\0\0\0\0\0\0\
+            \x2f\x2f\x2f\x2f\x2f\x03\x06\x2f\x2f\x2f\x2f\x2f\x2f\x2f\x2f\0\
+            \x2f\x04\x2f\x2f\x2f\x2f\x04\x2f\x2f\x04\x2f\x17\x04\x18\x2f\x2f\
+            \x2f\x11\x05\x2f\x2f\x2f\x2f\x13\x2f\x2f\x16\x19\x12\x21\x2f\x14\
+            \x2f\x2f\x2f\x2f\x2f\x2f\x23\x2f\x24\x2f\x2f\x2f\x2f\x2f\x2f\x2f\
+            \x2f\x2f\x2f\x2f\x2f\x2f\x2f\x2f\x2f\x2f\x2f\x2f\x2f\x2f\x2f\x2f\
+            \x2f\x2f\x2f\x2f\x2f\x2f\x2f\x2f\x2f\x04\x2f\x2f\x2f\x2f\x2f\x2f\
+            \x2f\x2f\x0e\x2f\x2f\x2f\x2f\x2f\x2f\x2f\x2f\x2f\x2f\x2f\x2f\x2f\
+            \x2f\x2f\x2f\x2f\x1f\x2f\x2f\x2f\x01\x2f\x02\0\x2f\x2f\x2f\x2f\
+            \x2f\x2f\x2f\x2f\x2f\x2f\x2f\x2f\x0c\x2f\x2f\x2f\x0d\x09\x2f\x2f\
+            \x2f\x2f\x2f\x2f\x0b\x2f\x2f\x2f\x2f\x2f\x2f\x2f\x2f\x2f\x2f\x2f\
+            \x2f\x04\x2f\x2f\x2f\x2f\x2f\x2f\x2f\x04\x2f\x2f\x2f\x2f\x2f\x2f\
+            \x2f\x07\x2f\x2f\x2f\x2f\x2f\x2f\x2f\x2f\x2f\x2f\x2f\x08\x2f\x2f\
+            \x2f\x2f\x2f\x2f\x0a\x2f\x2f\x2f\x2f\x2f\x2f\x2f\x2f\x10\x06\x2f\
+            \x2f\x04\x2f\x0f\x26\x2f\x2f\x21\x2f\x04\x2f\x2f\x04\x2f\x04\x2b\
+            \x2f\x2f\x05\x25\x2f\x26\x2f\x2f\x2f\x2f\x2f\x2a\x2f\x2b\x28\x2f\
+            \x29\x2f\x07\x2f\x2f\x2f\x2d\x2f\x2e\x2f\x2f\x2f\x2f\x2f\x2f\x2f",
+        }
+    }
 }

@@ -4,7 +4,6 @@ ghost use Rattle.registers.specs.Text.{Text, every};
 ghost use Rattle.registers.specs.Error.{number_of};
 ghost use Rattle.interpreter.specs.Cuts.{trim, trim_end};
 ghost use Rattle.interpreter.specs.DeedParts.{no_channel};
-ghost use Rattle.interpreter.specs.TableParts.{command_table};
 ghost use Rattle.interpreter.specs.HeaderParts.{Holds, Held};
 ghost use Rattle.interpreter.specs.ParameterParts.{meant_deed};
 ghost use Rattle.interpreter.specs.Unit.{allowed};
@@ -13,6 +12,7 @@ ghost use Rattle.interpreter.specs.UnitParts.{decided, decided_text, header_refu
 use crate::deed::{Heading, NO_CHANNEL, NOWHERE, Role};
 use crate::header::{Looked, MOST_NAMES};
 use crate::parameter::Decision;
+use crate::table::Table;
 use crate::{deed, header, parameter, quoted};
 use registers::error::Error;
 use registers::settings::Settings;
@@ -62,8 +62,8 @@ fn trimmed_end(text: &[u8]) -> usize
 }
 
 // Makes checks 2 to 7 after the header, on the parameters' text without white space around it.
-fn decide(table: &[u8], settings: Settings, heading: Heading, text: &[u8]) -> Decision
-    requires { (table.now ≡ command_table) × (heading.place ≤ no_channel) × (trim text.now ≡ text.now) }
+fn decide(table: &Table, settings: Settings, heading: Heading, text: &[u8]) -> Decision
+    requires { (heading.place ≤ no_channel) × (trim text.now ≡ text.now) }
     ensures { meant_deed result ≡ decided settings heading.place heading.asked text.now }
 {
     let counted = parameter::count(text);
@@ -100,8 +100,8 @@ fn decide(table: &[u8], settings: Settings, heading: Heading, text: &[u8]) -> De
 }
 
 // Makes check 1 first: white space is allowed, and so is every byte of a header, so that only the parameters' text is looked at.
-fn decide_text(table: &[u8], settings: Settings, heading: Heading, text: &[u8]) -> Decision
-    requires { (table.now ≡ command_table) × (heading.place ≤ no_channel) × (trim text.now ≡ text.now) }
+fn decide_text(table: &Table, settings: Settings, heading: Heading, text: &[u8]) -> Decision
+    requires { (heading.place ≤ no_channel) × (trim text.now ≡ text.now) }
     ensures { meant_deed result ≡ decided_text settings heading.place heading.asked text.now }
 {
     if !all_allowed(text) {
@@ -135,13 +135,13 @@ fn header_error(unit: &[u8]) -> Error
 
 // Reads a unit, its header after the path.
 pub(crate) fn read(
-    table: &[u8],
+    table: &Table,
     settings: Settings,
     path: &mut [u64; MOST_NAMES],
     used: usize,
     unit: &[u8],
 ) -> Reading
-    requires { (table.now ≡ command_table) × Held path.old used }
+    requires { Held path.old used }
     ensures { (names : List Text) → Holds names path.old used → UnitRead settings names unit.now result.decision result.given result.used path.new }
 {
     let start = text::white_end(unit, 0);

@@ -4,10 +4,9 @@ ghost use Rattle.registers.specs.Answer.{Laid};
 ghost use Rattle.registers.specs.Settings.{count, kind_of};
 ghost use Rattle.registers.specs.Words.{short_form, long_form, matches};
 ghost use Rattle.interpreter.specs.Parameter.{words_of, takes_numbers};
-ghost use Rattle.interpreter.specs.TableParts.{command_table};
-ghost use Rattle.interpreter.specs.WordsParts.{word_count, word_size, word_at, agreed, form_length, word_cell, TakenOf, short_table};
+ghost use Rattle.interpreter.specs.WordsParts.{word_count, word_at, agreed, form_length, TakenOf, short_table};
 
-use crate::table::{WORD_SIZE, WORDS};
+use crate::table::{Table, WORDS};
 use registers::settings::Settings;
 use registers::{answer, text};
 
@@ -33,36 +32,28 @@ const SHORT_SIZE: usize = 5;
 // The words before this one are those of the settings that take no numbers.
 pub(crate) const FIRST_WITH_NUMBERS: usize = 6;
 
-// Reads a byte of a word in the table: the lengths of its two forms, then its letters.
-fn word_cell(table: &[u8], word: usize, i: usize) -> u8
-    requires { (table.now ≡ command_table) × (word < word_count) × (i < word_size) }
-    ensures { result ≡ word_cell word i }
-{
-    table[word * WORD_SIZE + i]
-}
-
 // Tells whether a word's short or its long form has so many letters.
-fn has_length(table: &[u8], word: usize, n: usize) -> bool
-    requires { (table.now ≡ command_table) × (word < word_count) }
+fn has_length(table: &Table, word: usize, n: usize) -> bool
+    requires { word < word_count }
     ensures { result ≡ form_length word n }
 {
-    let short = word_cell(table, word, 0) as usize;
-    let long = word_cell(table, word, 1) as usize;
+    let short = table.word_cell(word, 0) as usize;
+    let long = table.word_cell(word, 1) as usize;
     (n == short) | (n == long)
 }
 
 // Counts how many first bytes of a text are a word's letters, in any letter case.
-fn agreed_letters(table: &[u8], text: &[u8], word: usize) -> usize
-    requires { (table.now ≡ command_table) × (word < word_count) }
+fn agreed_letters(table: &Table, text: &[u8], word: usize) -> usize
+    requires { word < word_count }
     ensures { result ≡ agreed text.now (long_form (word_at word)) }
 {
-    let long = word_cell(table, word, 1) as usize;
+    let long = table.word_cell(word, 1) as usize;
     let mut n: usize = 0;
     while n < text.len() {
         if long <= n {
             return n;
         }
-        if text::in_capitals(text[n]) != word_cell(table, word, n + 2) {
+        if text::in_capitals(text[n]) != table.word_cell(word, n + 2) {
             return n;
         }
         n += 1;
@@ -72,8 +63,8 @@ fn agreed_letters(table: &[u8], text: &[u8], word: usize) -> usize
 
 // Tells whether a text spells a word, in its short or its long form. The short form is a start of the long one, so one walk over the letters
 // decides both: all bytes of the text were letters of the word, and one of the two forms has that many.
-pub(crate) fn is_word(table: &[u8], name: &[u8], word: usize) -> bool
-    requires { (table.now ≡ command_table) × (word < word_count) }
+pub(crate) fn is_word(table: &Table, name: &[u8], word: usize) -> bool
+    requires { word < word_count }
     ensures { result ≡ matches (word_at word) name.now }
 {
     let n = agreed_letters(table, name, word);

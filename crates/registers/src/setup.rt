@@ -2,7 +2,7 @@
 ghost use Rattle.std.specs.Prelude.{◌≡◌, true, ℕ, ◌+◌, ◌*◌, ◌≤◌, ◌<◌, length, take, drop};
 ghost use Rattle.registers.specs.Label.{most_text};
 ghost use Rattle.registers.specs.Settings.{count};
-ghost use Rattle.registers.specs.Setup.{block_size, checked_size, weighted, low_first, checks, shifted, unshifted, block_of, value_in, read_in, settings_in, said_in, recallable};
+ghost use Rattle.registers.specs.Setup.{block_size, checked_size, weighted, low_first, checks, shifted, unshifted, block_of, value_in, read_in, settings_in, said_in, recallable, takes, says};
 
 use crate::answer;
 use crate::label::TEXT;
@@ -20,11 +20,10 @@ const MARKED: usize = 2;
 
 const TEXT_AT: usize = 62;
 
-// What a block says: whether *RCL takes it, and its settings.
+// A block that *RCL does not take, and the settings that it is read as all the same.
 #[derive(Clone, Copy)]
-pub struct Recalled {
-    pub good: bool,
-    pub settings: Settings,
+pub struct Unfit {
+    pub said: Settings,
 }
 
 fn wide(x: u8) -> u32
@@ -140,22 +139,21 @@ fn settings_in(block: &[u8]) -> Settings
     read(block, Settings::ROWS)
 }
 
-// Reads every setting of a block, and tells whether its check holds and each is within its limits. A block whose check fails is
+// Reads every setting of a block whose check holds and whose settings are within their limits. A block whose check fails is
 // read as what *RST leaves.
-pub fn recall(block: &[u8]) -> Recalled
-    ensures good_value { result.good ≡ recallable block.now }
-    ensures settings_value { result.settings ≡ said_in block.now }
+pub fn recall(block: &[u8]) -> Result<Settings, Unfit>
+    ensures good_value { takes result ≡ recallable block.now }
+    ensures settings_value { says result ≡ said_in block.now }
 {
     if !holds(block) {
-        return Recalled {
-            good: false,
-            settings: Settings::reset(),
-        };
+        let said = Settings::reset();
+        return Err(Unfit { said });
     }
-    let settings = settings_in(block);
-    Recalled {
-        good: settings.possible(),
-        settings,
+    let said = settings_in(block);
+    if said.possible() {
+        Ok(said)
+    } else {
+        Err(Unfit { said })
     }
 }
 

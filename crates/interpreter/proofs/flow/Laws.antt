@@ -13,7 +13,7 @@ use lib.Seq.{take_all, take-add, take-suc, take-nil, length-take-le, paste, take
 use borrow.Author.Tests.{lt-ltb, le-ltb, eqb-true, ltb-true, ltb-false}
 use Rattle.registers.specs.Text.{index_of, index_after}
 use Rattle.registers.specs.Text.{Text, if◌then◌otherwise◌}
-use Rattle.interpreter.specs.Box.{Memory, memory, store_size, Core, Box, box, with_line, most_line}
+use Rattle.interpreter.specs.Box.{Memory, memory, Core, Box, box, with_line, most_line}
 use Rattle.interpreter.specs.Line.{held, byte, piece, newlines}
 use Rattle.interpreter.specs.FlowParts.{flow_box, FlowFits, first_line, FlowFed}
 use Rattle.interpreter.specs.declared.flow.Flow.{Flow}
@@ -181,14 +181,12 @@ fed_then f g r line out xs line₁ out₁ ys line₂ out₂ m₀ m₁ m₂ p q =
 
 pub record Feeding (f₀ : Flow) (line₀ out₀ store₀ bytes line out store : Text) (f : Flow) : Type 0 where
   pub within : f.read ≤ length bytes
-  pub sized : length store ≡ store_size
   pub fed : FlowFed f₀ line₀ out₀ (memory store₀) (take f.read bytes) f line out (memory store)
 
-pub feed-begun : (f : Flow) (line out store bytes : Text) → FlowFits f → f.read ≡ 0 → length store ≡ store_size
-    → Feeding f line out store bytes line out store f
-feed-begun f line out store bytes w z l =
+pub feed-begun : (f : Flow) (line out store bytes : Text) → FlowFits f → f.read ≡ 0 → Feeding f line out store bytes line out store f
+feed-begun f line out store bytes w z =
     let none : take f.read bytes ≡ [] = ap (λ (n : ℕ). take n bytes) z in
-    record { within = omega arith; sized = l; fed = rw none (fed-none f line out (memory store) w) }
+    record { within = omega arith; fed = rw none (fed-none f line out (memory store) w) }
 
 module _ (f₀ : Flow) (line₀ out₀ store₀ bytes line out store : Text) (f : Flow) (g : Feeding f₀ line₀ out₀ store₀ bytes line out store f) where
   module _ (h : f.read < length bytes) (r : Flow) (line' out' store' : Text)
@@ -200,15 +198,15 @@ module _ (f₀ : Flow) (line₀ out₀ store₀ bytes line out store : Text) (f 
         let n = w.read in
         omega arith
 
-    pub feed-on : length store' ≡ length store → Feeding f₀ line₀ out₀ store₀ bytes line' out' store' r
-    feed-on kept =
+    pub feed-on : Feeding f₀ line₀ out₀ store₀ bytes line' out' store' r
+    feed-on =
         let first = first_line (drop f.read bytes) in
         let d = length-drop f.read bytes in
         let m = first-within (drop f.read bytes) in
         let n = w.read in
         let e : take r.read bytes ≡ take f.read bytes ++ first =
         rw (n, take-add f.read (length first) bytes, first-front (drop f.read bytes)) in
-        record { within = omega arith; sized = kept ∙ g.sized; fed = rw e (fed_then f₀ f r line₀ out₀ (take f.read bytes) line out first line' out' _ _ _ g.fed w) }
+        record { within = omega arith; fed = rw e (fed_then f₀ f r line₀ out₀ (take f.read bytes) line out first line' out' _ _ _ g.fed w) }
 
   pub feed-end : length bytes ≤ f.read → FlowFed f₀ line₀ out₀ (memory store₀) bytes f line out (memory store)
   feed-end h = rw (take_all f.read bytes h) at g.fed

@@ -1,40 +1,33 @@
 -- One unit, by the promises of its steps: reading refuses it, or it is carried out, and then the lock or check 8 bars it, check 9 leaves it
 -- unanswered, or it is done. Each is a case of the definition's chain of checks (`attempt-read`, `attempt-carried`).
-use mathlib.Core.Path.{◌≡◌, refl, sym, ◌∙◌, subst}
-use mathlib.Core.Bool.{true, false≢true}
+use mathlib.Core.Path.{◌≡◌, refl, sym, ◌∙◌}
 use mathlib.Core.List.{List}
-use Prim.Native.Nat.{ℕ, ◌≤◌, ◌<◌}
-use native.Mathlib.Omega.{arith}
-use lib.ListN.{length}
+use Prim.Native.Nat.{ℕ}
 use Rattle.registers.specs.Text.{Text}
 use Rattle.registers.specs.Label.{text_in}
 use Rattle.registers.specs.Check.{Checked, refused, passed, ◌>>=◌, ◌>>◌}
 use Rattle.registers.specs.Error.{number_of}
 use Rattle.registers.specs.declared.error.Error.{Error}
-use Rattle.interpreter.specs.Box.{Memory, Box, most_answer}
+use Rattle.interpreter.specs.Box.{Memory, Box}
 use Rattle.interpreter.specs.Unit.{Read, read_unit}
 use Rattle.interpreter.specs.Perform.{permitted, perform}
-use Rattle.interpreter.specs.Line.{attempt, refuse}
+use Rattle.interpreter.specs.Line.{attempt}
 use Rattle.interpreter.specs.UnitParts.{UnitRead, Accepted, part_of, Allowed, AllowedText}
 use Rattle.interpreter.specs.declared.unit.Span.{Span}
 use Rattle.interpreter.specs.PresentParts.{core_in, box_at}
 use Rattle.interpreter.specs.PerformParts.{After}
 use Rattle.interpreter.specs.ReplyParts.{Answered}
-use Rattle.interpreter.specs.LineParts.{StoppedWith, carried, CarriedOut, UnitRan}
-use Rattle.interpreter.specs.declared.reply.Told.{Told}
-use Rattle.interpreter.specs.declared.reply.Told.TheVariants.{Until, Refused as no_answer}
+use Rattle.interpreter.specs.LineParts.{carried, CarriedOut, UnitRan}
+use Rattle.std.specs.Prelude.{Ok, Err}
 use Rattle.interpreter.specs.declared.deed.Deed.{Deed}
 use Rattle.interpreter.specs.declared.present.Present.{Present}
-use Rattle.interpreter.specs.declared.parameter.Decision.{Decision}
-use Rattle.interpreter.specs.declared.parameter.Decision.TheVariants.{Refused, Obey}
-use Rattle.interpreter.specs.declared.line.Done.{Done}
-use Rattle.registers.specs.Queue.{most}
+use Rattle.interpreter.specs.declared.parameter.Decision.TheVariants.{Refused}
 use Rattle.interpreter.proofs.Checks.{first-check}
 use Rattle.interpreter.proofs.unit.Allowed.{read-allowed, text-allowed}
 
 -- ---- a unit that was read: it is barred, left unanswered, or done
 
-module _ (p : Present) (d : Deed) (t : Text) (used : ℕ) (out : Text) (m : Memory) where
+module _ (p : Present) (d : Deed) (t out : Text) (m : Memory) where
   abbrev b : Box
   b = box_at p out m
 
@@ -43,42 +36,19 @@ module _ (p : Present) (d : Deed) (t : Text) (used : ℕ) (out : Text) (m : Memo
   unfolding permitted
   seen q = q
 
-  -- a refusal, which leaves of the answers so far what it leaves of those in out
-  module _ (short : p.status.queued ≤ most) (room : p.answered < most_answer) (e : Error) (r : Done) (w : StoppedWith e p r) where
-    pub stopped : (left : Text) → carried d t b ≡ refused (number_of e) → refuse (number_of e) (box_at p left m) ≡ refuse (number_of e) b
-        → CarriedOut d t used p out m r left m
-    stopped left is same =
-        let less = w.left.room in
-        record {
-          queued = w.left.queued short;
-          room = omega arith;
-          goes = λ k. absurd (false≢true (sym w.stops ∙ k));
-          stops = λ _. (number_of e, is, w.left.box left m ∙ same);
-        }
-
-    pub deed-barred : permitted d (core_in p.settings p.status) ≡ refused (number_of e) → CarriedOut d t used p out m r out m
-    unfolding ◌>>◌
-    deed-barred l = stopped out (rw (seen l)) refl
-
-    pub deed-unanswered : permitted d (core_in p.settings p.status) ≡ passed tt → (left : Text) (told : Told) → told ≡ no_answer e → Answered d t p out told left
-        → CarriedOut d t used p out m r left m
-    unfolding ◌>>◌
-    deed-unanswered l left told q says =
-        let a = subst (λ (x : Told). Answered d t p out x left) q says in stopped left (rw (seen l, (a m).0)) (a m).1
-
-  pub deed-done : permitted d (core_in p.settings p.status) ≡ passed tt → Allowed p.settings d
-      → (next : Present) → After d t p next → (end : ℕ) (left : Text) (told : Told) → told ≡ Until end → Answered d t p out told left
-      → CarriedOut d t used p out m
-      (record { present = record { settings = next.settings; status = next.status; answered = end }; used = used; obeyed = true }) left m
+  pub deed-barred : (e : Error) → permitted d (core_in p.settings p.status) ≡ refused (number_of e) → CarriedOut d t p out m (Err e) out m
   unfolding ◌>>◌
-  deed-done l allowed next s end left told q says =
-      let a = subst (λ (x : Told). Answered d t p out x left) q says in
-      record {
-        queued = s.status.queued;
-        room = a.0;
-        goes = λ _. (rw (seen l) (a.1 next m allowed s), refl);
-        stops = λ k. absurd (false≢true (sym k));
-      }
+  deed-barred e l = (rw (seen l), refl)
+
+  module _ (l : permitted d (core_in p.settings p.status) ≡ passed tt) (left : Text) where
+    pub deed-unanswered : (e : Error) → Answered d t p out (Err e) left → CarriedOut d t p out m (Err e) left m
+    unfolding ◌>>◌
+    deed-unanswered e says = let a = says m in (rw (seen l, a.0), a.1)
+
+    pub deed-done : Allowed p.settings d → (next : Present) → After d t p next → (end : ℕ) → Answered d t p out (Ok end) left
+        → CarriedOut d t p out m (Ok (record { settings = next.settings; status = next.status; answered = end })) left m
+    unfolding ◌>>◌
+    deed-done allowed next s end says = (record { queued = s.status.queued; room = says.0 }, rw (seen l) (says.1 next m allowed s))
 
 -- ---- the whole unit: it is refused by its reading, or carried out
 
@@ -92,48 +62,27 @@ module _ (path : List Text) (b : Box) (u : Text) where
   unfolding attempt ◌>>=◌
   attempt-carried r e = rw e (sym (first-check (permitted r.deed b.core) (perform r.deed r.text b) (λ c. passed (record { path = r.path; box = c }))))
 
-module _ (d : Done) (path : List Text) (unit : Text) (keys : List ℕ) (res : Decision) (given : Span) (used : ℕ) (read : UnitRead d.present.settings path unit res given used keys) where
-  -- the text that its parameter gives
-  abbrev said : Text
-  said = text_in (part_of given.from given.to unit)
+module _ (p : Present) (path : List Text) (unit : Text) (keys : List ℕ) (given : Span) (used : ℕ) where
+  pub unit-refused : (e : Error) → UnitRead p.settings path unit (Refused e) given used keys → (out : Text) (m : Memory)
+      → UnitRan p path unit out m (Err e) keys out m
+  unit-refused e read out m = (attempt-read path (box_at p out m) unit (number_of e) read, refl)
 
-  -- where it was accepted
-  accepted : (e : Deed) → res ≡ Obey e → Accepted d.present.settings path unit e given used keys
-  accepted e q = subst (λ (r : Decision). UnitRead d.present.settings path unit r given used keys) q read
+  module _ (d : Deed) (read : Accepted p.settings path unit d given used keys) where
+    -- the text that its parameter gives
+    abbrev said : Text
+    said = text_in (part_of given.from given.to unit)
 
-  pub unit-part : (e : Deed) → res ≡ Obey e → (given.from ≤ given.to) × (given.to ≤ length unit)
-  unit-part e q = let f = accepted e q in (f.within, f.ends)
+    pub unit-allowed : Allowed p.settings d
+    unit-allowed = read-allowed p.settings path unit read.is
 
-  pub unit-allowed : (e : Deed) → res ≡ Obey e → Allowed d.present.settings e
-  unit-allowed e q = read-allowed d.present.settings path unit (accepted e q).is
+    pub unit-said : AllowedText d said
+    unit-said = text-allowed p.settings path unit read.is
 
-  pub unit-said : (e : Deed) → res ≡ Obey e → AllowedText e said
-  unit-said e q = text-allowed d.present.settings path unit (accepted e q).is
-
-  module _ (out : Text) (m : Memory) where
-    abbrev start : Box
-    start = box_at d.present out m
-
-    pub unit-refused : d.present.status.queued ≤ most → d.present.answered < most_answer → (e : Error) (r : Done) → StoppedWith e d.present r → res ≡ Refused e
-        → UnitRan d path unit out m r keys out m
-    unit-refused short room e r w q =
-        let f = subst (λ (r : Decision). UnitRead d.present.settings path unit r given used keys) q read in
-        let less = w.left.room in
-        record {
-          queued = w.left.queued short;
-          room = omega arith;
-          goes = λ t. absurd (false≢true (sym w.stops ∙ t));
-          stops = λ _. (number_of e, attempt-read path start unit (number_of e) f, w.left.box out m);
-        }
-
-    pub unit-carried : (a : Deed) → res ≡ Obey a → (r : Done) (left : Text) (m' : Memory) → CarriedOut a said used d.present out m r left m' → UnitRan d path unit out m r keys left m'
+    pub unit-barred : (e : Error) (out left : Text) (m m' : Memory) → CarriedOut d said p out m (Err e) left m' → UnitRan p path unit out m (Err e) keys left m'
     unfolding ◌>>=◌
-    unit-carried a q r left m' c =
-        let f = accepted a q in
-        let is = attempt-carried path start unit _ f.is in
-        record {
-          queued = c.queued;
-          room = c.room;
-          goes = λ t. let g = c.goes t in (f.left, is ∙ rw g.0, rw g.1 f.holds);
-          stops = λ t. let g = c.stops t in (g.0, is ∙ rw g.1, g.2);
-        }
+    unit-barred e out left m m' c = (attempt-carried path (box_at p out m) unit _ read.is ∙ rw c.0, c.1)
+
+    pub unit-carried : (r : Present) (out left : Text) (m m' : Memory) → CarriedOut d said p out m (Ok r) left m'
+        → UnitRan p path unit out m (Ok (record { present = r; used = used })) keys left m'
+    unfolding ◌>>=◌
+    unit-carried r out left m m' c = (c.0, (read.left, attempt-carried path (box_at p out m) unit _ read.is ∙ rw c.1, read.holds))

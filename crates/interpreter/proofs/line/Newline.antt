@@ -62,7 +62,7 @@ module _ (p : Present) (line : Text) (o : Bool) (m : Memory) where
         → box_in r (take (r.answered + 1) (set out r.answered 10)) m' ≡ run_line line o (box_in p [] m)
     unfolding run_line units_of finished if◌then◌otherwise◌
     line-some h long =
-        let room = ran.room in
+        let room = ran.running.room in
         rw (e, visible, ← ran.box, front-empty out r.answered (omega arith) ∙ ne_eqb r.answered 0 h, add-one r.answered, take-suc-set out r.answered 10 (omega arith))
 
 -- ---- the newline

@@ -1,37 +1,36 @@
 -- *SAV and *RCL, once the lock let them pass: the block that the code writes or reads is the definition's.
 use mathlib.Core.Path.{◌≡◌, refl, sym, ◌∙◌}
-use mathlib.Core.Bool.{Bool, true, false, not, false≢true}
-use mathlib.Core.List.{append_assoc}
-use Prim.Native.Nat.{ℕ, ◌+◌, ◌-◌, ◌*◌, ◌≤◌, ◌<◌}
+use mathlib.Core.Bool.{true, false}
+use Rattle.std.specs.Prelude.{Ok, Err}
+use Prim.Native.Nat.{ℕ, ◌+◌, ◌-◌, ◌*◌}
 use native.Mathlib.Omega.{arith}
 use lib.ListN.{take, drop}
-use lib.Seq.{paste, take_all}
-use borrow.Author.Tests.{not-true, not-false}
+use lib.Seq.{drop-drop}
+use borrow.Rule.Slice.PartMut.{put_mid}
 use Rattle.registers.specs.Text.{Text}
 use Rattle.registers.specs.Check.{passed, check, ◌>>=◌, ◌>>◌}
-use Rattle.registers.specs.Queue.{most}
 use Rattle.registers.specs.Setup.{block_size, block_of, said_in, recallable, block_at, saved_at}
 use Rattle.registers.specs.declared.error.Error.TheVariants.{SaveRecallMemoryLost}
 use Rattle.registers.specs.declared.settings.Settings.{Settings}
-use Rattle.registers.proofs.setup.Laws.{block-long, said-recalled}
-use Rattle.interpreter.specs.Box.{memory, most_answer}
+use Rattle.registers.proofs.setup.Laws.{said-recalled}
+use Rattle.interpreter.specs.Box.{memory}
 use Rattle.interpreter.specs.Perform.{permitted, set_up, perform}
 use Rattle.interpreter.specs.PresentParts.{core_in}
-use Rattle.interpreter.specs.LineParts.{StoppedWith, CarriedOut}
+use Rattle.interpreter.specs.LineParts.{Running, CarriedOut}
 use Rattle.interpreter.specs.declared.deed.Deed.TheVariants.{Saving}
 use Rattle.interpreter.specs.declared.deed.Saving.TheVariants.{Save, Recall}
 use Rattle.interpreter.specs.declared.present.Present.{Present}
-use Rattle.interpreter.specs.declared.line.Done.{Done}
-use Rattle.interpreter.proofs.line.Laws.{seen, stopped}
+use Rattle.interpreter.proofs.line.Laws.{seen}
 
 -- ---- the block's place in the store
 
-pub block-laid : (place at : ℕ) (s : Settings) (store : Text) → at ≡ place * block_size → paste store at (block_of s) block_size ≡ saved_at place s store
+pub block-laid : (place : ℕ) (s : Settings) (store : Text)
+    → put_mid (place * block_size) (place * block_size + block_size - place * block_size) store (block_of s) ≡ saved_at place s store
 unfolding saved_at
-block-laid place at s store e =
-    let n : at ≡ block_size * place = omega arith in
-    let all : take block_size (block_of s) ≡ block_of s = let l = block-long s in take_all block_size (block_of s) (omega arith) in
-    rw (n, all) (append_assoc (take (block_size * place) store) (block_of s) (drop (block_size * place + block_size) store))
+block-laid place s store =
+    let n : place * block_size ≡ block_size * place = omega arith in
+    let k : place * block_size + block_size - place * block_size ≡ block_size = omega arith in
+    rw (k, n, drop-drop block_size (block_size * place) store)
 
 pub block_read : (place at end : ℕ) (store : Text) → at ≡ place * block_size → end ≡ at + block_size → take (end - at) (drop at store) ≡ block_at place store
 unfolding block_at
@@ -42,36 +41,21 @@ block_read place at end store e f =
 
 -- ---- what is carried out
 
-module _ (p : Present) (place used : ℕ) (store : Text) (short : p.status.queued ≤ most) (room : p.answered < most_answer) where
-  pub saved : permitted (Saving Save place) (core_in p.settings p.status) ≡ passed tt → (left : Text) → left ≡ saved_at place p.settings store
-      → (t out : Text) → CarriedOut (Saving Save place) t used p out (memory store) (record { present = p; used = used; obeyed = true }) out (memory left)
+module _ (p : Present) (place : ℕ) (store : Text) (t out : Text) where
+  pub saved : Running p → permitted (Saving Save place) (core_in p.settings p.status) ≡ passed tt → (left : Text) → left ≡ saved_at place p.settings store
+      → CarriedOut (Saving Save place) t p out (memory store) (Ok p) out (memory left)
   unfolding perform set_up ◌>>=◌ ◌>>◌
-  saved l left is t out =
-      record {
-        queued = short;
-        room = room;
-        goes = λ _. (rw (seen p (Saving Save place) t used out (memory store) l, is), refl);
-        stops = λ t. absurd (false≢true (sym t));
-      }
+  saved runs l left is = (runs, rw (seen p (Saving Save place) t out (memory store) l, is))
 
-  module _ (l : permitted (Saving Recall place) (core_in p.settings p.status) ≡ passed tt) (good : Bool)
-      (tells : good ≡ recallable (block_at place store)) where
-    pub recalled : not good ≡ false → (s : Settings) → s ≡ said_in (block_at place store) → (t out : Text)
-        → CarriedOut (Saving Recall place) t used p out (memory store)
-        (record { present = record { settings = s; status = p.status; answered = p.answered }; used = used; obeyed = true }) out (memory store)
+  module _ (l : permitted (Saving Recall place) (core_in p.settings p.status) ≡ passed tt) where
+    pub recalled : Running p → (s : Settings) → true ≡ recallable (block_at place store) → s ≡ said_in (block_at place store)
+        → CarriedOut (Saving Recall place) t p out (memory store) (Ok (record { settings = s; status = p.status; answered = p.answered })) out (memory store)
     unfolding perform set_up ◌>>=◌ ◌>>◌ check
-    recalled n s is t out =
-        let yes = not-false good n in
-        record {
-          queued = short;
-          room = room;
-          goes = λ _. (rw (seen p (Saving Recall place) t used out (memory store) l, sym tells ∙ yes, is ∙ said-recalled (block_at place store) (sym tells ∙ yes)), refl);
-          stops = λ t. absurd (false≢true (sym t));
-        }
+    recalled runs s taken is = (
+      record { queued = runs.queued; room = runs.room },
+      rw (seen p (Saving Recall place) t out (memory store) l, sym taken, is ∙ said-recalled (block_at place store) (sym taken)),
+    )
 
-    pub lost : not good ≡ true → (r : Done) → StoppedWith SaveRecallMemoryLost p r → (t out : Text)
-        → CarriedOut (Saving Recall place) t used p out (memory store) r out (memory store)
+    pub lost : false ≡ recallable (block_at place store) → CarriedOut (Saving Recall place) t p out (memory store) (Err SaveRecallMemoryLost) out (memory store)
     unfolding perform set_up ◌>>=◌ ◌>>◌ check
-    lost n r w t out =
-        stopped p (Saving Recall place) t used out (memory store) short room SaveRecallMemoryLost r w out
-        (rw (seen p (Saving Recall place) t used out (memory store) l, sym tells ∙ not-true good n)) refl
+    lost unfit = (rw (seen p (Saving Recall place) t out (memory store) l, sym unfit), refl)

@@ -1,7 +1,7 @@
 -- The loop over a line's units. Its invariant, `Going`: the units left at place `at`, run at the box as it stands, do what all units do from the
 -- start. A turn runs the unit up to the next `;`, which is the first of those left (`first-unit`); a refused one ends the line.
 use mathlib.Core.Path.{◌≡◌, refl, sym, ◌∙◌}
-use mathlib.Core.Bool.{Bool, true, false, ◌&&◌, false≢true}
+use mathlib.Core.Bool.{Bool, true, false}
 use mathlib.Core.List.{List, [], ◌∷◌}
 use Prim.Native.Char.{code}
 use Prim.Native.Nat.{ℕ, suc, ◌+◌, ◌-◌, ◌≤◌, ◌<◌, zero-le}
@@ -10,18 +10,19 @@ use native.Mathlib.Numerals.{add-one}
 use lib.Dec.{ltb, leb-suc-suc}
 use lib.ListN.{length, take, drop, length-drop}
 use lib.Seq.{drop-drop}
-use borrow.Author.Tests.{ltb-true, ltb-false, lt-ltb, le-ltb}
+use borrow.Author.Tests.{lt-ltb, le-ltb}
 use Rattle.registers.specs.Text.{Text, if◌then◌otherwise◌}
+use Rattle.std.specs.Prelude.{Ok, Err}
+use Rattle.registers.specs.Error.{number_of}
+use Rattle.registers.specs.declared.error.Error.{Error}
 use Rattle.registers.specs.Check.{refused, passed}
-use Rattle.registers.proofs.Tests.{and_both}
 use Rattle.interpreter.specs.Cuts.{quote_next, separates, cut_open}
 use Rattle.interpreter.specs.CutsParts.{place_open}
-use Rattle.interpreter.specs.Box.{memory, store_size, Box, most_answer}
+use Rattle.interpreter.specs.Box.{memory, Box}
 use Rattle.interpreter.specs.Line.{Obeyed, attempt, refuse, run_units}
 use Rattle.interpreter.specs.HeaderParts.{Holds}
-use Rattle.interpreter.specs.PresentParts.{box_in}
-use Rattle.interpreter.specs.PresentParts.{box_at}
-use Rattle.interpreter.specs.LineParts.{UnitRan}
+use Rattle.interpreter.specs.PresentParts.{box_in, box_at, RefusedWith}
+use Rattle.interpreter.specs.LineParts.{Running, UnitRan}
 use Rattle.interpreter.specs.declared.present.Present.{Present}
 use Rattle.interpreter.specs.declared.line.Done.{Done}
 use Rattle.registers.specs.Queue.{most}
@@ -73,23 +74,19 @@ run_none path b = refl
 -- ---- the units of a line so far: what is left does what all of them do
 
 pub record Going (b : Box) (line : Text) (keys : List ℕ) (out store : Text) (d : Done) (at : ℕ) : Type 0 where
-  pub queued : d.present.status.queued ≤ most
-  pub answers : d.present.answered < most_answer
-  pub long : length out ≡ most_answer
-  pub sized : length store ≡ store_size
+  pub running : Running d.present
   pub within : at ≤ length line
   pub path : List Text
   pub holds : Holds path keys d.used
   pub left : run_units (cut_open (code ";") 0 (drop at line)) path (box_at d.present out (memory store)) ≡ run_units (cut_open (code ";") 0 line) [] b
 
-pub going_start : (p : Present) (o : Bool) (line : Text) (keys : List ℕ) (out store : Text) → p.answered ≡ 0 → p.status.queued ≤ most → length out ≡ most_answer
-    → length store ≡ store_size → Going (box_in p [] (memory store)) line keys out store (record { present = p; used = 0; obeyed = o }) 0
-going_start p o line keys out store z q l z' =
-    record { queued = q; answers = omega arith; long = l; sized = z'; within = zero-le; path = []; holds = holds-none keys; left = rw z }
+pub going_start : (p : Present) (line : Text) (keys : List ℕ) (out store : Text) → p.answered ≡ 0 → p.status.queued ≤ most
+    → Going (box_in p [] (memory store)) line keys out store (record { present = p; used = 0 }) 0
+going_start p line keys out store z q =
+    record { running = record { queued = q; room = omega arith }; within = zero-le; path = []; holds = holds-none keys; left = rw z }
 
 module _ (b : Box) (line : Text) (keys : List ℕ) (out store : Text) (d : Done) (at : ℕ) (g : Going b line keys out store d at)
-    (end : ℕ) (is : end ≡ at + place_open (code ";") 0 (drop at line)) (within : end ≤ length line)
-    (r : Done) (more : List ℕ) (left kept : Text) (w : UnitRan d g.path (take (end - at) (drop at line)) out (memory store) r more left (memory kept)) where
+    (end : ℕ) (is : end ≡ at + place_open (code ";") 0 (drop at line)) (within : end ≤ length line) (more : List ℕ) (left kept : Text) where
   -- the rest of the line, which begins with this unit, and the box before it
   abbrev here : Text
   here = drop at line
@@ -103,45 +100,30 @@ module _ (b : Box) (line : Text) (keys : List ℕ) (out store : Text) (d : Done)
   first : cut_open (code ";") 0 here ≡ take (end - at) here ∷ others 0 here
   first = rw n (first-unit 0 here)
 
-  stopped : r.obeyed ≡ false → box_at r.present left (memory kept) ≡ run_units (cut_open (code ";") 0 line) [] b
-  stopped f =
-      let s = w.stops f in
-      s.2 ∙ sym (run-stop (take (end - at) here) (others 0 here) g.path before s.0 s.1) ∙ (rw first at g.left)
+  -- the unit was refused
+  pub going_stopped : (e : Error) → UnitRan d.present g.path (take (end - at) here) out (memory store) (Err e) more left (memory kept)
+      → (q : Present) → RefusedWith e d.present q → box_at q left (memory kept) ≡ run_units (cut_open (code ";") 0 line) [] b
+  going_stopped e w q r =
+      r.box left (memory kept) ∙ w.1 ∙ sym (run-stop (take (end - at) here) (others 0 here) g.path before (number_of e) w.0) ∙ (rw first at g.left)
 
-  passes : (t : r.obeyed ≡ true) → run_units (others 0 here) (w.goes t).0 (box_at r.present left (memory kept)) ≡ run_units (cut_open (code ";") 0 line) [] b
-  passes t = sym (run_on (take (end - at) here) (others 0 here) g.path before _ (w.goes t).1) ∙ (rw first at g.left)
+  -- the unit was obeyed
+  module _ (r : Done) (w : UnitRan d.present g.path (take (end - at) here) out (memory store) (Ok r) more left (memory kept)) where
+    passes : run_units (others 0 here) w.1.0 (box_at r.present left (memory kept)) ≡ run_units (cut_open (code ";") 0 line) [] b
+    passes = sym (run_on (take (end - at) here) (others 0 here) g.path before _ w.1.1) ∙ (rw first at g.left)
 
-  pub going_less : (r.obeyed && ltb end (length line)) ≡ true → length line - (end + 1) < length line - at
-  going_less e = let h = ltb-true end (length line) (and_both r.obeyed (ltb end (length line)) e).1 in omega (arith, is)
+    pub going_less : end < length line → length line - (end + 1) < length line - at
+    going_less h = omega (arith, is)
 
-  pub going_on : (r.obeyed && ltb end (length line)) ≡ true → length left ≡ length out → length kept ≡ length store → Going b line more left kept r (end + 1)
-  going_on e l k =
-      let both = and_both r.obeyed (ltb end (length line)) e in
-      let h = ltb-true end (length line) both.1 in
-      let o = w.goes both.0 in
-      let m = n in
-      let f = length-drop at line in
-      let next : at + (place_open (code ";") 0 here + 1) ≡ end + 1 = omega arith in
-      let rest : others 0 here ≡ cut_open (code ";") 0 (drop (end + 1) line) = rw (others-more here (omega arith), drop-drop (place_open (code ";") 0 here + 1) at line, next) in
-      record {
-        queued = w.queued;
-        answers = w.room;
-        long = l ∙ g.long;
-        sized = k ∙ g.sized;
-        within = omega arith;
-        path = o.0;
-        holds = o.2;
-        left = rw rest at (passes both.0);
-      }
+    pub going_on : end < length line → Going b line more left kept r (end + 1)
+    going_on h =
+        let m = n in
+        let f = length-drop at line in
+        let next : at + (place_open (code ";") 0 here + 1) ≡ end + 1 = omega arith in
+        let rest : others 0 here ≡ cut_open (code ";") 0 (drop (end + 1) line) = rw (others-more here (omega arith), drop-drop (place_open (code ";") 0 here + 1) at line, next) in
+        record { running = w.0; within = omega arith; path = w.1.0; holds = w.1.2; left = rw rest at passes }
 
-  pub going_end : (r.obeyed && ltb end (length line)) ≡ false → box_at r.present left (memory kept) ≡ run_units (cut_open (code ";") 0 line) [] b
-  going_end e = go r.obeyed refl (ltb end (length line)) refl
-    where
-      go : (t : Bool) → r.obeyed ≡ t → (u : Bool) → ltb end (length line) ≡ u → box_at r.present left (memory kept) ≡ run_units (cut_open (code ";") 0 line) [] b
-      go false o u q = stopped o
-      go true o true q = absurd (false≢true (sym e ∙ rw (o, q)))
-      go true o false q =
-          let h = ltb-false end (length line) q in
-          let m = n in
-          let f = length-drop at line in
-          sym (run_none _ _) ∙ (rw (others-none here (omega arith)) at (passes o))
+    pub going_end : length line ≤ end → box_at r.present left (memory kept) ≡ run_units (cut_open (code ";") 0 line) [] b
+    going_end h =
+        let m = n in
+        let f = length-drop at line in
+        sym (run_none _ _) ∙ (rw (others-none here (omega arith)) at passes)

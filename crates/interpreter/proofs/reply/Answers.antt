@@ -1,7 +1,7 @@
 -- Where a reply stands in the buffer: in the tail that was lent, after the answers so far and a separator, over which the first answer is
 -- written (`stands`). Check 9 is then a comparison of its length with the tail's (`given-over`, `given-whole`).
 use mathlib.Core.Path.{◌≡◌, refl, sym, ap, ◌∙◌}
-use mathlib.Core.Bool.{true, not}
+use mathlib.Core.Bool.{not}
 use mathlib.Core.List.{[], ◌∷◌, ◌++◌}
 use Prim.Native.Char.{code}
 use Prim.Native.Nat.{ℕ, zero, suc, ◌+◌, ◌-◌, ◌≤◌, ◌<◌}
@@ -11,20 +11,18 @@ use native.Mathlib.Omega.{arith}
 use lib.Dec.{eqb}
 use lib.ListN.{length, take, drop, set, length-append, length-take, length-drop, length-set}
 use lib.Seq.{take-append-add, take-append-le, take-suc-set, append_snoc}
-use types.Run.{OneOf, miss}
-use denote.Enum.Declared.{tag_of}
 use mir.Val.{bool_byte}
 use borrow.Author.Tests.{ne_eqb}
 use borrow.Rule.Slice.PartMut.{mid_of, put_mid}
+use Rattle.std.specs.Prelude.{Some, None, Ok, Err}
 use Rattle.registers.specs.Text.{Text, if◌then◌otherwise◌}
 use Rattle.registers.specs.Answer.{Laid}
 use Rattle.registers.proofs.answer.Laws.{over-start, over-length}
 use Rattle.interpreter.specs.Box.{most_answer}
 use Rattle.interpreter.specs.Reply.{joined}
-use Rattle.interpreter.specs.ReplyParts.{text_of, said, answered_with, GivenTo}
+use Rattle.interpreter.specs.ReplyParts.{text_of, answered_with, GivenTo}
 use Rattle.interpreter.specs.declared.reply.Reply.{Reply}
-use Rattle.interpreter.specs.declared.reply.Reply.TheVariants.{Nothing, Identity, Word, Tenths, Whole, Number, Error, Label}
-use Rattle.interpreter.specs.contracts.reply.Reply as replies
+use Rattle.registers.specs.declared.error.Error.TheVariants.{QueryDeadlocked}
 
 -- ---- texts that are joined
 
@@ -72,63 +70,52 @@ module _ (out tail t : Text) (k : ℕ) (bytes : take (length t) tail ≡ t) (lon
 
 -- ---- check 9
 
-pub says : (r : Reply) → OneOf (1 ∷ 2 ∷ 3 ∷ 4 ∷ 5 ∷ 6 ∷ 7 ∷ []) (tag_of replies.the_type r) → said r ≡ true
-says Nothing h = absurd (miss (1 ∷ 2 ∷ 3 ∷ 4 ∷ 5 ∷ 6 ∷ 7 ∷ []) 0 tt h)
-says Identity h = refl
-says (Word n) h = refl
-says (Tenths v) h = refl
-says (Whole v) h = refl
-says (Number n) h = refl
-says (Error n) h = refl
-says Label h = refl
-
 module _ (label out : Text) {answered : ℕ} (room : answered < most_answer) (size : length out ≡ most_answer) where
   abbrev so_far : Text
   so_far = take answered out
 
-  pub given-none : GivenTo label Nothing answered out answered out
-  unfolding answered_with if◌then◌otherwise◌
+  pub given-none : GivenTo label None answered out (Ok answered) out
+  unfolding GivenTo answered_with
   given-none =
       let l : length so_far < most_answer = rw length-take (omega arith) in
-      record { stands = λ _. (l, refl); falls = λ h. absurd (omega arith) }
+      (room, l, refl)
 
-  module _ (reply : Reply) (some : said reply ≡ true) {tail : Text} {n : ℕ}
-      (laid : Laid (text_of label reply) (mid_of (start answered) (length (set out answered (code ";")) - start answered) (set out answered (code ";"))) n tail) where
+  -- the reply is written from s on
+  module _ (reply : Reply) {tail : Text} {n s : ℕ} (from : s ≡ start answered)
+      (laid : Laid (text_of label reply) (mid_of (s) (length (set out answered (code ";")) - s) (set out answered (code ";"))) n tail) where
     abbrev left : Text
-    left = put_mid (start answered) (length (set out answered (code ";")) - start answered) (set out answered (code ";")) tail
+    left = put_mid (s) (length (set out answered (code ";")) - s) (set out answered (code ";")) tail
 
-    long : length (answered_with label reply so_far) ≡ start answered + n
-    unfolding answered_with if◌then◌otherwise◌
+    long : length (answered_with label (Some reply) so_far) ≡ s + n
+    unfolding answered_with
     long =
         let taken : length so_far ≡ answered = rw length-take (omega arith) in
-        rw (some, joined_length, taken, laid.long)
+        rw (joined_length, taken, laid.long, from)
 
     -- the code has it from the length m of the buffer, which is kept
     module _ {m : ℕ} (kept : m ≡ length (set out answered (code ";"))) where
       whole : m ≡ most_answer
       whole = kept ∙ length-set out answered (code ";") ∙ size
 
-      pub given-over : m - start answered ≤ n → GivenTo label reply answered out m left
+      pub given-over : m - s ≤ n → GivenTo label (Some reply) answered out (Err QueryDeadlocked) left
+      unfolding GivenTo
       given-over h =
           let e = whole in
           let k = start-room answered room in
-          record { stands = λ f. absurd (omega arith); falls = λ _. rw long (omega arith) }
+          (refl, rw long (omega (arith, from)))
 
-      pub end-room : n < m - start answered → start answered + n < most_answer
+      pub end-room : n < m - s → s + n < most_answer
       end-room h = let e = whole in omega arith
 
-      pub given-whole : n < m - start answered → GivenTo label reply answered out (start answered + n) left
-      unfolding answered_with if◌then◌otherwise◌
+      pub given-whole : n < m - s → GivenTo label (Some reply) answered out (Ok (s + n)) left
+      unfolding GivenTo answered_with
       given-whole h =
           let e = whole in
           let fits = end-room h in
-          let lent = mid_of (start answered) (length (set out answered (code ";")) - start answered) (set out answered (code ";")) in
-          let l : length lent ≡ most_answer - start answered = simp (length-take, length-drop, length-set) (omega arith) in
+          let lent = mid_of (s) (length (set out answered (code ";")) - s) (set out answered (code ";")) in
+          let l : length lent ≡ most_answer - s = simp (length-take, length-drop, length-set) (omega arith) in
           let k : length (text_of label reply) ≤ length lent = let e = laid.long in omega arith in
           let bytes : take (length (text_of label reply)) tail ≡ text_of label reply = rw laid.bytes (over-start (text_of label reply) lent k) in
           let t : length (text_of label reply) ≤ length tail = rw (laid.bytes, over-length (text_of label reply) lent) k in
-          let is = stands out tail (text_of label reply) (length (set out answered (code ";")) - start answered) bytes t answered (omega arith) in
-          record {
-            stands = λ _. (rw long fits, rw (some, laid.long) is);
-            falls = λ f. absurd (omega arith);
-          }
+          let is = stands out tail (text_of label reply) (length (set out answered (code ";")) - s) bytes t answered (omega arith) in
+          (fits, rw long fits, rw laid.long (rw (← from) at is))

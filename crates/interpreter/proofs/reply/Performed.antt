@@ -8,11 +8,12 @@ use native.Mathlib.Omega.{arith}
 use lib.Dec.{eqb}
 use lib.ListN.{length, take, length-take}
 use borrow.Author.Tests.{lt-ltb, le-ltb}
+use Rattle.std.specs.Prelude.{Option, Some, None, Result, Ok, Err}
 use Rattle.registers.specs.Text.{Text, if◌then◌otherwise◌, empty}
 use Rattle.registers.specs.Check.{refused, passed, ◌>>=◌, ◌>>◌, check}
 use Rattle.registers.specs.Settings.{displayed}
 use Rattle.registers.specs.Status.{Registers, registers_of, trouble_of}
-use Rattle.registers.specs.declared.error.Error.TheVariants.{QueryDeadlocked}
+use Rattle.registers.specs.declared.error.Error.{Error}
 use Rattle.registers.specs.declared.settings.Settings.{Settings}
 use Rattle.registers.proofs.Tests.{front-empty}
 use Rattle.interpreter.specs.Box.{Memory, blank, Core, Box, box, with_answer, most_answer}
@@ -21,7 +22,7 @@ use Rattle.interpreter.specs.Reply.{reply_to, joined, fits_answer, reply}
 use Rattle.interpreter.specs.Line.{refuse}
 use Rattle.interpreter.specs.PresentParts.{core_of, box_in}
 use Rattle.interpreter.specs.PerformParts.{settings_changed, settings_left, registers_changed, registers_asked, registers_left, trouble_left}
-use Rattle.interpreter.specs.ReplyParts.{ordinary, text_of, said, ReplyTo, answered_with, GivenTo, Answered}
+use Rattle.interpreter.specs.ReplyParts.{ordinary, text_of, ReplyTo, answered_with, GivenTo, Answered}
 use Rattle.interpreter.specs.declared.deed.Deed.{Deed}
 use Rattle.interpreter.specs.declared.deed.Deed.TheVariants.{Change, Complete, Clear, Query, Inquire, Saving}
 use Rattle.interpreter.specs.declared.deed.Change as changes
@@ -30,8 +31,6 @@ use Rattle.interpreter.specs.declared.deed.Query as queries
 use Rattle.interpreter.specs.declared.deed.Query.TheVariants.{Identity, SelfTest, Completed, Limit, Value, Stored, Condition, SetEvents, Label as label_asked}
 use Rattle.interpreter.specs.declared.present.Present.{Present}
 use Rattle.interpreter.specs.declared.reply.Reply.{Reply}
-use Rattle.interpreter.specs.declared.reply.Reply.TheVariants.{Nothing}
-use Rattle.interpreter.specs.declared.reply.Told.TheVariants.{Until, Refused}
 
 -- ---- what is asked, and what is left, as the box has it
 
@@ -63,31 +62,23 @@ apart label_asked = record { unseen = λ s r a m. refl; left = λ s r a m. refl 
 
 -- ---- check 9 on a reply that says something
 
-module _ (l : Text) (r : Reply) (c : Core) (some : said r ≡ true) where
-  joined_is : answered_with l r c.answer ≡ joined c.answer (text_of l r)
-  unfolding answered_with if◌then◌otherwise◌
-  joined_is = rw some
+module _ (l : Text) (r : Reply) (c : Core) where
+  reply-given : length (answered_with l (Some r) c.answer) < most_answer → reply (text_of l r) c ≡ passed (with_answer (answered_with l (Some r) c.answer) c)
+  unfolding answered_with reply check ◌>>◌ fits_answer
+  reply-given h = rw (lt-ltb (length (joined c.answer (text_of l r))) most_answer h)
 
-  reply-given : length (answered_with l r c.answer) < most_answer → reply (text_of l r) c ≡ passed (with_answer (answered_with l r c.answer) c)
-  unfolding reply check ◌>>◌ fits_answer
-  reply-given h =
-      let k = rw joined_is at h in
-      rw (joined_is, lt-ltb (length (joined c.answer (text_of l r))) most_answer k)
-
-  reply-refused : most_answer ≤ length (answered_with l r c.answer) → reply (text_of l r) c ≡ refused 430
-  unfolding reply check ◌>>◌ fits_answer
-  reply-refused h =
-      let k = rw joined_is at h in
-      rw (le-ltb (length (joined c.answer (text_of l r))) most_answer k)
+  reply-refused : most_answer ≤ length (answered_with l (Some r) c.answer) → reply (text_of l r) c ≡ refused 430
+  unfolding answered_with reply check ◌>>◌ fits_answer
+  reply-refused h = rw (le-ltb (length (joined c.answer (text_of l r))) most_answer h)
 
 -- nothing that is said always has room
-silent : (l : Text) (r : Reply) (a : Text) → r ≡ Nothing → length a < most_answer → most_answer ≤ length (answered_with l r a) → ⊥
-unfolding answered_with if◌then◌otherwise◌
+silent : (l : Text) (r : Option Reply) (a : Text) → r ≡ None → length a < most_answer → most_answer ≤ length (answered_with l r a) → ⊥
+unfolding answered_with
 silent l r a e k h = let short = rw e at h in omega arith
 
 -- ---- a deed that answers with reply r
 
-module _ (p : Present) (x a : Text) (m : Memory) (r : Reply) where
+module _ (p : Present) (x a : Text) (m : Memory) (r : Option Reply) where
   -- the text that is shown
   abbrev l : Text
   l = displayed p.settings
@@ -100,14 +91,15 @@ module _ (p : Present) (x a : Text) (m : Memory) (r : Reply) where
 
   given : (d : Deed) → ordinary d ≡ true → ReplyTo d p (not (empty a)) r → length (answered_with l r a) < most_answer
       → perform d x (box_in p a m) ≡ passed (left d (answered_with l r a))
-  unfolding perform answered_with if◌then◌otherwise◌ ◌>>=◌
+  unfolding perform answered_with ◌>>=◌
   given (Change y) o e h = rw e (ap (λ (c : Core). passed (box c (trouble_of p.status))) (changed-is y x p.settings (registers_of p.status) a m))
   given Complete o e h = rw e
   given Clear o e h = rw e
   given (Query q) o e h =
       let t = registers_of p.status in
-      rw ((apart q).unseen p.settings t a m, ← e.is, (apart q).left p.settings t a m, reply-given l r (after (Query q)) e.some h)
-  given (Inquire q) o e h = rw (← e.is, reply-given l r (after (Inquire q)) e.some h)
+      let k = rw e.1 at h in
+      rw ((apart q).unseen p.settings t a m, ← e.2.is, (apart q).left p.settings t a m, reply-given l e.0 (after (Query q)) k, e.1)
+  given (Inquire q) o e h = let k = rw e.1 at h in rw (← e.2.is, reply-given l e.0 (after (Inquire q)) k, e.1)
   given (Saving y n) o e h = absurd (false≢true o)
 
   dropped : (d : Deed) → ordinary d ≡ true → ReplyTo d p (not (empty a)) r → length a < most_answer → most_answer ≤ length (answered_with l r a)
@@ -118,28 +110,24 @@ module _ (p : Present) (x a : Text) (m : Memory) (r : Reply) where
   dropped Clear o e k h = absurd (silent l r a e k h)
   dropped (Query q) o e k h =
       let t = registers_of p.status in
-      rw ((apart q).unseen p.settings t a m, ← e.is, (apart q).left p.settings t a m, reply-refused l r (after (Query q)) e.some h)
-  dropped (Inquire q) o e k h = rw (← e.is, reply-refused l r (after (Inquire q)) e.some h)
+      let f = rw e.1 at h in
+      rw ((apart q).unseen p.settings t a m, ← e.2.is, (apart q).left p.settings t a m, reply-refused l e.0 (after (Query q)) f)
+  dropped (Inquire q) o e k h = let f = rw e.1 at h in rw (← e.2.is, reply-refused l e.0 (after (Inquire q)) f)
   dropped (Saving y n) o e k h = absurd (false≢true o)
 
--- the deed as the code answers it: its reply r stands after the answers so far and ends at a place
-module _ (d : Deed) (x : Text) (p : Present) {r : Reply} {out left-of : Text} {end : ℕ} (room : p.answered < most_answer) (size : length out ≡ most_answer)
-    (o : ordinary d ≡ true)
-    (says : ReplyTo d p (not (eqb p.answered 0)) r) (answers : GivenTo (displayed p.settings) r p.answered out end left-of) where
+-- the deed as the code answers it: its reply r stands after the answers so far and ends at a place, or check 9 drops the whole answer,
+-- so that it doesn't matter what was written
+module _ (d : Deed) (x : Text) (p : Present) (r : Option Reply) (out : Text) (room : p.answered < most_answer) (size : length out ≡ most_answer)
+    (o : ordinary d ≡ true) (says : ReplyTo d p (not (eqb p.answered 0)) r) where
   abbrev so_far : Text
   so_far = take p.answered out
 
   replies : ReplyTo d p (not (empty so_far)) r
   replies = rw (front-empty out p.answered (omega arith)) says
 
-  pub told-until : end < most_answer → Answered d x p out (Until end) left-of
-  told-until h =
-      let e = answers.stands h in
-      (h, λ q m k a. rw (a.settings, a.status.registers p.settings k, a.status.trouble, e.1) (given p x so_far m r d o replies e.0))
-
-  -- check 9 drops the whole answer, so that it doesn't matter what was written
-  pub told-refused : most_answer ≤ end → Answered d x p out (Refused QueryDeadlocked) left-of
-  unfolding refuse if◌then◌otherwise◌
-  told-refused h =
+  pub told : (end : Result ℕ Error) (left-of : Text) → GivenTo (displayed p.settings) r p.answered out end left-of → Answered d x p out end left-of
+  unfolding GivenTo refuse if◌then◌otherwise◌
+  told (Ok end) left-of e = (e.0, λ q m k a. rw (a.settings, a.status.registers p.settings k, a.status.trouble, e.2) (given p x so_far m r d o replies e.1))
+  told (Err f) left-of e =
       let short : length so_far < most_answer = rw length-take (omega arith) in
-      λ m. (dropped p x so_far m r d o replies short (answers.falls h), refl)
+      λ m. rw e.0 (dropped p x so_far m r d o replies short e.1, refl)

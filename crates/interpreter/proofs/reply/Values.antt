@@ -13,6 +13,7 @@ use mir.Syntax.{w32}
 use mir.Val.{SFits, to_z, of_z}
 use mir.Facts.{to_z-of_z}
 use borrow.Author.Tests.{ltb-true, ltb-false}
+use Rattle.std.specs.Prelude.{None}
 use Rattle.registers.specs.Text.{Text, if◌then◌otherwise◌}
 use Rattle.registers.specs.Answer.{decimal, tenths, signed_text}
 use Rattle.registers.specs.Settings.{count, Kind, bool, words, number, kind_of, answer_of, word_text}
@@ -26,7 +27,7 @@ use Rattle.interpreter.specs.declared.deed.Deed.{Deed}
 use Rattle.interpreter.specs.declared.deed.Deed.TheVariants.{Change, Complete, Clear, Query, Inquire, Saving}
 use Rattle.interpreter.specs.declared.present.Present.{Present}
 use Rattle.interpreter.specs.declared.reply.Reply.{Reply}
-use Rattle.interpreter.specs.declared.reply.Reply.TheVariants.{Nothing, Whole as said-whole}
+use Rattle.interpreter.specs.declared.reply.Reply.TheVariants.{Whole as said-whole}
 use Rattle.interpreter.specs.contracts.deed.Deed as deeds
 
 -- ---- a setting
@@ -55,7 +56,7 @@ module _ (k : Kind) {z : ℤ} (h : SFits w32 z) {told : Values} (is : told ≡ v
   -- a bool is answered as a whole number is
   pub told-whole : OneOf (3 ∷ 0 ∷ []) (tag_of values.the_type told) → (label : Text) → RepliesWith label (answer_of k z) (said-whole (to_z w32 (of_z w32 z)))
   unfolding text_of
-  told-whole o = told-value refl (λ label. record { is = whole told o; some = refl })
+  told-whole o = told-value refl (λ label. record { is = whole told o })
     where
       whole : (v : Values) → OneOf (3 ∷ 0 ∷ []) (tag_of values.the_type v)
           → signed_text decimal (to_z w32 (of_z w32 z)) ≡ answer_as v (words_of k) (to_z w32 (of_z w32 z))
@@ -83,7 +84,7 @@ word-row i is e = go (ltb i count) refl
 -- ---- a deed without an answer is a change, *OPC, *CLS, *SAV or *RCL
 
 pub nothing_said : (d : Deed) → OneOf (0 ∷ 1 ∷ 2 ∷ 5 ∷ []) (tag_of deeds.the_type d) → (p : Present) (answers : Bool)
-    → ReplyTo d p answers Nothing
+    → ReplyTo d p answers None
 nothing_said (Change x) h p answers = refl
 nothing_said Complete h p answers = refl
 nothing_said Clear h p answers = refl

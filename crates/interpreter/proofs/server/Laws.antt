@@ -12,7 +12,7 @@ use lib.Seq.{drop-drop, take_at, drop_at, paste, length-paste, take-paste, drop-
 use borrow.Author.Tests.{eqb-true, le-leb, lt-leb, leb-true, ltb-true, ltb-false, leb-false}
 use Rattle.registers.specs.Text.{index_of, index_after}
 use Rattle.registers.specs.Text.{Text, if◌then◌otherwise◌, empty}
-use Rattle.interpreter.specs.Box.{Memory, memory, store_size, most_answer}
+use Rattle.interpreter.specs.Box.{Memory, memory, most_answer}
 use Rattle.interpreter.specs.Events.{happens, taken}
 use Rattle.interpreter.specs.FlowParts.{flow_box, FlowFits, first_line, FlowFed}
 use Rattle.interpreter.specs.Server.{lines_of, Service, service, served_line, serves}
@@ -75,15 +75,14 @@ module _ (f r : Flow) (line out : Text) (m : Memory) (bytes lines left : Text) (
 
 pub record Serving (begun : Service) (room : ℕ) (input line out store output : Text) (f : Flow) (written : ℕ) : Type 0 where
   pub fits : FlowFits f
-  pub sized : length store ≡ store_size
   pub outputs : length output ≡ room
   pub read-in : f.read ≤ length input
   pub wrote : written ≤ length output
   pub left : serves (service_at f written line out (memory store) output) (lines_of (drop f.read input)) ≡ serves begun (lines_of input)
 
-pub serve-begun : (f : Flow) (line out store input output : Text) → FlowFits f → f.read ≡ 0 → length store ≡ store_size
+pub serve-begun : (f : Flow) (line out store input output : Text) → FlowFits f → f.read ≡ 0
     → Serving (service (flow_box f line out (memory store)) 0 [] output) (length output) input line out store output f 0
-serve-begun f line out store input output w z l = record { fits = w; sized = l; outputs = refl; read-in = omega arith; wrote = zero-le; left = rw z }
+serve-begun f line out store input output w z = record { fits = w; outputs = refl; read-in = omega arith; wrote = zero-le; left = rw z }
 
 module _ (begun : Service) (room : ℕ) (input line out store output : Text) (f : Flow) (written : ℕ)
     (g : Serving begun room input line out store output f written) where
@@ -113,9 +112,9 @@ module _ (begun : Service) (room : ℕ) (input line out store output : Text) (f 
           let n = w.read in
           omega arith
 
-      pub serve-on : length store' ≡ length store → length out' ≡ most_answer → (end : ℕ) (output' : Text) → end ≡ written + r.present.answered → output' ≡ paste output written out' r.present.answered
+      pub serve-on : length out' ≡ most_answer → (end : ℕ) (output' : Text) → end ≡ written + r.present.answered → output' ≡ paste output written out' r.present.answered
           → Serving begun room input line' out' store' output' (taken_from r) end
-      serve-on kept outs end output' e u =
+      serve-on outs end output' e u =
           let h = more-input in
           let free = more_room in
           let few = w.fits.waiting in
@@ -132,7 +131,6 @@ module _ (begun : Service) (room : ℕ) (input line out store output : Text) (f 
           (sym one) in
           record {
             fits = record { filled = w.fits.filled; waiting = zero-le; queued = w.fits.queued; few = w.fits.few };
-            sized = kept ∙ g.sized;
             outputs = rw u (long ∙ g.outputs);
             read-in = omega arith;
             wrote = rw (u, long) (omega arith);

@@ -1,6 +1,6 @@
 -- What the code of a block's reading and writing meets: a value shifted by cases of its sign, a block filled row by row, and read so.
 use mathlib.Core.Path.{◌≡◌, refl, sym, ◌∙◌, ap, ap₂}
-use mathlib.Core.Bool.{Bool, true, false, not, false≢true}
+use mathlib.Core.Bool.{Bool, true, false, false≢true}
 use mathlib.Core.List.{List, [], ◌∷◌, ◌++◌, append_assoc, append-nil}
 use Prim.Native.Nat.{ℕ, zero, suc, ◌+◌, ◌-◌, ◌*◌, ◌/◌, ◌%◌, ◌^◌, ◌≤◌, ◌<◌, zero-le}
 use native.Mathlib.Omega.{arith}
@@ -12,13 +12,13 @@ use lib.IntN.{ℤ, pos, negsuc, neg_ℤ, nat_abs}
 use lib.Signed.{lt_z}
 use mir.Syntax.{w32}
 use mir.Val.{SFits}
-use borrow.Author.Tests.{eqb-true, ltb-true, le-leb, lt-leb, not-true, not-false}
+use borrow.Author.Tests.{eqb-true, ltb-true, le-leb, lt-leb}
 use Rattle.registers.specs.Text.{Text, if◌then◌otherwise◌}
 use Rattle.registers.specs.Answer.{over}
 use Rattle.registers.specs.AnswerParts.{over_at, LaidAt}
 use Rattle.registers.specs.Label.{most_text, padded}
-use Rattle.registers.specs.Settings.{at_reset, count, table_count, value_at, possible_settings}
-use Rattle.registers.specs.Setup.{block_size, checked_size, weighted, in_bytes, checks, shifted, unshifted, value_in, values_in, saved_text, read_in, mark_byte, mark_size, marked, settings_in, bytes_of, unused, body, contents, block_of, recallable, said_in}
+use Rattle.registers.specs.Settings.{at_reset, count, table_count, value_at}
+use Rattle.registers.specs.Setup.{block_size, checked_size, weighted, in_bytes, checks, shifted, unshifted, value_in, values_in, saved_text, read_in, mark_byte, mark_size, marked, settings_in, bytes_of, unused, body, contents, block_of}
 use Rattle.registers.specs.declared.settings.Settings.{Settings}
 use Rattle.registers.proofs.Tests.{and_both}
 use Rattle.registers.proofs.answer.Signs.{neg-fits}
@@ -63,9 +63,9 @@ unshift-fits n h = go (leb 256 n) refl
 
 -- ---- a block read
 
-pub checked-long : (b : Text) (t : Bool) → t ≡ checks b → not t ≡ false → length b ≡ block_size
+pub checked-long : (b : Text) → checks b ≡ true → length b ≡ block_size
 unfolding checks
-checked-long b t e n = eqb-true (length b) block_size (and_both (eqb (length b) block_size) _ (sym e ∙ not-false t n)).0
+checked-long b e = eqb-true (length b) block_size (and_both (eqb (length b) block_size) _ e).0
 
 pub value-read : (b : Text) (row x y : ℕ) (r : ℤ) → x ≡ get_or b (row * 2) 0 → y ≡ get_or b (row * 2 + 1) 0 → r ≡ unshifted (x + y * 256) → r ≡ value_in b row
 unfolding value_in
@@ -115,23 +115,6 @@ said-marked b l e = rw e (ap (read_in count) (take_all (block_size - mark_size) 
 
 pub said-unmarked : (b : Text) → marked b ≡ false → read_in table_count b ≡ settings_in b
 said-unmarked b e = sym (unmarked-means b e)
-
-pub recall-no : (b : Text) (t : Bool) → t ≡ checks b → not t ≡ true → false ≡ recallable b
-unfolding recallable
-recall-no b t e n = rw (sym e ∙ not-true t n)
-
--- what it is read as
-pub said-no : (b : Text) (t : Bool) → t ≡ checks b → not t ≡ true → said_in b ≡ at_reset
-unfolding said_in if◌then◌otherwise◌
-said-no b t e n = rw (sym e ∙ not-true t n)
-
-pub said-yes : (b : Text) (t : Bool) → t ≡ checks b → not t ≡ false → said_in b ≡ settings_in b
-unfolding said_in if◌then◌otherwise◌
-said-yes b t e n = rw (sym e ∙ not-false t n)
-
-pub recall-yes : (b : Text) (t r : Bool) (s : Settings) → t ≡ checks b → not t ≡ false → s ≡ settings_in b → r ≡ possible_settings s → r ≡ recallable b
-unfolding recallable
-recall-yes b t r s e n is p = rw (sym e ∙ not-false t n, ← is) p
 
 -- ---- a block filled
 

@@ -5,10 +5,10 @@ use Rattle.interpreter.proofs.flow.feed.Goals as goal
 pub loop-flow-init : goal.loop-flow-init
 loop-flow-init c =
     let a = c.args in
-    feed-begun a.flow a.line.now a.out.now a.store.now a.bytes.now c.requires.0 c.requires.1 c.requires.2
+    feed-begun a.flow a.line.now a.out.now a.store.now a.bytes.now c.requires.0 c.requires.1
 
 pub feed_line-flow-requires : goal.feed_line-flow-requires
-feed_line-flow-requires c = (c.commands-table.ensures, c.loop-flow.invariant.fed.fits, c.loop-flow.invariant.within, c.loop-flow.invariant.sized)
+feed_line-flow-requires c = (c.loop-flow.invariant.fed.fits, c.loop-flow.invariant.within)
 
 pub loop-flow-smaller : goal.loop-flow-smaller
 loop-flow-smaller c =
@@ -19,12 +19,6 @@ loop-flow-smaller c =
 pub loop-flow-preserved : goal.loop-flow-preserved
 loop-flow-preserved c =
     feed-on _ _ _ _ _ _ _ _ _ c.loop-flow.invariant c.loop-flow-test.true c.feed_line-flow.result _ _ _ c.feed_line-flow.ensures
-    c.feed_line-flow.auto.store
-
-pub shape_of-store : goal.shape_of-store
-shape_of-store c =
-    let sized = c.loop-flow.invariant.sized in
-    let was = c.requires.2 in omega arith
 
 pub returns : goal.returns
 returns c = feed-end _ _ _ _ _ _ _ _ _ c.loop-flow.invariant c.loop-flow-test.false

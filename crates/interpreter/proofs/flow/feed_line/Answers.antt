@@ -11,8 +11,8 @@ use Rattle.interpreter.proofs.flow.feed_line.Goals as goal
 pub hold-held-requires : goal.hold-held-requires
 hold-held-requires c =
     let a = c.args in
-    let n = part-read a.bytes.now a.flow.read c.find-end.result c.find-end.ensures.place (c.find-end.ensures.within c.requires.2) c.requires.2 in
-    (c.requires.1, omega arith, part-plain a.bytes.now a.flow.read c.find-end.result c.find-end.ensures.place (c.find-end.ensures.within c.requires.2))
+    let n = part-read a.bytes.now a.flow.read c.find-end.result c.find-end.ensures.place (c.find-end.ensures.within c.requires.1) c.requires.1 in
+    (c.requires.0, omega arith, part-plain a.bytes.now a.flow.read c.find-end.result c.find-end.ensures.place (c.find-end.ensures.within c.requires.1))
 
 pub newline-requires : goal.newline-requires
 newline-requires c =
@@ -21,19 +21,16 @@ newline-requires c =
     let held = c.hold-held.ensures [] blank in
     let n = held.read in
     let more = c.if-end-bytes.true in
-    let l = part-read a.bytes.now a.flow.read c.find-end.result c.find-end.ensures.place (c.find-end.ensures.within c.requires.2) c.requires.2 in
-    (c.requires.0, held.fits, omega (arith, small, n, l, more), c.requires.3)
-
-pub shape_of-store-then-end-bytes : goal.shape_of-store-then-end-bytes
-shape_of-store-then-end-bytes c = c.newline.auto.store
+    let l = part-read a.bytes.now a.flow.read c.find-end.result c.find-end.ensures.place (c.find-end.ensures.within c.requires.1) c.requires.1 in
+    (held.fits, omega (arith, small, n, l, more))
 
 pub returns-then-end-bytes : goal.returns-then-end-bytes
 returns-then-end-bytes c =
     let a = c.args in
-    rw (line-ended a.bytes.now a.flow.read c.find-end.result c.find-end.ensures.place (c.find-end.ensures.within c.requires.2) c.if-end-bytes.true)
+    rw (line-ended a.bytes.now a.flow.read c.find-end.result c.find-end.ensures.place (c.find-end.ensures.within c.requires.1) c.if-end-bytes.true)
     (fed_then _ _ _ _ _ _ _ _ _ _ _ _ _ _ (c.hold-held.ensures a.out.now (memory a.store.now)) c.newline.ensures)
 
 pub returns : goal.returns
 returns c =
     let a = c.args in
-    rw (line-open a.bytes.now a.flow.read c.find-end.result c.find-end.ensures.place (c.find-end.ensures.within c.requires.2) c.if-end-bytes.false) (c.hold-held.ensures a.out.now (memory a.store.now))
+    rw (line-open a.bytes.now a.flow.read c.find-end.result c.find-end.ensures.place (c.find-end.ensures.within c.requires.1) c.if-end-bytes.false) (c.hold-held.ensures a.out.now (memory a.store.now))

@@ -1,8 +1,9 @@
 -- As many bytes are laid after the held ones as there is room for, and the rest is dropped: `held-fed` (flow/Laws).
-use mathlib.Core.Path.{◌≡◌}
+use mathlib.Core.Path.{◌≡◌, refl}
 use lib.ListN.{length}
 use Rattle.interpreter.specs.Box.{most_line}
 use Rattle.interpreter.proofs.flow.Laws.{held-fed}
+use Rattle.interpreter.proofs.Lists.{pasted}
 use borrow.Author.Rules.{rules}
 use Rattle.interpreter.proofs.flow.hold.Goals as goal
 
@@ -10,4 +11,5 @@ pub returns : goal.returns
 returns c =
     let a = c.args in
     let long : length a.line.now ≡ most_line = search rules in
-    held-fed a.flow a.line.now a.part.now c.requires.0 long c.requires.2 c.smaller-n.result c.paste.result _ c.smaller-n.ensures c.paste.ensures.value c.paste.ensures.into_after
+    held-fed a.flow a.line.now a.part.now c.requires.0 long c.requires.2 c.min-n.result _ _ c.min-n.ensures refl
+    (pasted a.line.now a.flow.filled a.part.now c.min-n.result _ c.copy_from_slice.ensures.after)

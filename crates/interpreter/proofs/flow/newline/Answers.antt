@@ -2,7 +2,6 @@
 -- newline does to the box, and the rest counts: one byte and one newline more.
 use mathlib.Core.Path.{◌≡◌, refl}
 use Prim.Native.Nat.{◌<◌, zero-le}
-use native.Mathlib.Nat.{sub-zero}
 use native.Mathlib.Omega.{arith}
 use lib.ListN.{length, take}
 use borrow.Author.Rules.{rules}
@@ -12,14 +11,8 @@ use Rattle.interpreter.specs.Line.{byte, piece, newlines}
 use Rattle.interpreter.proofs.line.Newline.{ended}
 use Rattle.interpreter.proofs.flow.newline.Goals as goal
 
-pub slice_bounds-run_line-count : goal.slice_bounds-run_line-count
-slice_bounds-run_line-count c = zero-le
-
 pub run_line-next-requires : goal.run_line-next-requires
-run_line-next-requires c = record { table_value = (c.requires.0, c.discard-present.ensures.gone); out_len = (search rules, c.discard-present.ensures.queued c.requires.1.queued, c.requires.3) }
-
-pub shape_of-store : goal.shape_of-store
-shape_of-store c = c.run_line-next.auto.store
+run_line-next-requires c = record { answered_eq0 = c.discard-present.ensures.gone; queued = c.discard-present.ensures.queued c.requires.0.queued }
 
 pub returns : goal.returns
 unfolding piece byte newlines if◌then◌otherwise◌
@@ -28,10 +21,10 @@ returns c =
     let f = a.flow in
     let outs : length a.out.now ≡ most_answer = search rules in
     let room : 0 < length a.out.now = omega arith in
-    let few = c.requires.1.few in
+    let few = c.requires.0.few in
     let w = c.run_line-next.ensures in record {
       fits = record { filled = zero-le; waiting = c.run_line-next.ensures.room; queued = c.run_line-next.ensures.queued; few = omega arith };
-      box = rw (← ended f.present a.out.now (memory a.store.now) c.discard-present.result c.discard-present.ensures room (take f.filled a.line.now) f.overlong) (rw sub-zero at c.run_line-next.ensures.box);
+      box = rw (← ended f.present a.out.now (memory a.store.now) c.discard-present.result c.discard-present.ensures room (take f.filled a.line.now) f.overlong) c.run_line-next.ensures.box;
       read = refl;
       count = refl;
     }

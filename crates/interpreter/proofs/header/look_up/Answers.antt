@@ -36,7 +36,7 @@ module _ (t : Text) (path keys : List ℕ) (used b : ℕ) (r : Names) (is : b �
       (omega (arith, fits, first-is at e), (n.found (not-false _ good)).few)
 
 pub read_names-names-requires : goal.read_names-names-requires
-read_names-names-requires c = (c.requires.0, omega arith, c.requires.2)
+read_names-names-requires c = (omega arith, c.requires.1)
 
 pub returns-then-not-names : goal.returns-then-not-names
 returns-then-not-names c =
@@ -47,26 +47,23 @@ pub offset_bounds-path-first : goal.offset_bounds-path-first
 offset_bounds-path-first c =
     let a = c.args in
     let n = c.read_names-names in
-    let kept = n.auto.path ∙ c.requires.2 in
-    let h = begins a.text.now a.path.now n.new.path a.used _ n.result c.byte_at-star.ensures _ c.or_zero-first.ensures c.requires.1 c.requires.2 kept n.ensures c.if-not-names.false in
+    let kept = n.auto.path ∙ c.requires.1 in
+    let h = begins a.text.now a.path.now n.new.path a.used _ n.result c.byte_at-star.ensures _ c.or_zero-first.ensures c.requires.0 c.requires.1 kept n.ensures c.if-not-names.false in
     omega (arith, h.0, h.1)
 
 pub slice_bounds-place_of-start : goal.slice_bounds-place_of-start
 slice_bounds-place_of-start c =
     let a = c.args in
     let n = c.read_names-names in
-    let kept = n.auto.path ∙ c.requires.2 in
-    (begins a.text.now a.path.now n.new.path a.used _ n.result c.byte_at-star.ensures _ c.or_zero-first.ensures c.requires.1 c.requires.2 kept n.ensures c.if-not-names.false).0
+    let kept = n.auto.path ∙ c.requires.1 in
+    (begins a.text.now a.path.now n.new.path a.used _ n.result c.byte_at-star.ensures _ c.or_zero-first.ensures c.requires.0 c.requires.1 kept n.ensures c.if-not-names.false).0
 
 pub slice_bounds-place_of-count : goal.slice_bounds-place_of-count
 slice_bounds-place_of-count c =
     let a = c.args in
     let n = c.read_names-names in
-    let kept = n.auto.path ∙ c.requires.2 in
-    (begins a.text.now a.path.now n.new.path a.used _ n.result c.byte_at-star.ensures _ c.or_zero-first.ensures c.requires.1 c.requires.2 kept n.ensures c.if-not-names.false).0
-
-pub place_of-requires : goal.place_of-requires
-place_of-requires c = c.requires.0
+    let kept = n.auto.path ∙ c.requires.1 in
+    (begins a.text.now a.path.now n.new.path a.used _ n.result c.byte_at-star.ensures _ c.or_zero-first.ensures c.requires.0 c.requires.1 kept n.ensures c.if-not-names.false).0
 
 pub overflow_sub-result : goal.overflow_sub-result
 overflow_sub-result c =
@@ -79,7 +76,7 @@ returns c =
     let t = a.text.now in
     let n = c.read_names-names in
     let keys = n.new.path in
-    let kept = n.auto.path ∙ c.requires.2 in
+    let kept = n.auto.path ∙ c.requires.1 in
     let b = c.byte_at-star in
     let part = part-is keys c.or_zero-first.result n.result.count
     ∙ ap (λ (i : ℕ). drop i (take n.result.count keys)) (first-is t a.path.now keys a.used b.result n.result b.ensures _ c.or_zero-first.ensures) in
@@ -87,4 +84,4 @@ returns c =
     let found = c.place_of.ensures
     ∙ ap (λ (l : List ℕ). place_of (row_of_keys (eqb b.result (code "*")) l n.result.asked) (class_in l)) part
     ∙ ap (λ (s : Bool). place_of (row_of_keys s rest n.result.asked) (class_in rest)) (star-is t a.path.now keys a.used b.result n.result b.ensures) in
-    λ names h. look-found t names a.path.now a.used h c.requires.2 keys kept n.result c.place_of.result n.ensures (not-false _ c.if-not-names.false) found
+    λ names h. look-found t names a.path.now a.used h c.requires.1 keys kept n.result c.place_of.result n.ensures (not-false _ c.if-not-names.false) found

@@ -31,15 +31,12 @@ goes-on text end b lead is next = colon-within text end b is (is-joined b (eqb l
 pub loop-name-init : goal.loop-name-init
 loop-name-init c =
     let small = or-zero-small (not (eqb c.byte_at-lead.result (code ":"))) c.args.used in
-    let e = c.or_zero-count.ensures in naming-start _ _ _ _ _ (omega arith) c.requires.2
-
-pub read-name-requires : goal.read-name-requires
-read-name-requires c = c.requires.0
+    let e = c.or_zero-count.ensures in naming-start _ _ _ _ _ (omega arith) c.requires.1
 
 pub shape_of-path-then-name-eq0 : goal.shape_of-path-then-name-eq0
 shape_of-path-then-name-eq0 c =
     let now = c.loop-name.invariant.long in
-    let was = c.requires.2 in omega arith
+    let was = c.requires.1 in omega arith
 
 pub returns-then-name-eq0 : goal.returns-then-name-eq0
 returns-then-name-eq0 c =
@@ -53,7 +50,7 @@ enter-count-requires c = (c.loop-name.invariant.few, c.loop-name.invariant.long)
 pub shape_of-path-then-star-byte_at : goal.shape_of-path-then-star-byte_at
 shape_of-path-then-star-byte_at c =
     let now = c.loop-name.invariant.long in
-    let was = c.requires.2 in let k = c.enter-count.auto in omega arith
+    let was = c.requires.1 in let k = c.enter-count.auto in omega arith
 
 pub returns-then-star-byte_at : goal.returns-then-star-byte_at
 returns-then-star-byte_at c =

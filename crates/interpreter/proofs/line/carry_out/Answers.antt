@@ -2,6 +2,7 @@
 use Rattle.interpreter.proofs.perform.Permitted.{barred, let_through}
 use Rattle.interpreter.specs.Box.{memory}
 use Rattle.registers.specs.Label.{text_in}
+use Rattle.registers.specs.declared.error.Error.TheVariants.{SettingsConflict}
 use Rattle.interpreter.proofs.reply.Values.{ordinary-other}
 use Rattle.interpreter.proofs.line.Laws.{deed-barred}
 use borrow.Enum.Refused.{opened}
@@ -10,23 +11,20 @@ use Rattle.interpreter.proofs.line.carry_out.Goals as goal
 pub returns-then-not-is_permitted : goal.returns-then-not-is_permitted
 returns-then-not-is_permitted c =
     let a = c.args in
-    let bar = barred _ _ c.is_permitted.result c.is_permitted.ensures c.if-not-is_permitted.true-raw in
-    deed-barred a.present a.deed (text_in a.string.now) a.used a.out.now (memory a.store.now) c.requires.out_len.1 c.requires.allowed.1 _ c.stop.result c.stop.ensures bar
+    deed-barred a.present a.deed (text_in a.string.now) a.out.now (memory a.store.now) SettingsConflict
+    (barred _ _ c.is_permitted.result c.is_permitted.ensures c.if-not-is_permitted.true-raw)
 
-pub set_up-requires : goal.set_up-requires
-set_up-requires c =
-    let is = c.in-Saving.is in let free = let_through _ _ c.is_permitted.result c.is_permitted.ensures c.if-not-is_permitted.false-raw in
-    record { status_value = (rw is at free, rw is at c.requires.allowed.0, c.requires.out_len.2); answered_lt_most_answer = (c.requires.allowed.1, c.requires.out_len.1) }
+pub set_up-requires-clause-let_pass : goal.set_up-requires-clause-let_pass
+set_up-requires-clause-let_pass c =
+    let is = c.in-Saving.is in
+    let free = let_through _ _ c.is_permitted.result c.is_permitted.ensures c.if-not-is_permitted.false-raw in
+    (rw is at free, rw is at c.requires.allowed.0)
 
 pub returns-in-Saving : goal.returns-in-Saving
-returns-in-Saving c =
-    let a = c.args in
-    rw c.in-Saving.is (c.set_up.ensures (text_in a.string.now) a.out.now)
+returns-in-Saving c = rw c.in-Saving.is (c.set_up.ensures (text_in c.args.string.now) c.args.out.now)
 
 pub do_deed-requires : goal.do_deed-requires
 do_deed-requires c =
     let free = let_through _ _ c.is_permitted.result c.is_permitted.ensures c.if-not-is_permitted.false-raw in
-    record { status_value = (free, c.requires.allowed.0, ordinary-other c.args.deed (opened c.in_default.in_default-own.keys2)); answered_lt_most_answer = (c.requires.allowed.1, c.requires.out_len.0, c.requires.out_len.1, c.requires.allowed.2) }
-
-pub returns-in_default : goal.returns-in_default
-returns-in_default c = c.do_deed.ensures (memory c.args.store.now)
+    let allowed = c.requires.allowed in
+    record { let_pass = (free, allowed.0, allowed.1, ordinary-other c.args.deed (opened c.in_default.in_default-own.keys2)); running = c.requires.running }

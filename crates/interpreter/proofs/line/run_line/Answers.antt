@@ -6,7 +6,7 @@ use native.Mathlib.Omega.{arith}
 use lib.ListN.{length}
 use Rattle.registers.specs.Text.{white, every}
 use Rattle.registers.specs.declared.error.Error.TheVariants.{InputBufferOverrun}
-use Rattle.interpreter.specs.Box.{memory}
+use Rattle.interpreter.specs.Box.{memory, most_answer}
 use Rattle.interpreter.specs.PresentParts.{raised_with}
 use Rattle.registers.specs.Queue.{most}
 use Rattle.interpreter.proofs.present.Laws.{raised-short}
@@ -20,9 +20,9 @@ returns-then-overlong c =
     let a = c.args in
     let s = c.well_formed.1.0.1.1.1.0.1.1 in
     let long : length a.present.status.errors ≡ most = search rules in
-    let raised = c.raise.ensures in let none = c.requires.table_value.1 in
+    let raised = c.raise.ensures in let none = c.requires.answered_eq0 in
     record {
-      queued = rw raised (raised-short InputBufferOverrun a.present long c.requires.out_len.1);
+      queued = rw raised (raised-short InputBufferOverrun a.present long c.requires.queued);
       room = rw (raised, none) (omega arith);
       box = rw (raised, none) (line-overlong a.present a.line.now a.overlong (memory a.store.now) long c.if-overlong.true);
     }
@@ -30,9 +30,9 @@ returns-then-overlong c =
 pub returns-then-white_end-line : goal.returns-then-white_end-line
 returns-then-white_end-line c =
     let a = c.args in
-    let none = c.requires.table_value.1 in
+    let none = c.requires.answered_eq0 in
     record {
-      queued = c.requires.out_len.1;
+      queued = c.requires.queued;
       room = rw none (omega arith);
       box = rw none (line-blank a.present a.line.now a.overlong (memory a.store.now) c.if-overlong.false (blank a.line.now c.white_end.result c.white_end.ensures c.if-white_end-line.true));
     }
@@ -40,34 +40,25 @@ returns-then-white_end-line c =
 pub run_units-ran-requires : goal.run_units-ran-requires
 run_units-ran-requires c = c.requires
 
-pub shape_of-out-then-answered-eq0 : goal.shape_of-out-then-answered-eq0
-shape_of-out-then-answered-eq0 c = c.run_units-ran.auto.out
-
-pub shape_of-store-then-answered-eq0 : goal.shape_of-store-then-answered-eq0
-shape_of-store-then-answered-eq0 c = c.run_units-ran.auto.store
-
 pub returns-then-answered-eq0 : goal.returns-then-answered-eq0
 returns-then-answered-eq0 c =
     let visible : every white c.args.line.now ≡ false = not-blank c.args.line.now c.white_end.result c.white_end.ensures c.if-white_end-line.false in
     let a = c.args in
-    let w = c.run_units-ran.ensures in let room = c.run_units-ran.ensures.room in
+    let w = c.run_units-ran.ensures in let room = c.run_units-ran.ensures.running.room in
     record {
-      queued = c.run_units-ran.ensures.queued;
+      queued = c.run_units-ran.ensures.running.queued;
       room = omega arith;
       box = line-none a.present a.line.now a.overlong (memory a.store.now) c.if-overlong.false visible c.run_units-ran.result _ _ w c.if-answered-eq0.true;
     }
-
-pub shape_of-store : goal.shape_of-store
-shape_of-store c = c.run_units-ran.auto.store
 
 pub returns : goal.returns
 returns c =
     let visible : every white c.args.line.now ≡ false = not-blank c.args.line.now c.white_end.result c.white_end.ensures c.if-white_end-line.false in
     let a = c.args in
-    let w = c.run_units-ran.ensures in let room = c.run_units-ran.ensures.room in
-    let k = c.run_units-ran.auto in let was = c.requires.out_len.0 in
+    let w = c.run_units-ran.ensures in let room = c.run_units-ran.ensures.running.room in
+    let long : length c.run_units-ran.new.out ≡ most_answer = search rules in
     record {
-      queued = c.run_units-ran.ensures.queued;
+      queued = c.run_units-ran.ensures.running.queued;
       room = omega arith;
-      box = line-some a.present a.line.now a.overlong (memory a.store.now) c.if-overlong.false visible c.run_units-ran.result _ _ w c.if-answered-eq0.false (omega arith);
+      box = line-some a.present a.line.now a.overlong (memory a.store.now) c.if-overlong.false visible c.run_units-ran.result _ _ w c.if-answered-eq0.false long;
     }

@@ -1,33 +1,30 @@
 -- A unit is refused by its reading, or carried out: each way is a law of `line/Laws`.
-use Prim.Native.Nat.{◌≤◌}
-use lib.ListN.{length}
+use Rattle.std.proofs.lemmas.Result.{err_from_is_err_and}
 use Rattle.interpreter.specs.Box.{memory}
-use Rattle.interpreter.proofs.line.Laws.{unit-part, unit-allowed, unit-said, unit-refused, unit-carried}
+use Rattle.interpreter.proofs.line.Laws.{unit-refused, unit-allowed, unit-said, unit-barred, unit-carried}
 use Rattle.interpreter.proofs.line.run_unit.Goals as goal
 
 pub returns-in-Refused : goal.returns-in-Refused
 returns-in-Refused c =
     let a = c.args in
-    λ names h. unit-refused a.done names a.unit.now c.read-reading.new.path c.read-reading.result.decision c.read-reading.result.given c.read-reading.result.used (c.read-reading.ensures names h)
-    a.out.now (memory a.store.now) c.requires.answered_lt_most_answer.2 c.requires.answered_lt_most_answer.0 _ c.stop.result c.stop.ensures c.in-Refused.is
+    λ names h. let r = c.read-reading.result in unit-refused a.done.present names a.unit.now c.read-reading.new.path r.given r.used _ (rw c.in-Refused.is at (c.read-reading.ensures names h)) a.out.now (memory a.store.now)
 
-pub slice_bounds-carry_out-count : goal.slice_bounds-carry_out-count
-slice_bounds-carry_out-count c =
-    let part : let g = c.read-reading.result.given in (g.from ≤ g.to) × (g.to ≤ length c.args.unit.now) = let a = c.args in
-    let held = c.requires.table_value.1 in
-    unit-part a.done held.0 a.unit.now c.read-reading.new.path c.read-reading.result.decision c.read-reading.result.given c.read-reading.result.used (c.read-reading.ensures held.0 held.1) _ c.in-Obey.is in
-    part.0
-
-pub carry_out-requires : goal.carry_out-requires
-carry_out-requires c =
+pub carry_out-requires-clause-allowed : goal.carry_out-requires-clause-allowed
+carry_out-requires-clause-allowed c =
     let a = c.args in
-    let held = c.requires.table_value.1 in
-    let allowed = unit-allowed a.done held.0 a.unit.now c.read-reading.new.path c.read-reading.result.decision c.read-reading.result.given c.read-reading.result.used (c.read-reading.ensures held.0 held.1) _ c.in-Obey.is in
-    let said = unit-said a.done held.0 a.unit.now c.read-reading.new.path c.read-reading.result.decision c.read-reading.result.given c.read-reading.result.used (c.read-reading.ensures held.0 held.1) _ c.in-Obey.is in
-    record { allowed = (allowed, c.requires.answered_lt_most_answer.0, said); out_len = (c.requires.answered_lt_most_answer.1, c.requires.answered_lt_most_answer.2, c.requires.answered_lt_most_answer.3) }
+    let held = c.requires.path_held in
+    let read = rw c.in-Obey.is at (c.read-reading.ensures held.0 held.1) in
+    (unit-allowed a.done.present held.0 a.unit.now _ _ _ _ read, unit-said a.done.present held.0 a.unit.now _ _ _ _ read)
 
-pub returns-in-Obey : goal.returns-in-Obey
-returns-in-Obey c =
+pub returns-in_err-present-in-Obey : goal.returns-in_err-present-in-Obey
+returns-in_err-present-in-Obey c =
     let a = c.args in
-    λ names h. unit-carried a.done names a.unit.now c.read-reading.new.path c.read-reading.result.decision c.read-reading.result.given c.read-reading.result.used (c.read-reading.ensures names h)
-    a.out.now (memory a.store.now) _ c.in-Obey.is c.carry_out.result _ _ c.carry_out.ensures
+    let x = err_from_is_err_and c.from_residual.result c.from_residual.ensures.1 in
+    λ names h. rw (x.1, x.2)
+    (unit-barred a.done.present names a.unit.now _ _ _ _ (rw c.in-Obey.is at (c.read-reading.ensures names h)) _ a.out.now _ (memory a.store.now) _ c.in_err-present-in-Obey.ensures)
+
+pub returns-in_ok-present-in-Obey : goal.returns-in_ok-present-in-Obey
+returns-in_ok-present-in-Obey c =
+    let a = c.args in
+    λ names h. unit-carried a.done.present names a.unit.now _ _ _ _ (rw c.in-Obey.is at (c.read-reading.ensures names h)) _ a.out.now _ (memory a.store.now) _
+    c.in_ok-present-in-Obey.ensures

@@ -1,29 +1,28 @@
 -- *SAV lays its block over the store; *RCL takes the block's settings, or is refused: each way is a law of `line/Setups`.
-use mathlib.Core.Path.{refl, ◌∙◌}
+use mathlib.Core.Path.{refl}
 use Rattle.interpreter.proofs.line.Setups.{block-laid, block_read, saved, recalled, lost}
 use Rattle.interpreter.proofs.line.set_up.Goals as goal
 
 pub returns-in-Save : goal.returns-in-Save
 returns-in-Save c =
     let a = c.args in
-    let told = c.in-Save.is in let laid = rw c.block_of-block.ensures at c.paste.ensures.into_after in
+    let told = c.in-Save.is in
     λ t out. rw told
-    (saved a.present a.place a.used a.store.now c.requires.answered_lt_most_answer.1 c.requires.answered_lt_most_answer.0 (rw told at c.requires.status_value.0) _
-    (laid ∙ block-laid a.place _ a.present.settings a.store.now refl) t out)
+    (saved a.present a.place a.store.now t out c.requires.running (rw told at c.requires.let_pass.0) _
+    (rw (c.copy_from_slice.ensures.after, c.block_of-block.ensures) (block-laid a.place a.present.settings a.store.now)))
 
-pub returns-then-not-good : goal.returns-then-not-good
-returns-then-not-good c =
+pub returns-in-Ok : goal.returns-in-Ok
+returns-in-Ok c =
     let a = c.args in
-    let told = c.in-Recall.is in let tells = rw (block_read a.place _ _ a.store.now refl refl) at c.recall-recalled.ensures.good_value in
+    let told = c.in-Recall.is in
+    let read = block_read a.place _ _ a.store.now refl refl in
     λ t out. rw told
-    (lost a.present a.place a.used a.store.now c.requires.answered_lt_most_answer.1 c.requires.answered_lt_most_answer.0 (rw told at c.requires.status_value.0) c.recall-recalled.result.good tells
-    c.if-not-good.true-raw c.stop.result c.stop.ensures t out)
+    (recalled a.present a.place a.store.now t out (rw told at c.requires.let_pass.0) c.requires.running c.in-Ok.settings (rw read at c.in-Ok.ensures.good_value)
+    (rw read at c.in-Ok.ensures.settings_value))
 
-pub returns-in-Recall : goal.returns-in-Recall
-returns-in-Recall c =
+pub returns-in-Err : goal.returns-in-Err
+returns-in-Err c =
     let a = c.args in
-    let told = c.in-Recall.is in let good = rw (block_read a.place _ _ a.store.now refl refl) at c.recall-recalled.ensures.good_value in
-    let says = rw (block_read a.place _ _ a.store.now refl refl) at c.recall-recalled.ensures.settings_value in
+    let told = c.in-Recall.is in
     λ t out. rw told
-    (recalled a.present a.place a.used a.store.now c.requires.answered_lt_most_answer.1 c.requires.answered_lt_most_answer.0 (rw told at c.requires.status_value.0) c.recall-recalled.result.good good
-    c.if-not-good.false-raw c.recall-recalled.result.settings says t out)
+    (lost a.present a.place a.store.now t out (rw told at c.requires.let_pass.0) (rw (block_read a.place _ _ a.store.now refl refl) at c.in-Err.ensures.good_value))

@@ -9,9 +9,6 @@ loop-i-init c = spelled_none _ _
 pub bounds-text-i : goal.bounds-text-i
 bounds-text-i c = c.loop-i-test.true
 
-pub code-c-requires : goal.code-c-requires
-code-c-requires c = c.requires
-
 pub returns-then-c-eq0 : goal.returns-then-c-eq0
 returns-then-c-eq0 c = spelled-stop c.loop-i.invariant c.loop-i-test.true _ c.code-c.ensures c.if-c-eq0.true
 

@@ -71,14 +71,14 @@ pub returns-in-Refused : goal.returns-in-Refused
 returns-in-Refused c =
     let a = c.args in
     let h = a.heading in
-    barred a.settings h.place h.asked a.text.now c.requires.table_value.1 c.if-text-eq0.false c.requires.asked_in_bounds.1
+    barred a.settings h.place h.asked a.text.now c.requires.place_lt_count c.if-text-eq0.false c.requires.asked_in_bounds.1
     (refused-by (read_is h.place h.asked a.text.now _ _ c.setting_takes.ensures c.read_parameter-parameter.ensures) c.in-Refused.is)
 
 pub word_value-requires : goal.word_value-requires
 word_value-requires c =
     let a = c.args in
     let h = a.heading in
-    let few = words-few h.place c.requires.table_value.1 in
+    let few = words-few h.place c.requires.place_lt_count in
     omega (arith, placed h.place h.asked a.text.now _ _ c.setting_takes.ensures c.read_parameter-parameter.ensures _ c.in-Word.is)
 
 pub returns-in-Word : goal.returns-in-Word
@@ -90,9 +90,9 @@ returns-in-Word c =
     rw c.decide_value.ensures
     (ap (λ z. put_fit a.settings h.place h.asked (Within z) On) (back c.word_value.result c.word_value.type_inv ∙ c.word_value.ensures)
     ∙ ap (λ f. put_fit a.settings h.place h.asked f On)
-    (fit-within a.settings h.place _ (word-within a.settings h.place c.requires.table_value.1 c.in-Word.word (placed h.place h.asked a.text.now _ _ takes read _ c.in-Word.is)))
+    (fit-within a.settings h.place _ (word-within a.settings h.place c.requires.place_lt_count c.in-Word.word (placed h.place h.asked a.text.now _ _ takes read _ c.in-Word.is)))
     ∙ ap (put_fit a.settings h.place h.asked _) (word_on (kind_of h.place) c.in-Word.word)
-    ∙ carried a.settings h.place h.asked a.text.now c.requires.table_value.1 c.if-text-eq0.false c.requires.asked_in_bounds.1
+    ∙ carried a.settings h.place h.asked a.text.now c.requires.place_lt_count c.if-text-eq0.false c.requires.asked_in_bounds.1
     (word-by (read_is h.place h.asked a.text.now _ _ takes read) c.in-Word.is))
 
 pub returns-in-Figure : goal.returns-in-Figure
@@ -100,5 +100,5 @@ returns-in-Figure c =
     let a = c.args in
     let h = a.heading in
     rw (c.decide_value-in-Figure.ensures, c.figure_value.ensures)
-    (carried a.settings h.place h.asked a.text.now c.requires.table_value.1 c.if-text-eq0.false c.requires.asked_in_bounds.1
+    (carried a.settings h.place h.asked a.text.now c.requires.place_lt_count c.if-text-eq0.false c.requires.asked_in_bounds.1
     (figure-by (read_is h.place h.asked a.text.now _ _ c.setting_takes.ensures c.read_parameter-parameter.ensures) c.in-Figure.is))

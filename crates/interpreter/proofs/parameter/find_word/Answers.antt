@@ -5,10 +5,10 @@ use Rattle.interpreter.proofs.parameter.Words.{search-hit, search-miss, search-e
 use Rattle.interpreter.proofs.parameter.find_word.Goals as goal
 
 pub loop-n-init : goal.loop-n-init
-loop-n-init c = record { room = c.requires.1; left = refl }
+loop-n-init c = record { room = c.requires; left = refl }
 
 pub is_word-requires : goal.is_word-requires
-is_word-requires c = (c.requires.0, omega arith)
+is_word-requires c = omega arith
 
 pub returns-then-is_word : goal.returns-then-is_word
 returns-then-is_word c = search-hit c.loop-n.invariant (omega arith) (sym c.is_word.ensures ∙ c.if-is_word.true)

@@ -6,12 +6,12 @@ use Rattle.interpreter.proofs.reply.of_inquiry.Goals as goal
 
 pub returns-in-StandardEvents : goal.returns-in-StandardEvents
 unfolding text_of inquiry_text
-returns-in-StandardEvents c = rw c.in-StandardEvents.is (λ label. record { is = refl; some = refl })
+returns-in-StandardEvents c = rw c.in-StandardEvents.is (λ label. record { is = refl })
 
 pub returns-in-StatusByte : goal.returns-in-StatusByte
 unfolding text_of inquiry_text
-returns-in-StatusByte c = rw (c.in-StatusByte.is, c.status_byte.ensures) (λ label. record { is = refl; some = refl })
+returns-in-StatusByte c = rw (c.in-StatusByte.is, c.from.ensures, c.status_byte.ensures) (λ label. record { is = refl })
 
 pub returns-in-NextError : goal.returns-in-NextError
 unfolding text_of inquiry_text
-returns-in-NextError c = rw (c.in-NextError.is, c.oldest.ensures) (λ label. record { is = refl; some = refl })
+returns-in-NextError c = rw (c.in-NextError.is, c.oldest.ensures) (λ label. record { is = refl })

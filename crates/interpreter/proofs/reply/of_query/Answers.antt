@@ -11,15 +11,15 @@ use Rattle.interpreter.proofs.reply.of_query.Goals as goal
 
 pub returns-in-Identity : goal.returns-in-Identity
 unfolding text_of reply_to
-returns-in-Identity c = rw c.in-Identity.is (record { is = refl; some = refl })
+returns-in-Identity c = rw c.in-Identity.is (record { is = refl })
 
 pub returns-in-SelfTest : goal.returns-in-SelfTest
 unfolding text_of reply_to decimal in_places bytes if◌then◌otherwise◌
-returns-in-SelfTest c = rw c.in-SelfTest.is (record { is = refl; some = refl })
+returns-in-SelfTest c = rw c.in-SelfTest.is (record { is = refl })
 
 pub returns-in-Completed : goal.returns-in-Completed
 unfolding text_of reply_to decimal in_places bytes if◌then◌otherwise◌
-returns-in-Completed c = rw c.in-Completed.is (record { is = refl; some = refl })
+returns-in-Completed c = rw c.in-Completed.is (record { is = refl })
 
 pub returns-in-Limit : goal.returns-in-Limit
 unfolding reply_to
@@ -35,16 +35,16 @@ returns-in-Value c =
 
 pub returns-in-Stored : goal.returns-in-Stored
 unfolding text_of reply_to
-returns-in-Stored c = rw (c.in-Stored.is, c.register.ensures) (record { is = refl; some = refl })
+returns-in-Stored c = rw (c.in-Stored.is, c.register.ensures) (record { is = refl })
 
 pub returns-in-Condition : goal.returns-in-Condition
 unfolding text_of reply_to
-returns-in-Condition c = rw (c.in-Condition.is, c.group.ensures) (record { is = refl; some = refl })
+returns-in-Condition c = rw (c.in-Condition.is, c.group.ensures) (record { is = refl })
 
 pub returns-in-SetEvents : goal.returns-in-SetEvents
 unfolding text_of reply_to
-returns-in-SetEvents c = rw (c.in-SetEvents.is, c.group-in-SetEvents.ensures) (record { is = refl; some = refl })
+returns-in-SetEvents c = rw (c.in-SetEvents.is, c.group-in-SetEvents.ensures) (record { is = refl })
 
 pub returns-in-Label : goal.returns-in-Label
 unfolding text_of reply_to
-returns-in-Label c = rw c.in-Label.is (record { is = refl; some = refl })
+returns-in-Label c = rw c.in-Label.is (record { is = refl })

@@ -1,3 +1,5 @@
+use mathlib.Core.Path.{◌∙◌, ap}
+use Rattle.interpreter.specs.TableParts.{start_of}
 use Rattle.interpreter.proofs.Lists.{fewer}
 use Rattle.interpreter.proofs.rows.Rows.{nodes-few, node-known, unformed, is-formed}
 use Rattle.interpreter.proofs.rows.Search.{seek-start, seek-end, skip-form, try-start, try-on, try-missed, try-left, try-done}
@@ -5,13 +7,13 @@ use native.Mathlib.Omega.{arith}
 use Rattle.interpreter.proofs.rows.find.Goals as goal
 
 pub start_row-next-requires : goal.start_row-next-requires
-start_row-next-requires c = c.requires
+start_row-next-requires c = c.mark.ensures.small
 
 pub rows-init : goal.rows-init
-rows-init c = seek-start c.start_row-next.ensures
+rows-init c = seek-start (c.start_row-next.ensures ∙ ap start_of c.mark.ensures.is)
 
 pub row_cell-requires : goal.row_cell-requires
-row_cell-requires c = (c.requires, c.rows-test.true, omega arith)
+row_cell-requires c = (c.rows-test.true, omega arith)
 
 pub rows-smaller-then-row_cell-bit-eq0 : goal.rows-smaller-then-row_cell-bit-eq0
 rows-smaller-then-row_cell-bit-eq0 c = fewer c.rows-test.true
@@ -22,7 +24,7 @@ rows-preserved-then-row_cell-bit-eq0 c =
     skip-form c.rows.invariant c.rows-test.true f
 
 pub row_cell-n-requires : goal.row_cell-n-requires
-row_cell-n-requires c = (c.requires, c.rows-test.true, omega arith)
+row_cell-n-requires c = (c.rows-test.true, omega arith)
 
 pub loop-passed-init : goal.loop-passed-init
 loop-passed-init c =
@@ -36,13 +38,13 @@ pub row_cell-requires-in-loop-passed : goal.row_cell-requires-in-loop-passed
 row_cell-requires-in-loop-passed c =
     let w = c.loop-passed.invariant in let f = nodes-few _ c.loop-passed.invariant.known in
     let k = c.loop-passed.invariant.count in
-    (c.requires, c.loop-passed.invariant.known, omega arith)
+    (c.loop-passed.invariant.known, omega arith)
 
 pub take_node-walk-requires : goal.take_node-walk-requires
 take_node-walk-requires c =
     let w = c.loop-passed.invariant in let n = c.loop-passed.invariant.count in
     let k = node-known _ c.loop-passed.invariant.known c.loop-passed.passed (omega arith) in
-    (c.requires, c.loop-passed.invariant.within, rw c.row_cell-in-loop-passed.ensures k)
+    (c.loop-passed.invariant.within, rw c.row_cell-in-loop-passed.ensures k)
 
 pub rows-smaller-in-Missed : goal.rows-smaller-in-Missed
 rows-smaller-in-Missed c = fewer c.rows-test.true

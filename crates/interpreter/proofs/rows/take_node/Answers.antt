@@ -8,11 +8,11 @@ use Rattle.interpreter.proofs.rows.take_node.Goals as goal
 pub returns-then-names-at : goal.returns-then-names-at
 returns-then-names-at c =
     let a = c.args in
-    rw c.leave_out.ensures (walk_end a.node a.names.now a.at c.requires.1 c.if-names-at.true)
+    rw c.leave_out.ensures (walk_end a.node a.names.now a.at c.requires.0 c.if-names-at.true)
 
 pub spells-requires : goal.spells-requires
 unfolding word_in
-spells-requires c = (c.requires.0, c.requires.2)
+spells-requires c = c.requires.1
 
 pub returns-then-spells : goal.returns-then-spells
 unfolding word_in

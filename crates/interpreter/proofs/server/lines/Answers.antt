@@ -1,29 +1,22 @@
 use mathlib.Core.Path.{◌≡◌, refl}
 use native.Mathlib.Omega.{arith}
 use lib.ListN.{length}
+use Rattle.interpreter.proofs.Lists.{pasted}
 use borrow.Author.Rules.{rules}
 use Rattle.interpreter.specs.Box.{most_answer}
-use Rattle.interpreter.proofs.server.Laws.{serve-begun, more-input, more_room, serve-further, serve-on, serve-end}
+use Rattle.interpreter.proofs.server.Laws.{serve-begun, more-input, serve-further, serve-on, serve-end}
 use Rattle.interpreter.proofs.server.lines.Goals as goal
 
 pub loop-flow-init : goal.loop-flow-init
 loop-flow-init c =
     let a = c.args in
-    serve-begun a.flow a.line.now a.out.now a.store.now a.input.now a.output.now c.requires.0 c.requires.1 c.requires.2
+    serve-begun a.flow a.line.now a.out.now a.store.now a.input.now a.output.now c.requires.0 c.requires.1
 
 pub overflow_sub-output : goal.overflow_sub-output
 overflow_sub-output c = let wrote = c.loop-flow.invariant.wrote in omega arith
 
 pub feed_line-flow-requires : goal.feed_line-flow-requires
-feed_line-flow-requires c = (c.commands-table.ensures, c.loop-flow.invariant.fits, c.loop-flow.invariant.read-in, c.loop-flow.invariant.sized)
-
-pub paste-written-requires : goal.paste-written-requires
-paste-written-requires c =
-    let outs : length c.feed_line-flow.new.out ≡ most_answer = search rules in
-    let few = c.feed_line-flow.ensures.fits.waiting in
-    let long = outs in
-    let free = more_room _ _ _ _ _ _ _ _ _ c.loop-flow.invariant c.loop-flow-test.true in
-    (omega arith, omega arith)
+feed_line-flow-requires c = (c.loop-flow.invariant.fits, c.loop-flow.invariant.read-in)
 
 pub loop-flow-smaller : goal.loop-flow-smaller
 loop-flow-smaller c =
@@ -34,12 +27,7 @@ loop-flow-smaller c =
 pub loop-flow-preserved : goal.loop-flow-preserved
 loop-flow-preserved c =
     let outs : length c.feed_line-flow.new.out ≡ most_answer = search rules in
-    serve-on _ _ _ _ _ _ _ _ _ c.loop-flow.invariant c.loop-flow-test.true c.feed_line-flow.result _ _ _ c.feed_line-flow.ensures c.feed_line-flow.auto.store outs c.paste-written.result _ c.paste-written.ensures.value c.paste-written.ensures.into_after
-
-pub shape_of-store : goal.shape_of-store
-shape_of-store c =
-    let sized = c.loop-flow.invariant.sized in
-    let was = c.requires.2 in omega arith
+    serve-on _ _ _ _ _ _ _ _ _ c.loop-flow.invariant c.loop-flow-test.true c.feed_line-flow.result _ _ _ c.feed_line-flow.ensures outs _ _ refl (pasted _ _ _ _ _ c.copy_from_slice.ensures.after)
 
 pub shape_of-output : goal.shape_of-output
 shape_of-output c = let now = c.loop-flow.invariant.outputs in omega arith

@@ -1,5 +1,8 @@
 -- A chunk on a state: refused with nothing changed, or its parts are lent to a flow, the lines are served, and the flow is a state again (server/Chunks).
-use mathlib.Core.Path.{refl}
+use mathlib.Core.Path.{◌≡◌, refl, sym, ◌∙◌}
+use lib.ListN.{length}
+use borrow.Author.Rules.{rules}
+use Rattle.interpreter.specs.Box.{store_size}
 use Rattle.interpreter.proofs.state.Records.{flow-fits}
 use Rattle.interpreter.proofs.server.Chunks.{refused-chunk, served-chunk}
 use Rattle.interpreter.proofs.server.serve.Goals as goal
@@ -8,10 +11,12 @@ pub returns-in-Err : goal.returns-in-Err
 returns-in-Err c = let a = c.args in refused-chunk a.state a.store.now a.input.now a.output.now c.in-Err.refusal c.in-Err.ensures
 
 pub lines-done-requires : goal.lines-done-requires
-lines-done-requires c = (flow-fits _ _ _ c.in-Ok.ensures, rw c.in-Ok.ensures.is refl, c.in-Ok.ensures.sized)
+lines-done-requires c = (flow-fits _ _ _ c.in-Ok.ensures, rw c.in-Ok.ensures.is refl)
 
 pub returns : goal.returns
 returns c =
     let a = c.args in
+    let long : length c.lines-done.new.store ≡ store_size = search rules in
+    let whole = rw c.unwrap-store.ensures at c.as_mut_array.ensures.cases in
     rw c.keep.ensures
-    (served-chunk a.state a.store.now a.input.now a.output.now c.in-Ok.flow c.in-Ok.ensures c.lines-done.result _ _ _ _ c.lines-done.auto.store c.lines-done.ensures)
+    (served-chunk a.state a.store.now a.input.now a.output.now c.in-Ok.flow c.in-Ok.ensures c.lines-done.result _ _ _ _ (long ∙ sym c.in-Ok.ensures.sized) (rw whole.same at c.lines-done.ensures))

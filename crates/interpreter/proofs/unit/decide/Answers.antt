@@ -71,7 +71,7 @@ decide_setting-requires c =
     let least-let : fewest-of ≤ parts-of = enough c.role_of-role.result parts-of c.args.heading.asked (rw c.most-most.ensures at c.if-asked-counted.false) in
     let given : let t = c.args.text.now in parts_of t ≡ parameters t = let a = c.args in
     let m = most-let in
-    parts_are a.text.now c.requires.2 c.count-counted.result c.count-counted.ensures (omega (arith, greatest-one c.role_of-role.result a.heading.asked)) in
+    parts_are a.text.now c.requires.1 c.count-counted.result c.count-counted.ensures (omega (arith, greatest-one c.role_of-role.result a.heading.asked)) in
     let many : parts-of ≡ length (parts_of c.args.text.now) = c.count-counted.ensures.parts ∙ sym (ap length given) in
     let setting-told : let row = c.args.heading.place in (c.role_of-role.result ≡ Setting row) × (row < count) = let a = c.args in
     let known = setting-known a.heading.place _ (omega arith) (sym c.role_of-role.ensures ∙ c.in-Setting.is) in
@@ -80,7 +80,7 @@ decide_setting-requires c =
     let told = setting-told in
     let few = subst (λ (r : Role). least r a.heading.asked ≤ parts-of) told.0 least-let in
     let most = subst (λ (r : Role). parts-of ≤ greatest r a.heading.asked) told.0 most-let in
-    record { table_value = (c.requires.0, told.1); asked_in_bounds = (omega (arith, few, many), omega (arith, most, many)) }
+    record { place_lt_count = told.1; asked_in_bounds = (omega (arith, few, many), omega (arith, most, many)) }
 
 pub returns-in-Setting : goal.returns-in-Setting
 unfolding check ◌>>◌
@@ -95,7 +95,7 @@ returns-in-Setting c =
     let least-let : fewest-of ≤ parts-of = enough c.role_of-role.result parts-of c.args.heading.asked (rw c.most-most.ensures at c.if-asked-counted.false) in
     let given : let t = c.args.text.now in parts_of t ≡ parameters t = let a = c.args in
     let m = most-let in
-    parts_are a.text.now c.requires.2 c.count-counted.result c.count-counted.ensures (omega (arith, greatest-one c.role_of-role.result a.heading.asked)) in
+    parts_are a.text.now c.requires.1 c.count-counted.result c.count-counted.ensures (omega (arith, greatest-one c.role_of-role.result a.heading.asked)) in
     let passes : (r : Role) → let a = c.args in c.role_of-role.result ≡ r → (d : Decision) → meant_deed d ≡ deed_of a.settings r a.heading.asked (parts_of a.text.now) → meant_deed d ≡ decided a.settings a.heading.place a.heading.asked a.text.now = λ r q d is. let a = c.args in
     let m = most-let in
     let said = subst (λ (r : Role). meant_deed d ≡ deed_of a.settings r a.heading.asked (parts_of a.text.now)) (sym q) is in
@@ -104,9 +104,6 @@ returns-in-Setting c =
     let known = setting-known a.heading.place _ (omega arith) (sym c.role_of-role.ensures ∙ c.in-Setting.is) in
     (c.in-Setting.is ∙ ap Setting known.0, known.1) in
     passes _ setting-told.0 c.decide_setting.result c.decide_setting.ensures
-
-pub decide_register-requires : goal.decide_register-requires
-decide_register-requires c = c.requires.0
 
 pub returns-in-Register : goal.returns-in-Register
 unfolding check ◌>>◌
@@ -121,7 +118,7 @@ returns-in-Register c =
     let least-let : fewest-of ≤ parts-of = enough c.role_of-role.result parts-of c.args.heading.asked (rw c.most-most.ensures at c.if-asked-counted.false) in
     let given : let t = c.args.text.now in parts_of t ≡ parameters t = let a = c.args in
     let m = most-let in
-    parts_are a.text.now c.requires.2 c.count-counted.result c.count-counted.ensures (omega (arith, greatest-one c.role_of-role.result a.heading.asked)) in
+    parts_are a.text.now c.requires.1 c.count-counted.result c.count-counted.ensures (omega (arith, greatest-one c.role_of-role.result a.heading.asked)) in
     let many : parts-of ≡ length (parts_of c.args.text.now) = c.count-counted.ensures.parts ∙ sym (ap length given) in
     let passes : (r : Role) → let a = c.args in c.role_of-role.result ≡ r → (d : Decision) → meant_deed d ≡ deed_of a.settings r a.heading.asked (parts_of a.text.now) → meant_deed d ≡ decided a.settings a.heading.place a.heading.asked a.text.now = λ r q d is. let a = c.args in
     let m = most-let in
@@ -145,15 +142,12 @@ returns-in-Only c =
     let least-let : fewest-of ≤ parts-of = enough c.role_of-role.result parts-of c.args.heading.asked (rw c.most-most.ensures at c.if-asked-counted.false) in
     let given : let t = c.args.text.now in parts_of t ≡ parameters t = let a = c.args in
     let m = most-let in
-    parts_are a.text.now c.requires.2 c.count-counted.result c.count-counted.ensures (omega (arith, greatest-one c.role_of-role.result a.heading.asked)) in
+    parts_are a.text.now c.requires.1 c.count-counted.result c.count-counted.ensures (omega (arith, greatest-one c.role_of-role.result a.heading.asked)) in
     let passes : (r : Role) → let a = c.args in c.role_of-role.result ≡ r → (d : Decision) → meant_deed d ≡ deed_of a.settings r a.heading.asked (parts_of a.text.now) → meant_deed d ≡ decided a.settings a.heading.place a.heading.asked a.text.now = λ r q d is. let a = c.args in
     let m = most-let in
     let said = subst (λ (r : Role). meant_deed d ≡ deed_of a.settings r a.heading.asked (parts_of a.text.now)) (sym q) is in
     (rw given at said) ∙ sym (says ∙ rw (le-leb parts-of most-of m, le-leb fewest-of parts-of least-let)) in
     passes _ c.in-Only.is (Obey c.in-Only.deed) refl
-
-pub decide_place-requires : goal.decide_place-requires
-decide_place-requires c = c.requires.0
 
 pub returns-in-Saving : goal.returns-in-Saving
 unfolding check ◌>>◌
@@ -168,7 +162,7 @@ returns-in-Saving c =
     let least-let : fewest-of ≤ parts-of = enough c.role_of-role.result parts-of c.args.heading.asked (rw c.most-most.ensures at c.if-asked-counted.false) in
     let given : let t = c.args.text.now in parts_of t ≡ parameters t = let a = c.args in
     let m = most-let in
-    parts_are a.text.now c.requires.2 c.count-counted.result c.count-counted.ensures (omega (arith, greatest-one c.role_of-role.result a.heading.asked)) in
+    parts_are a.text.now c.requires.1 c.count-counted.result c.count-counted.ensures (omega (arith, greatest-one c.role_of-role.result a.heading.asked)) in
     let many : parts-of ≡ length (parts_of c.args.text.now) = c.count-counted.ensures.parts ∙ sym (ap length given) in
     let passes : (r : Role) → let a = c.args in c.role_of-role.result ≡ r → (d : Decision) → meant_deed d ≡ deed_of a.settings r a.heading.asked (parts_of a.text.now) → meant_deed d ≡ decided a.settings a.heading.place a.heading.asked a.text.now = λ r q d is. let a = c.args in
     let m = most-let in
@@ -193,7 +187,7 @@ returns-in-Label c =
     let least-let : fewest-of ≤ parts-of = enough c.role_of-role.result parts-of c.args.heading.asked (rw c.most-most.ensures at c.if-asked-counted.false) in
     let given : let t = c.args.text.now in parts_of t ≡ parameters t = let a = c.args in
     let m = most-let in
-    parts_are a.text.now c.requires.2 c.count-counted.result c.count-counted.ensures (omega (arith, greatest-one c.role_of-role.result a.heading.asked)) in
+    parts_are a.text.now c.requires.1 c.count-counted.result c.count-counted.ensures (omega (arith, greatest-one c.role_of-role.result a.heading.asked)) in
     let many : parts-of ≡ length (parts_of c.args.text.now) = c.count-counted.ensures.parts ∙ sym (ap length given) in
     let passes : (r : Role) → let a = c.args in c.role_of-role.result ≡ r → (d : Decision) → meant_deed d ≡ deed_of a.settings r a.heading.asked (parts_of a.text.now) → meant_deed d ≡ decided a.settings a.heading.place a.heading.asked a.text.now = λ r q d is. let a = c.args in
     let m = most-let in

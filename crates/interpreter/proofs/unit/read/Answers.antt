@@ -26,7 +26,7 @@ overflow_add-start c =
     let ran : Runs c.args.unit.now c.white_end-start.result = runs c.args.unit.now c.white_end-start.result c.white_end-start.ensures in
     let row-found : let a = c.args in (names : List Text) → Holds names a.path.now a.used → Headed a.settings names a.unit.now c.white_end-start.result c.in-At.heading.place c.in-At.left c.in-At.heading.asked c.in-At.end c.look_up-looked.new.path = λ names h. let a = c.args in
     headed a.settings names a.unit.now ran c.look_up-looked.result c.look_up-looked.new.path (c.look_up-looked.ensures names h) c.in-At.is in
-    let ends : c.white_end-start.result + c.in-At.end ≤ length c.args.unit.now = (row-found c.requires.1.0 c.requires.1.1).ends in
+    let ends : c.white_end-start.result + c.in-At.end ≤ length c.args.unit.now = (row-found c.requires.0 c.requires.1).ends in
     let e = ends in omega (arith, c.well_formed)
 
 pub span_after-given-requires : goal.span_after-given-requires
@@ -34,7 +34,7 @@ span_after-given-requires c =
     let ran : Runs c.args.unit.now c.white_end-start.result = runs c.args.unit.now c.white_end-start.result c.white_end-start.ensures in
     let row-found : let a = c.args in (names : List Text) → Holds names a.path.now a.used → Headed a.settings names a.unit.now c.white_end-start.result c.in-At.heading.place c.in-At.left c.in-At.heading.asked c.in-At.end c.look_up-looked.new.path = λ names h. let a = c.args in
     headed a.settings names a.unit.now ran c.look_up-looked.result c.look_up-looked.new.path (c.look_up-looked.ensures names h) c.in-At.is in
-    let ends : c.white_end-start.result + c.in-At.end ≤ length c.args.unit.now = (row-found c.requires.1.0 c.requires.1.1).ends in
+    let ends : c.white_end-start.result + c.in-At.end ≤ length c.args.unit.now = (row-found c.requires.0 c.requires.1).ends in
     ends
 
 pub decide_text-requires : goal.decide_text-requires
@@ -42,7 +42,7 @@ decide_text-requires c =
     let ran : Runs c.args.unit.now c.white_end-start.result = runs c.args.unit.now c.white_end-start.result c.white_end-start.ensures in
     let row-found : let a = c.args in (names : List Text) → Holds names a.path.now a.used → Headed a.settings names a.unit.now c.white_end-start.result c.in-At.heading.place c.in-At.left c.in-At.heading.asked c.in-At.end c.look_up-looked.new.path = λ names h. let a = c.args in
     headed a.settings names a.unit.now ran c.look_up-looked.result c.look_up-looked.new.path (c.look_up-looked.ensures names h) c.in-At.is in
-    (c.requires.0, (row-found c.requires.1.0 c.requires.1.1).within, rw c.span_after-given.ensures.is (trim-twice _))
+    ((row-found c.requires.0 c.requires.1).within, rw c.span_after-given.ensures.is (trim-twice _))
 
 pub returns-in-At : goal.returns-in-At
 returns-in-At c =

@@ -5,10 +5,10 @@ use Rattle.interpreter.proofs.words.Letters.{agreeing-none, agreeing-on, agreein
 use Rattle.interpreter.proofs.words.agreed_letters.Goals as goal
 
 pub word_cell-long-requires : goal.word_cell-long-requires
-word_cell-long-requires c = (c.requires.0, c.requires.1, omega arith)
+word_cell-long-requires c = (c.requires, omega arith)
 
 pub loop-n-init : goal.loop-n-init
-loop-n-init c = agreeing-none _ _ c.requires.1
+loop-n-init c = agreeing-none _ _ c.requires
 
 pub returns-then-long-n : goal.returns-then-long-n
 returns-then-long-n c = agreeing-full c.loop-n.invariant (omega arith)

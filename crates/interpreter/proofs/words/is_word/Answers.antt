@@ -8,4 +8,4 @@ pub has_length-requires : goal.has_length-requires
 has_length-requires c = c.requires
 
 pub returns : goal.returns
-returns c = rw c.has_length.ensures (whole_word c.args.name.now c.args.word c.agreed_letters-n.result c.requires.1 c.agreed_letters-n.ensures)
+returns c = rw c.has_length.ensures (whole_word c.args.name.now c.args.word c.agreed_letters-n.result c.requires c.agreed_letters-n.ensures)

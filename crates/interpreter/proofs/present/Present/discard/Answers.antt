@@ -13,7 +13,7 @@ pub returns : goal.returns
 returns c =
     let p = c.args.self in
     let long : length p.status.errors ≡ most = search rules in
-    let raised = c.raise-left.ensures in record {
+    let raised = c.raise-raised.ensures in record {
       queued = λ h. rw raised (raised-short _ p long h);
       gone = refl;
       box = λ out m room. rw raised (one-waits p out m long room c.if-self-eq0.false);

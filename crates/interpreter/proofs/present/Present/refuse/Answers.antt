@@ -1,33 +1,36 @@
 -- Check 9's error drops the answer so far, any other leaves it (present/Laws).
-use mathlib.Core.Path.{◌≡◌, sym, ◌∙◌}
+use mathlib.Core.Path.{◌≡◌, refl}
 use Prim.Native.Nat.{zero-le}
 use native.Mathlib.Omega.{arith}
 use lib.ListN.{length, take}
+use Rattle.registers.specs.declared.error.Error.TheVariants.{QueryDeadlocked}
+use Rattle.registers.proofs.error.Numbers.{number_of-injective}
 use Rattle.interpreter.specs.PresentParts.{raised_with}
 use Rattle.registers.specs.Queue.{most}
 use Rattle.interpreter.proofs.present.Laws.{raised-short, refused-dropped, refused-kept}
 use borrow.Author.Rules.{rules}
 use Rattle.interpreter.proofs.present.Present.refuse.Goals as goal
 
-pub returns-then-number-eq430 : goal.returns-then-number-eq430
-returns-then-number-eq430 c =
+pub returns-in-QueryDeadlocked : goal.returns-in-QueryDeadlocked
+returns-in-QueryDeadlocked c =
     let a = c.args in
     let p = a.self in
     let long : length p.status.errors ≡ most = search rules in
-    let raised = c.raise-left.ensures in record {
-      box = λ out m. rw raised (refused-dropped a.error p m long (sym c.number.ensures ∙ c.if-number-eq430.true) (take p.answered out) out);
+    let is = c.in-QueryDeadlocked.is in
+    let raised = c.raise-raised.ensures in record {
+      box = λ out m. rw raised (refused-dropped a.error p m long (rw is refl) (take p.answered out) out);
       queued = λ h. rw raised (raised-short a.error p long h);
       room = zero-le;
     }
 
-pub returns : goal.returns
+pub returns-in_default : goal.returns-in_default
 unfolding raised_with
-returns c =
+returns-in_default c =
     let a = c.args in
     let p = a.self in
     let long : length p.status.errors ≡ most = search rules in
-    let raised = c.raise-left.ensures in record {
-      box = λ out m. rw raised (refused-kept a.error p m long (λ e. c.if-number-eq430.false (c.number.ensures ∙ e)) (take p.answered out));
+    let raised = c.raise-raised.ensures in record {
+      box = λ out m. rw raised (refused-kept a.error p m long (λ z. c.in_default.not-QueryDeadlocked (number_of-injective a.error QueryDeadlocked z)) (take p.answered out));
       queued = λ h. rw raised (raised-short a.error p long h);
       room = rw raised (omega arith);
     }

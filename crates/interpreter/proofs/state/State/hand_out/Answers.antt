@@ -1,7 +1,7 @@
 -- One way for each refusal, and one where the answer is copied: each is `happens-on` with a law of state/Events, which says what the
 -- box does then.
-use mathlib.Core.Path.{◌≡◌, refl}
-use Prim.Native.Nat.{◌+◌, zero-le}
+use mathlib.Core.Path.{refl}
+use Prim.Native.Nat.{zero-le}
 use native.Mathlib.Omega.{arith}
 use Rattle.registers.proofs.status.Meaning.{raised-queued}
 use Rattle.interpreter.specs.Box.{memory}
@@ -33,14 +33,8 @@ returns-then-buffer-waiting c =
     happens-on s a.store.now (takes a.buffer.now) refl refl _ w _ s _ (λ k. k) refl
     (take_short s (memory a.store.now) (omega arith) a.buffer.now c.if-waiting-eq0.false (omega arith) c.if-buffer-waiting.true)
 
-pub paste-requires : goal.paste-requires
-paste-requires c =
-    let w = c.in_ok-admit.ensures in let wide = w.answer in let few = (short-from c.args.self.now w.could).waiting in
-    let fits = c.if-buffer-waiting.false in
-    (omega arith, omega arith)
-
-pub shape_of-buffer : goal.shape_of-buffer
-shape_of-buffer c = c.paste.auto.into
+pub shared_ref_as_front-copy_from_slice : goal.shared_ref_as_front-copy_from_slice
+shared_ref_as_front-copy_from_slice c = (short-from c.args.self.now c.in_ok-admit.ensures.could).waiting
 
 pub returns : goal.returns
 returns c =
@@ -48,7 +42,6 @@ returns c =
     let s = a.self.now in
     let w = c.in_ok-admit.ensures in let wide = w.answer in let few = (short-from s w.could).waiting in
     let all = take_all s (memory a.store.now) (omega arith) a.buffer.now c.if-waiting-eq0.false (omega arith) c.if-buffer-waiting.false in
-    let z : 0 + s.waiting ≡ s.waiting = omega arith in
     happens-on s a.store.now (takes a.buffer.now) refl refl _ w _ (without_answer s) _
     (λ k. record { queued = k.queued; filled = k.filled; waiting = zero-le }) refl
-    (rw (c.paste.ensures.into_after, z) all)
+    (rw c.copy_from_slice.ensures.after all)

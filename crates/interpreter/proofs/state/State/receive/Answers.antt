@@ -1,6 +1,8 @@
 -- Refused with nothing changed, or the state's parts are lent to a flow, the bytes are fed, and the flow is a state again (state/Records, state/Events).
-use mathlib.Core.Path.{refl}
-use Rattle.interpreter.specs.Box.{memory}
+use mathlib.Core.Path.{◌≡◌, refl, sym, ◌∙◌}
+use lib.ListN.{length}
+use borrow.Author.Rules.{rules}
+use Rattle.interpreter.specs.Box.{memory, store_size}
 use Rattle.interpreter.specs.Events.{received}
 use Rattle.interpreter.proofs.state.Records.{flow-fits, short-of}
 use Rattle.interpreter.proofs.state.Events.{no-value, passed-on, happens-on, piece-on}
@@ -13,13 +15,15 @@ returns-in_err-begun c =
     (passed-on a.self.now a.store.now (received a.bytes.now) refl refl c.from_residual.result _ c.from_residual.ensures.1 c.in_err-begun.ensures)
 
 pub feed-flow-requires : goal.feed-flow-requires
-feed-flow-requires c = let w = c.in_ok-begun.ensures in (flow-fits _ _ _ w, rw w.is refl, w.sized)
+feed-flow-requires c = let w = c.in_ok-begun.ensures in (flow-fits _ _ _ w, rw w.is refl)
 
 pub returns : goal.returns
 returns c =
     let a = c.args in
     let w = c.in_ok-begun.ensures in
-    let is = rw w.is at c.feed-flow.ensures in
+    let whole = rw c.unwrap-store.ensures at c.as_mut_array.ensures.cases in
+    let is = rw (w.is, whole.same) at c.feed-flow.ensures in
+    let long : length c.feed-flow.new.store ≡ store_size = search rules in
     rw c.keep.ensures
-    (happens-on a.self.now a.store.now (received a.bytes.now) refl refl _ w _ _ _ (λ _. short-of c.feed-flow.result _ _ is.fits) c.feed-flow.auto.store
+    (happens-on a.self.now a.store.now (received a.bytes.now) refl refl _ w _ _ _ (λ _. short-of c.feed-flow.result _ _ is.fits) (long ∙ sym w.sized)
     (piece-on a.self.now (memory a.store.now) a.bytes.now c.feed-flow.result _ _ _ is))
