@@ -40,6 +40,6 @@ pub(crate) fn copy(store: &mut [u8; STORE], text: &[u8]) -> Option<()> {
 pub(crate) fn show(store: &[u8; STORE], report: &mut Report) {
     report.put(' ');
     for block in store.chunks_exact(BLOCK) {
-        report.put(u8::from(setup::recall(block).good));
+        report.put(u8::from(setup::recall(block).is_ok()));
     }
 }
