@@ -1,6 +1,7 @@
 -- What the functions that read the fields of a script line say: hex digits and decimal numbers. Nothing of 01 is defined here; the script is the
 -- player's own.
-use Rattle.std.specs.Prelude.{◌≡◌, ℕ, ◌+◌, ◌-◌, ◌*◌, ◌^◌, ◌<◌, ◌≤◌, nat_lt, [], ◌∷◌, Option, Some, None}
+use Rattle.std.specs.Prelude.{◌≡◌, ℕ, ◌+◌, ◌-◌, ◌*◌, ◌^◌, ◌<◌, ◌≤◌, nat_lt, [], ◌∷◌, Option, Some, None, Result}
+use Rattle.std.specs.Result.{result_ok}
 use Prim.Native.Char.{code}
 use Rattle.registers.specs.Text.{Text, if◌then◌otherwise◌, digit, every}
 use Rattle.registers.specs.Number.{numeral_from}
@@ -35,3 +36,8 @@ decimal_from n t = if every digit t then held (numeral_from n t) otherwise None
 unfoldable pub decimal_in : Text → Option ℕ
 decimal_in [] = None
 decimal_in (b ∷ t) = decimal_from 0 (b ∷ t)
+
+-- r is the number, converted by gives, and nothing where there is no number or the conversion fails
+abbrev pub Converted : {T E : Type 0} → (ℕ → Result T E → Type 0) → Option ℕ → Option T → Type 0
+Converted gives None r = r ≡ None
+Converted gives (Some n) r = (given : _) × gives n given × (r ≡ result_ok given)

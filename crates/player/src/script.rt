@@ -1,6 +1,6 @@
 // Reads the fields of a script line: numbers, bytes in hex, and what a blank parts.
 ghost use Rattle.std.specs.Prelude.{◌≡◌, ◌∷◌, ◌++◌, IfSome};
-ghost use Rattle.player.specs.ScriptParts.{blank, HexValueOf, with_digit, decimal_in};
+ghost use Rattle.player.specs.ScriptParts.{blank, HexValueOf, with_digit, decimal_in, Converted};
 
 // Parts a text at its first blank.
 pub(crate) fn parted(text: &[u8]) -> Option<(&[u8], &[u8])>
@@ -44,6 +44,7 @@ fn decimal(text: &[u8]) -> Option<u64>
 pub(crate) fn number<T: TryFrom<u64>>(text: &[u8]) -> Option<T>
 where
     T::Error: Drop,
+    ensures { Converted T.try_from_gives (decimal_in text.now) result }
 {
     T::try_from(decimal(text)?).ok()
 }
