@@ -121,7 +121,8 @@ fn put_in_group(group: &mut Group, register: Register, n: u16) {
     }
 }
 
-// Puts a number into a register of a set, whose group stands at the set's place.
+// Puts a number into a register of a set, whose group stands at the set's place. That is private to
+// `registers`, and a pattern of the three groups behind `&mut` gets no proof.
 fn put_in_set(status: &mut Status, set: RegisterSet, register: Register, n: u16) {
     let place = match set {
         RegisterSet::Operation => 0,
