@@ -15,7 +15,7 @@ fn hex_value(b: u8) -> Option<u8>
     ensures { HexValueOf b result }
 {
     let value = char::from(b).to_digit(16)?;
-    Some(value as u8)
+    u8::try_from(value).ok()
 }
 
 // Adds a digit to a number, if 64 bits hold what they spell.
