@@ -54,169 +54,97 @@ mod field;
 mod play;
 mod report;
 mod script;
+mod show;
 mod store;
 
-use interpreter::state::{STORE, State};
+use crate::play::Bench;
+use crate::report::Report;
+use arrayvec::ArrayVec;
+use std::io;
 use std::io::Read;
 
-// The room for a script line, and for a report. The longest reports are that of a state whose line
-// and answer are full and that of take's longest buffer, each of 16,384 hex digits and some more.
-const ROOM: usize = 131072;
+// The room for a script line, one byte more than the longest that can be read: a line that fills it was
+// too long.
+const ROOM: usize = 131073;
 
 // The most bytes of the script that are read at once.
 const CHUNK: usize = 65536;
 
-// The box, the length of the store that the next event is lent, and how far the script was read.
-#[derive(Clone, Copy)]
+// The box, what is held of the present line, and the number of the last line.
+#[derive(Drop)]
 struct Player {
-    state: State,
-    lent: usize,
-    // The bytes that are held of the present line, and whether more came than there is room for.
-    filled: usize,
-    overlong: bool,
+    bench: Bench,
+    line: ArrayVec<u8, ROOM>,
     lines: u64,
-    open: bool,
+    report: Report,
 }
 
-// Counts one line more, and stays at the largest number, so that nothing wraps.
-fn next(lines: u64) -> u64 {
-    if lines < u64::MAX { lines + 1 } else { lines }
-}
-
-// Writes the first bytes of out, and says whether that could be done.
-fn write_front(rt: &impl Print, out: &[u8], length: usize) -> bool {
-    if length <= out.len() {
-        return rt.write_all(&out[0..length]).is_ok();
-    }
-    false
-}
-
-// Plays the event of the line that is held. One that was too long can't be read, like one without a
-// letter; the second test only tells the prover that the line has so many bytes.
-fn play_line(
-    player: Player,
-    store: &mut [u8; STORE],
-    line: &[u8],
-    out: &mut [u8],
-) -> event::Played {
-    if player.overlong {
-        return event::unreadable(player.state, player.lent);
-    }
-    let end = player.filled;
-    if line.len() < end {
-        return event::unreadable(player.state, player.lent);
-    }
-    play::play(player.state, player.lent, store, &line[0..end], out)
-}
-
-// Plays and answers the line that has ended, and makes room for the next.
-fn end_line(
-    rt: &impl Print,
-    player: Player,
-    store: &mut [u8; STORE],
-    line: &[u8],
-    out: &mut [u8],
-) -> Player {
-    let lines = next(player.lines);
-    let played = play_line(player, store, line, out);
-    let length = report::ended(out, played.length, lines);
-    let written = write_front(rt, out, length);
-    let after = played.state;
-    Player {
-        state: after,
-        lent: played.lent,
-        filled: 0,
-        overlong: false,
-        lines,
-        open: player.open & written,
-    }
-}
-
-// Takes in bytes of the script: a newline ends a line, and bytes past a line's room are dropped.
-fn play_bytes(
-    rt: &impl Print,
-    start: Player,
-    store: &mut [u8; STORE],
-    line: &mut [u8],
-    out: &mut [u8],
-    bytes: &[u8],
-) -> Player {
-    let mut player = start;
-    for b in bytes {
-        let at = player.filled;
-        if *b == b'\n' {
-            player = end_line(rt, player, store, line, out);
-        } else if at < line.len() {
-            line[at] = *b;
-            player.filled = at + 1;
-        } else {
-            player.overlong = true;
+impl Player {
+    // Makes the player at power-up, before the first line.
+    fn new() -> Player {
+        Player {
+            bench: Bench::new(),
+            line: ArrayVec::new(),
+            lines: 0,
+            report: Report::new(),
         }
     }
-    player
-}
 
-// Reads once and plays what was read. At the script's end, or where it can't be read, the player is
-// closed.
-fn play_some(
-    rt: &impl Print,
-    input: &mut impl Read,
-    mut player: Player,
-    store: &mut [u8; STORE],
-    chunk: &mut [u8],
-    line: &mut [u8],
-    out: &mut [u8],
-) -> Player {
-    let n = input.read(chunk).unwrap_or(0);
-    if n == 0 {
-        player.open = false;
-        return player;
-    }
-    play_bytes(rt, player, store, line, out, &chunk[0..n])
-}
-
-// Plays until the player is closed. A proved loop has to end, so it counts its turns, up to a number
-// that no run reaches.
-fn play_all(
-    rt: &impl Print,
-    input: &mut impl Read,
-    start: Player,
-    store: &mut [u8; STORE],
-    chunk: &mut [u8],
-    line: &mut [u8],
-    out: &mut [u8],
-) -> Player {
-    let mut player = start;
-    for _ in 0..u64::MAX {
-        player = play_some(rt, input, player, store, chunk, line, out);
-        if !player.open {
-            break;
+    // Plays the line that is held, unless it was too long.
+    fn play_line(&mut self) -> Option<()> {
+        if self.line.is_full() {
+            return None;
         }
+        self.bench.play(self.line.as_slice(), &mut self.report)
     }
-    player
+
+    // Plays and answers the line that has ended, and makes room for the next.
+    fn end_line(&mut self, rt: &impl Print) -> io::Result<()> {
+        self.lines = self.lines.saturating_add(1);
+        self.report.clear();
+        if self.play_line().is_none() {
+            self.report.clear();
+            self.report.put('?');
+            self.report.field(self.lines);
+        }
+        self.report.put('\n');
+        self.line.clear();
+        rt.write_all(self.report.written())
+    }
+
+    // Takes in bytes of the script: a newline ends a line, and bytes past a line's room are dropped.
+    fn take_in(&mut self, rt: &impl Print, bytes: &[u8]) -> io::Result<()> {
+        for b in bytes {
+            if *b == b'\n' {
+                self.end_line(rt)?;
+            } else {
+                let _ = self.line.try_push(*b);
+            }
+        }
+        Ok(())
+    }
+
+    // Plays to the script's end, or to where it can't be read. The last line may lack its newline. A
+    // proved loop has to end, so it counts its turns, up to a number that no run reaches.
+    fn play_all(&mut self, rt: &impl Print, input: &mut impl Read) -> io::Result<()> {
+        let mut chunk = [0; CHUNK];
+        for _ in 0..u64::MAX {
+            let n = input.read(&mut chunk).unwrap_or(0);
+            if n == 0 {
+                break;
+            }
+            self.take_in(rt, &chunk[..n])?;
+        }
+        if self.line.is_empty() {
+            return Ok(());
+        }
+        self.end_line(rt)
+    }
 }
 
 fn main(rt: HostRuntime) {
-    // the saved setups: they outlive a power-up
-    let mut store = [0u8; STORE];
-    let mut chunk = [0u8; CHUNK];
-    let mut line = [0u8; ROOM];
-    let mut out = [0u8; ROOM];
-    let state = State::power_up();
-    let start = Player {
-        state,
-        lent: STORE,
-        filled: 0,
-        overlong: false,
-        lines: 0,
-        open: true,
-    };
+    let mut player = Player::new();
     let mut input = rt.stdin();
-    let last = play_all(
-        &rt, &mut input, start, &mut store, &mut chunk, &mut line, &mut out,
-    );
-    // the last line lacks its newline
-    if last.filled != 0 {
-        end_line(&rt, last, &mut store, &line, &mut out);
-    }
+    // the run ends where a report can't be written, and that is no failure of the box
+    let _ = player.play_all(&rt, &mut input);
 }

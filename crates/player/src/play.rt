@@ -1,136 +1,99 @@
-// Plays the line that a letter begins: an event, which is lent the store, or what changes and shows
-// the box and the store by hand.
-use crate::event::Played;
-use crate::{event, field, report, script, store};
+// Plays the lines of a script on the box and its store.
+use crate::event::Event;
+use crate::report::Report;
+use crate::script::parted;
+use crate::{field, script, show, store};
 use interpreter::state::{STORE, State};
-use registers::text;
 
 // The longest store that an event is lent.
 const LONGEST: usize = 8192;
 
-// Reports a line that has no result by its letter, if the line could be read.
-fn noted(state: State, lent: usize, readable: bool, letter: u8, out: &mut [u8]) -> Played {
-    if readable {
-        let length = report::put(out, 0, letter);
-        return Played {
-            state,
-            lent,
-            length,
-        };
-    }
-    event::unreadable(state, lent)
-}
-
-// Plays a mark: the next event is lent a store of the length that a text spells.
-fn mark(state: State, lent: usize, text: &[u8], out: &mut [u8]) -> Played {
-    let n = script::decimal(text);
-    if (LONGEST as u64) < n {
-        return event::unreadable(state, lent);
-    }
-    noted(state, n as usize, true, b'S', out)
-}
-
-// Plays an overwriting: a blank parts the field's name from its value.
-fn overwrite(state: State, lent: usize, text: &[u8], out: &mut [u8]) -> Played {
-    let end = text::find(text, 0, b' ');
-    if end == text.len() {
-        return event::unreadable(state, lent);
-    }
-    let overwritten = field::overwrite(state, &text[0..end], &text[end + 1..]);
-    let after = overwritten.state;
-    noted(after, lent, overwritten.readable, b'x', out)
-}
-
-// Reports which blocks of the store are good.
-fn show_store(state: State, lent: usize, store: &[u8; STORE], out: &mut [u8]) -> Played {
-    let letter = report::put(out, 0, b'r');
-    let length = store::show(store, letter, out);
-    Played {
-        state,
-        lent,
-        length,
-    }
-}
-
-// Plays an event on as much of the store as it is lent. Where that is more than there is, zeros
-// follow a copy of the store; what would be written there is lost, but an event leaves a store of a
-// wrong length as it is. No mark is longer than LONGEST: the second test only tells the prover so.
-fn lend(
+// The box, the saved setups beside it, and the length of the store that the next event is lent.
+#[derive(Drop)]
+pub(crate) struct Bench {
     state: State,
+    store: [u8; STORE],
     lent: usize,
-    store: &mut [u8],
-    letter: u8,
-    text: &[u8],
-    out: &mut [u8],
-) -> Played {
-    if lent <= store.len() {
-        return event::happen(state, &mut store[0..lent], letter, text, out);
-    }
-    if LONGEST < lent {
-        return event::unreadable(state, lent);
-    }
-    let mut longer = [0u8; LONGEST];
-    let held = store.len();
-    longer[0..held].copy_from_slice(store);
-    event::happen(state, &mut longer[0..lent], letter, text, out)
 }
 
-// Plays a line of one letter; `p` alone is an empty piece.
-fn play_letter(
-    state: State,
-    lent: usize,
-    store: &mut [u8; STORE],
-    letter: u8,
-    out: &mut [u8],
-) -> Played {
-    match letter {
-        b'u' => event::power_up(lent, out),
-        b's' => event::show(state, lent, out),
-        b'r' => show_store(state, lent, store, out),
-        b'p' | b'l' => lend(state, lent, store, letter, &[], out),
-        _ => event::unreadable(state, lent),
-    }
-}
-
-// Plays a letter that a text follows.
-fn play_text(
-    state: State,
-    lent: usize,
-    store: &mut [u8; STORE],
-    letter: u8,
-    text: &[u8],
-    out: &mut [u8],
-) -> Played {
-    match letter {
-        b'p' | b't' | b'c' | b'k' | b'w' => lend(state, lent, store, letter, text, out),
-        b'x' => overwrite(state, lent, text, out),
-        b'S' => mark(state, lent, text, out),
-        b'b' | b'z' | b'm' => {
-            let readable = store::change(store, letter, text);
-            noted(state, lent, readable, letter, out)
+impl Bench {
+    // Makes the box at power-up, with a store of zeros.
+    pub(crate) fn new() -> Bench {
+        Bench {
+            state: State::power_up(),
+            store: [0; STORE],
+            lent: STORE,
         }
-        _ => event::unreadable(state, lent),
     }
-}
 
-// Plays the line that a letter begins; a blank parts the letter from what follows.
-pub(crate) fn play(
-    state: State,
-    lent: usize,
-    store: &mut [u8; STORE],
-    text: &[u8],
-    out: &mut [u8],
-) -> Played {
-    if text.len() == 0 {
-        return event::unreadable(state, lent);
+    // Plays a line, and writes its report without the newline. A line that can't be read changes nothing
+    // but the report, which then means nothing. A blank parts the letter from what follows.
+    pub(crate) fn play(&mut self, line: &[u8], report: &mut Report) -> Option<()> {
+        let [letter, rest @ ..] = line else {
+            return None;
+        };
+        report.put(char::from(*letter));
+        match rest {
+            [] => self.play_letter(*letter, report),
+            [b' ', text @ ..] => self.play_text(*letter, text, report),
+            _ => None,
+        }
     }
-    let letter = text[0];
-    if text.len() == 1 {
-        return play_letter(state, lent, store, letter, out);
+
+    // Plays a line of one letter; `p` alone is an empty piece. A power-up is lent no store, so the next
+    // event still is.
+    fn play_letter(&mut self, letter: u8, report: &mut Report) -> Option<()> {
+        match letter {
+            b'u' => self.state = State::power_up(),
+            b's' => show::state(&self.state, report),
+            b'r' => store::show(&self.store, report),
+            b'p' => self.happen(Event::Piece(&[]), report)?,
+            b'l' => self.happen(Event::Look, report)?,
+            _ => return None,
+        }
+        Some(())
     }
-    let blank = text[1];
-    if blank != b' ' {
-        return event::unreadable(state, lent);
+
+    // Plays a letter that a text follows.
+    fn play_text(&mut self, letter: u8, text: &[u8], report: &mut Report) -> Option<()> {
+        match letter {
+            b'x' => self.overwrite(text),
+            b'S' => self.mark(text),
+            b'b' => store::add(&mut self.store, text),
+            b'z' => store::zero(&mut self.store, text),
+            b'm' => store::copy(&mut self.store, text),
+            _ => self.happen(Event::read(letter, text)?, report),
+        }
     }
-    play_text(state, lent, store, letter, &text[2..], out)
+
+    // Plays an overwriting: a blank parts the field's name from its value.
+    fn overwrite(&mut self, text: &[u8]) -> Option<()> {
+        let (name, value) = parted(text)?;
+        field::overwrite(&mut self.state, name, value)
+    }
+
+    // Plays a mark: the next event is lent a store of the length that a text spells.
+    fn mark(&mut self, text: &[u8]) -> Option<()> {
+        let length = script::number(text)?;
+        if length > LONGEST {
+            return None;
+        }
+        self.lent = length;
+        Some(())
+    }
+
+    // Plays an event on as much of the store as it is lent, and the next is lent the whole. Where that is
+    // more than there is, zeros follow a copy of the store; what would be written there is lost, but an
+    // event leaves a store of a wrong length as it is.
+    fn happen(&mut self, event: Event<'_>, report: &mut Report) -> Option<()> {
+        if let Some(store) = self.store.get_mut(..self.lent) {
+            event.play(&mut self.state, store, report)?;
+        } else {
+            let mut longer = [0; LONGEST];
+            longer[..STORE].copy_from_slice(&self.store);
+            event.play(&mut self.state, longer.get_mut(..self.lent)?, report)?;
+        }
+        self.lent = STORE;
+        Some(())
+    }
 }

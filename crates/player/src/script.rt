@@ -1,136 +1,72 @@
-// Reads the fields of a script line: numbers, and bytes in hex.
-ghost use Rattle.std.specs.Prelude.{◌≡◌, ◌^◌, ◌<◌, ◌≤◌, length};
-ghost use Rattle.player.specs.ScriptParts.{HexValueOf, unreadable, zero_digit, with_digit, decimal_in};
+// Reads the fields of a script line: numbers, bytes in hex, and what a blank parts.
+ghost use Rattle.std.specs.Prelude.{◌≡◌, ◌∷◌, ◌++◌, IfSome};
+ghost use Rattle.player.specs.ScriptParts.{blank, HexValueOf, with_digit, decimal_in, Converted};
 
-use registers::text;
-
-// What `decimal` gives where it can't read a number: more than any place of the record holds.
-const UNREADABLE: u64 = 1_000_000_000_000;
-
-// The largest number of 16 bits.
-pub(crate) const WIDEST: u64 = 65535;
-
-// The size of the lowest number of 32 bits; the sizes of all others are smaller.
-const MOST_BELOW: u64 = 2_147_483_648;
-
-// What `hex_value` gives for a byte that is no hex digit: more than the value of any.
-const NO_DIGIT: u8 = 16;
-
-// What a text says of a setting's value.
-#[derive(Clone, Copy)]
-pub(crate) enum Reading {
-    Value(i32),
-    Unreadable,
+// Parts a text at its first blank.
+pub(crate) fn parted(text: &[u8]) -> Option<(&[u8], &[u8])>
+    ensures { IfSome result (λ parts. text.now ≡ parts.0.now ++ blank ∷ parts.1.now) }
+{
+    let end = text.iter().position(|b| *b == b' ')?;
+    Some((&text[..end], &text[end + 1..]))
 }
 
-// Gives a hex digit's value, NO_DIGIT for any other byte.
-fn hex_value(b: u8) -> u8
+// Gives a hex digit's value, if the byte is one.
+fn hex_value(b: u8) -> Option<u8>
     ensures { HexValueOf b result }
 {
-    if b < b'0' {
-        return NO_DIGIT;
-    }
-    if b <= b'9' {
-        return b - b'0';
-    }
-    if b < b'A' {
-        return NO_DIGIT;
-    }
-    if b <= b'F' {
-        return b - b'A' + 10;
-    }
-    if b < b'a' {
-        return NO_DIGIT;
-    }
-    if b <= b'f' {
-        return b - b'a' + 10;
-    }
-    NO_DIGIT
+    let value = char::from(b).to_digit(16)?;
+    u8::try_from(value).ok()
 }
 
-// Adds a digit to a number and holds it at UNREADABLE, so that nothing wraps.
-fn with_digit(n: u64, b: u8) -> u64
-    requires { (n ≤ unreadable) × (zero_digit ≤ b) }
+// Adds a digit to a number, if 64 bits hold what they spell.
+fn with_digit(n: u64, b: u8) -> Option<u64>
     ensures { result ≡ with_digit n b }
 {
-    let next = n * 10 + (b - b'0') as u64;
-    if next < UNREADABLE { next } else { UNREADABLE }
+    let digit = char::from(b).to_digit(10)?;
+    n.checked_mul(10)?.checked_add(u64::from(digit))
 }
 
-// Reads the number that a text of digits spells. Gives UNREADABLE where the text has another byte or
-// none, or spells a number as large as that.
-pub(crate) fn decimal(text: &[u8]) -> u64
+// Reads the number that a text of digits spells, if 64 bits hold it.
+fn decimal(text: &[u8]) -> Option<u64>
     ensures { result ≡ decimal_in text.now }
 {
-    if text.len() == 0 {
-        return UNREADABLE;
+    if text.is_empty() {
+        return None;
     }
-    let mut n: u64 = 0;
+    let mut n = 0;
     for b in text {
-        if !text::is_digit(*b) {
-            return UNREADABLE;
-        }
-        n = with_digit(n, *b);
+        n = with_digit(n, *b)?;
     }
-    n
+    Some(n)
 }
 
-// Makes a number below zero from its size, if 32 bits hold it. The lowest has a size that no number
-// of 32 bits has above zero, so it has a test of its own.
-fn below_zero(size: u64) -> Reading {
-    if size < MOST_BELOW {
-        return Reading::Value(0 - size as i32);
-    }
-    if size == MOST_BELOW {
-        return Reading::Value(i32::MIN);
-    }
-    Reading::Unreadable
+// Reads the number that a text of digits spells, if its type holds it.
+pub(crate) fn number<T: TryFrom<u64>>(text: &[u8]) -> Option<T>
+where
+    T::Error: Drop,
+    ensures { Converted T.try_from_gives (decimal_in text.now) result }
+{
+    T::try_from(decimal(text)?).ok()
 }
 
 // Reads the signed number of 32 bits that a text spells.
-pub(crate) fn signed(text: &[u8]) -> Reading {
-    if text.len() == 0 {
-        return Reading::Unreadable;
+pub(crate) fn signed(text: &[u8]) -> Option<i32> {
+    match text.strip_prefix(b"-") {
+        Some(size) => 0i32.checked_sub_unsigned(number(size)?),
+        None => number(text),
     }
-    let sign = text[0];
-    if sign == b'-' {
-        return below_zero(decimal(&text[1..]));
-    }
-    let size = decimal(text);
-    if size < MOST_BELOW {
-        return Reading::Value(size as i32);
-    }
-    Reading::Unreadable
 }
 
-// Puts the bytes that a text of hex digits spells at the start of bytes, and gives how many they are.
-// Where the text has another byte, an odd digit, or more than bytes holds, it gives more than bytes
-// has.
-pub(crate) fn unhex(text: &[u8], bytes: &mut [u8]) -> usize
-    requires { length bytes.old < 2 ^ 32 }
-{
-    let bad = bytes.len() + 1;
-    let mut n: usize = 0;
-    let mut i: usize = 0;
-    while i < text.len() {
-        let high = hex_value(text[i]);
-        i += 1;
-        if i == text.len() {
-            return bad;
-        }
-        let low = hex_value(text[i]);
-        i += 1;
-        if NO_DIGIT <= high {
-            return bad;
-        }
-        if NO_DIGIT <= low {
-            return bad;
-        }
-        if n == bytes.len() {
-            return bad;
-        }
-        bytes[n] = high * 16 + low;
-        n += 1;
+// Puts the bytes that a text of hex digits spells at the start of a room, and gives them. There are
+// none where the text has another byte or an odd digit, or spells more than the room holds.
+pub(crate) fn unhex<'a>(text: &[u8], room: &'a mut [u8]) -> Option<&'a [u8]> {
+    let (pairs, odd) = text.as_chunks::<2>();
+    if !odd.is_empty() {
+        return None;
     }
-    n
+    let bytes = room.get_mut(..pairs.len())?;
+    for (byte, [high, low]) in bytes.iter_mut().zip(pairs) {
+        *byte = hex_value(*high)? * 16 + hex_value(*low)?;
+    }
+    Some(bytes)
 }

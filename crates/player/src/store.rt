@@ -1,118 +1,45 @@
-// Changes the store by hand, which otherwise only *SAV does, and shows which blocks are good. Each
-// change tells whether its numbers could be read, and does nothing where they couldn't.
-ghost use Rattle.std.specs.Prelude.{◌≡◌, ◌≤◌, length};
-ghost use Rattle.interpreter.specs.Box.{store_size};
-ghost use Rattle.registers.specs.Setup.{places};
-
-use crate::{report, script};
+// Changes the store by hand, which otherwise only *SAV does, and shows which blocks are good. A change
+// whose numbers can't be read does nothing.
+use crate::report::Report;
+use crate::script::{number, parted};
+use interpreter::state::STORE;
+use registers::setup;
 use registers::setup::BLOCK;
-use registers::{setup, text};
 
-// The blocks of the store.
-const BLOCKS: usize = 10;
-
-// The largest byte.
-const LARGEST: u64 = 255;
-
-// Reads the place of a block; gives BLOCKS for any other text.
-fn place(text: &[u8]) -> usize
-    ensures { result ≤ places }
-{
-    let n = script::decimal(text);
-    if n < BLOCKS as u64 {
-        return n as usize;
-    }
-    BLOCKS
+// Gives the block at the place that a text spells.
+fn block<'a>(store: &'a mut [u8; STORE], place: &[u8]) -> Option<&'a mut [u8; BLOCK]> {
+    let (blocks, _) = store.as_chunks_mut::<BLOCK>();
+    blocks.get_mut(number::<usize>(place)?)
 }
 
-// Adds a value to a byte of a block, modulo 256.
-fn add(store: &mut [u8], place: usize, offset: u64, value: u64) -> bool
-    requires { length store.old ≡ store_size }
-{
-    if BLOCKS <= place {
-        return false;
-    }
-    if BLOCK as u64 <= offset {
-        return false;
-    }
-    if LARGEST < value {
-        return false;
-    }
-    let at = place * BLOCK + offset as usize;
-    store[at] = store[at].wrapping_add(value as u8);
-    true
+// Adds a value to a byte of a block, modulo 256: the text is the block's place, the byte's offset in
+// it, and what is added.
+pub(crate) fn add(store: &mut [u8; STORE], text: &[u8]) -> Option<()> {
+    let (place, text) = parted(text)?;
+    let (offset, value) = parted(text)?;
+    let byte = block(store, place)?.get_mut(number::<usize>(offset)?)?;
+    *byte = byte.wrapping_add(number(value)?);
+    Some(())
 }
 
-// Adds to a byte of a block: the text is the byte's offset in the block, and what is added.
-fn add_in(store: &mut [u8], place: usize, text: &[u8]) -> bool
-    requires { length store.old ≡ store_size }
-{
-    let end = text::find(text, 0, b' ');
-    if end == text.len() {
-        return false;
-    }
-    let offset = script::decimal(&text[0..end]);
-    add(store, place, offset, script::decimal(&text[end + 1..]))
+// Makes a block zeros: the text is its place.
+pub(crate) fn zero(store: &mut [u8; STORE], text: &[u8]) -> Option<()> {
+    *block(store, text)? = [0; BLOCK];
+    Some(())
 }
 
-// Puts a block at a place.
-fn put(store: &mut [u8], place: usize, block: &[u8; BLOCK]) -> bool
-    requires { length store.old ≡ store_size }
-{
-    if BLOCKS <= place {
-        return false;
-    }
-    let at = place * BLOCK;
-    store[at..at + BLOCK].copy_from_slice(block);
-    true
+// Copies a block onto another place, also onto its own: the text is the two places.
+pub(crate) fn copy(store: &mut [u8; STORE], text: &[u8]) -> Option<()> {
+    let (from, to) = parted(text)?;
+    let copied = *block(store, from)?;
+    *block(store, to)? = copied;
+    Some(())
 }
 
-// Copies a block onto another place, also onto its own.
-fn copy(store: &mut [u8], from: usize, to: usize) -> bool
-    requires { length store.old ≡ store_size }
-{
-    if BLOCKS <= from {
-        return false;
+// Writes a blank and a digit for each block: 1 where *RCL would find it good, else 0.
+pub(crate) fn show(store: &[u8; STORE], report: &mut Report) {
+    report.put(' ');
+    for block in store.chunks_exact(BLOCK) {
+        report.put(u8::from(setup::recall(block).is_ok()));
     }
-    let at = from * BLOCK;
-    let mut block = [0u8; BLOCK];
-    block.copy_from_slice(&store[at..at + BLOCK]);
-    put(store, to, &block)
-}
-
-// Changes the store as the letter and the text say; tells whether they could be read. A text of more
-// than one field begins with a block's place and a blank.
-pub(crate) fn change(store: &mut [u8], letter: u8, text: &[u8]) -> bool
-    requires { length store.old ≡ store_size }
-{
-    if letter == b'z' {
-        return put(store, place(text), &[0u8; BLOCK]);
-    }
-    let end = text::find(text, 0, b' ');
-    if end == text.len() {
-        return false;
-    }
-    let first = place(&text[0..end]);
-    if letter == b'm' {
-        return copy(store, first, place(&text[end + 1..]));
-    }
-    add_in(store, first, &text[end + 1..])
-}
-
-// Gives the digit that stands for a block.
-fn digit(good: bool) -> u8 {
-    if good { b'1' } else { b'0' }
-}
-
-// Writes a blank and a digit for each block: 1 where *RCL would find it good.
-pub(crate) fn show(store: &[u8], from: usize, out: &mut [u8]) -> usize
-    requires { length store.now ≡ store_size }
-{
-    let mut at = report::put(out, from, b' ');
-    for place in 0..BLOCKS {
-        let start = place * BLOCK;
-        let recalled = setup::recall(&store[start..start + BLOCK]);
-        at = report::put(out, at, digit(recalled.good));
-    }
-    at
 }

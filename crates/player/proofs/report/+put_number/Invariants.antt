@@ -1,5 +1,0 @@
--- `put_number` calls itself at a tenth of the number, so the number is the measure.
-use Rattle.player.proofs.report.+put_number.Given as goal
-
-abbrev pub decreases-put_number : goal.decreases-put_number
-decreases-put_number l = l.n
