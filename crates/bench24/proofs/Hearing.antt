@@ -6,7 +6,7 @@ use Prim.Native.Nat.{ℕ, ◌+◌, ◌-◌, ◌≤◌, ◌<◌, zero-le}
 use native.Mathlib.Omega.{arith}
 use lib.ListN.{length, take, drop, length-drop}
 use lib.Seq.{drop-drop}
-use Rattle.std.specs.Prelude.{Result, Ok, Err, IsOk, IsErr}
+use Rattle.std.specs.Prelude.{Result, Err}
 use Rattle.std.specs.declared.io.Error.{Error}
 use Rattle.registers.specs.Text.{Text}
 use Rattle.interpreter.specs.Box.{Memory, memory, store_size, right_size, power_up, most_answer}
@@ -23,7 +23,7 @@ use Rattle.interpreter.proofs.server.Heard.{part-heard, part-answered, heard-app
 use Rattle.bench24.specs.Heard.{box_in, Answers, HeardPart, HeardRead, HeardSince, clamp_len}
 use Rattle.bench24.specs.declared.Bench.{Bench}
 use Rattle.bench24.specs.declared.Closed.{Closed}
-use Rattle.bench24.specs.declared.Closed.TheVariants.{NothingRead}
+use Rattle.bench24.specs.declared.Closed.TheVariants.{NothingRead, NotWritten}
 
 -- ---- what was read: a part of it is served, then the rest
 
@@ -38,22 +38,6 @@ pub record Hearing (start : Bench) (input : Text) (b : Bench) (rest : Text) : Ty
 pub hear-begun : (start : Bench) (input : Text) → Hearing start input start input
 unfolding lines_of heard
 hear-begun start input = record { bytes = 0; within = zero-le; left = refl; whole = refl; box = refl }
-
--- a write failed, or all was heard
-pub hear-end : (start : Bench) (input : Text) (b : Bench) (rest : Text) (served : Result (Unit {0}) Closed) → Hearing start input b rest
-    → (0 < length input → length rest < length input) → (IsOk served → length rest ≡ 0) → HeardPart start input served b
-hear-end start input b rest served g some all =
-    let h = g.within in
-    let n = length-drop g.bytes input in
-    let same = ap length g.left in
-    record {
-      bytes = g.bytes;
-      within = g.within;
-      whole = g.whole;
-      box = g.box;
-      some = λ more. let less = some more in omega arith;
-      all = λ ok. let none = all ok in omega arith;
-    }
 
 -- a call of the chunk server: what it asks for holds on a bench
 module _ (b : Bench) (rest output : Text) (number read written : ℕ) (t : State) (stored outputs' : Text)
@@ -72,10 +56,6 @@ module _ (b : Bench) (rest output : Text) (number read written : ℕ) (t : State
 
   pub wrote-answers : Answers b.state rest read (take written outputs')
   wrote-answers = record { store = memory b.store; are = part-answered _ _ _ _ _ _ _ _ _ _ w right b.possible b.long }
-
-err-not-ok : (r : Result (Unit {0}) Closed) → IsErr r → IsOk r → ⊥
-err-not-ok (Ok u) e o = false≢true e
-err-not-ok (Err x) e o = false≢true o
 
 -- and what it heard is heard after the rest
 module _ (start : Bench) (input : Text) (b : Bench) (rest output : Text) (number read written : ℕ) (t : Bench) (outputs' : Text)
@@ -100,12 +80,24 @@ module _ (start : Bench) (input : Text) (b : Bench) (rest output : Text) (number
         box = rw (further.1, heard-append (box_in start) (lines_of (take g.bytes input)) (lines_of (take read (drop g.bytes input))), ← g.box) part.1;
       }
 
-  pub hear-stop : (served : Result (Unit {0}) Closed) → IsErr served → most_answer ≤ length output → 0 < length rest → HeardPart start input served t
-  hear-stop served failed room more =
+  -- where a write fails that is all
+  pub hear-stop : most_answer ≤ length output → 0 < length rest → HeardPart start input (Err NotWritten) t
+  hear-stop room more =
       let less = shorter b rest output number read written t.state t.store outputs' w sized room more in
-      let n = length-drop g.bytes input in
-      let same = ap length g.left in
-      hear-end start input t _ served hear-on (λ _. omega arith) (λ ok. absurd (err-not-ok served failed ok))
+      let all = hear-on in
+      let h = all.within in
+      let n = length-drop all.bytes input in
+      let same = ap length all.left in
+      let before = length-drop g.bytes input in
+      let same-before = ap length g.left in
+      record {
+        bytes = all.bytes;
+        within = h;
+        whole = all.whole;
+        box = all.box;
+        some = λ _. omega arith;
+        all = λ ok. absurd (false≢true ok);
+      }
 
 -- ---- what a read put into the buffer
 

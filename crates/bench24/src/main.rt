@@ -58,10 +58,10 @@ impl Bench {
         input: &[u8],
         read: usize,
         answers: &[u8],
-    ) -> Result<(), Closed>
+    ) -> io::Result<()>
         requires { Answers start input.now read answers.now }
     {
-        rt.write_all(answers).map_err(|_| Closed::NotWritten)
+        rt.write_all(answers)
     }
 
     // Serves what was read, a full output at a time. A write that fails closes the bench.
@@ -81,7 +81,9 @@ impl Bench {
             let answers = &output[..served.written];
             let wrote = Bench::write_answers(rt, start, rest, served.read, answers);
             rest = &rest[served.read..];
-            wrote?;
+            let Ok(()) = wrote else {
+                return Err(Closed::NotWritten);
+            };
         }
         Ok(())
     }

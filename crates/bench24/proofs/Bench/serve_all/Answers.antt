@@ -10,10 +10,14 @@ write_answers-wrote-requires g c = wrote-answers c.loop-rest.self _ _ _ _ _ _ _ 
 
 -- what was read is no more than a length can be
 pub slice_bounds-rest-count : goal.slice_bounds-rest-count
-slice_bounds-rest-count g c = read-within c.loop-rest.self _ _ _ _ _ _ _ _ c.serve-served.ensures (search rules)
+slice_bounds-rest-count g c =
+    let within = read-within c.loop-rest.self _ _ _ _ _ _ _ _ c.serve-served.ensures (search rules) in
+    search rules
 
 pub slice_bounds-rest-start : goal.slice_bounds-rest-start
-slice_bounds-rest-start g c = read-within c.loop-rest.self _ _ _ _ _ _ _ _ c.serve-served.ensures (search rules)
+slice_bounds-rest-start g c =
+    let within = read-within c.loop-rest.self _ _ _ _ _ _ _ _ c.serve-served.ensures (search rules) in
+    search rules
 
 pub loop-rest-smaller : goal.loop-rest-smaller
 loop-rest-smaller g c = shorter c.loop-rest.self _ _ _ _ _ _ _ _ c.serve-served.ensures (search rules) (search rules) (search rules)
@@ -21,7 +25,6 @@ loop-rest-smaller g c = shorter c.loop-rest.self _ _ _ _ _ _ _ _ c.serve-served.
 pub loop-rest-preserved : goal.loop-rest-preserved
 loop-rest-preserved g c = hear-on _ _ c.loop-rest.self _ _ _ _ _ _ _ c.loop-rest.invariant c.serve-served.ensures (search rules)
 
-pub returns-in_err-wrote : goal.returns-in_err-wrote
-returns-in_err-wrote g c =
-    hear-stop _ _ c.loop-rest.self _ _ _ _ _ _ _ c.loop-rest.invariant c.serve-served.ensures (search rules) _ c.from_residual.ensures.0
-    (search rules) (search rules)
+pub returns-in_default : goal.returns-in_default
+returns-in_default g c =
+    hear-stop _ _ c.loop-rest.self _ _ _ _ _ _ _ c.loop-rest.invariant c.serve-served.ensures (search rules) (search rules) (search rules)
