@@ -10,6 +10,9 @@
 // holds the marker to it.
 #![tactic(auto)]
 
+ghost use Rattle.std.specs.Prelude.{◌≡◌, true};
+ghost use Rattle.interpreter.specs.State.{possible_state};
+
 use interpreter::server;
 use interpreter::state::{ANSWER, STORE, State};
 use std::alloc::{AllocError, Global};
@@ -32,7 +35,8 @@ const CHUNK: usize = 65536;
 // The room for a file's name: a longer one names none.
 const NAME: usize = 4096;
 
-// The box, the line at hand without its newline, what of the record is still to be written, and where record and answers go.
+// The box, the line at hand without its newline, what of the record is still to be written, and where record and answers go. The
+// box is a possible one, so no line is refused unheard.
 #[derive(Drop)]
 struct Recorder<R, A> {
     state: State,
@@ -42,6 +46,7 @@ struct Recorder<R, A> {
     book: Vec<u8>,
     record: R,
     answers: A,
+    ghost possible: { possible_state state ≡ true },
 }
 
 impl<R: Write + Drop, A: Write + Drop> Recorder<R, A> {
@@ -76,7 +81,7 @@ impl<R: Write + Drop, A: Write + Drop> Recorder<R, A> {
             &mut self.room,
         );
         self.state = served.state;
-        let answer = self.room.get(..served.written).unwrap_or_default();
+        let answer = &self.room[..served.written];
         let written = self.answers.write_all(answer);
         keep(&mut self.book, self.line.as_slice(), answer)?;
         self.line.clear();
