@@ -10,21 +10,21 @@
 // holds the marker to it.
 #![tactic(auto)]
 
+ghost use Rattle.std.specs.Prelude.{◌≡◌, true};
+ghost use Rattle.interpreter.specs.State.{possible_state};
+
 use interpreter::server;
 use interpreter::state::{ANSWER, STORE, State};
-use registers::text;
-use std::alloc::Global;
+use std::alloc::{AllocError, Global};
 use std::env::{Env, FillError};
 use std::io::{Read, Write};
 use std::rt::Files;
 use std::{fs, io, str};
 
-// The room for a line that is a byte too long, and its newline.
-const HELD: usize = 4098;
-
+// How many bytes of a line are held: with one more than the box takes a line is refused, whatever follows.
 const LONGEST: usize = 4097;
 
-// The room that a line and its answer need in the record, with their marks, and the record's.
+// The room that a line and its answer need in the record, with their marks, and how much of it is written at once.
 const ENTRY: usize = 8200;
 
 const BOOK: usize = 65536;
@@ -35,232 +35,124 @@ const CHUNK: usize = 65536;
 // The room for a file's name: a longer one names none.
 const NAME: usize = 4096;
 
-// The box; how many bytes of the line at hand are held, and how many of the record are still to be written; whether it still serves.
-#[derive(Clone, Copy)]
-struct Bench {
+// The box, the line at hand without its newline, what of the record is still to be written, and where record and answers go. The
+// box is a possible one, so no line is refused unheard.
+#[derive(Drop)]
+struct Recorder<R, A> {
     state: State,
-    held: usize,
-    kept: usize,
-    serving: bool,
+    store: [u8; STORE],
+    room: [u8; ANSWER],
+    line: Vec<u8>,
+    book: Vec<u8>,
+    record: R,
+    answers: A,
+    ghost possible: { possible_state state ≡ true },
 }
 
-// How many bytes of the record are still to be written, and whether the others were.
-#[derive(Clone, Copy)]
-struct Spilled {
-    kept: usize,
-    serving: bool,
-}
+impl<R: Write + Drop, A: Write + Drop> Recorder<R, A> {
+    fn new(alloc: Global, record: R, answers: A) -> Result<Recorder<R, A>, AllocError> {
+        let line = Vec::with_capacity(alloc, LONGEST + 1)?;
+        let book = Vec::with_capacity(alloc, BOOK)?;
+        Ok(Recorder {
+            state: State::power_up(),
+            store: [0; STORE],
+            room: [0; ANSWER],
+            line,
+            book,
+            record,
+            answers,
+        })
+    }
 
-// Copies a text to a place, as far as there is room, and gives where it ends.
-fn put(text: &[u8], out: &mut [u8], at: usize) -> usize {
-    let mut end = at;
-    let mut i: usize = 0;
-    while i < text.len() {
-        if out.len() <= end {
-            return end;
+    // Holds bytes of a line, as far as they count.
+    fn hold(&mut self, part: &[u8]) -> Result<(), AllocError> {
+        let free = LONGEST.saturating_sub(self.line.len());
+        self.line
+            .extend_from_slice(part.get(..free).unwrap_or(part))
+    }
+
+    // Runs the line at hand, writes its answer out, and keeps both.
+    fn run_line(&mut self) -> io::Result<()> {
+        self.line.push(b'\n')?;
+        let served = server::serve(
+            self.state,
+            &mut self.store,
+            self.line.as_slice(),
+            &mut self.room,
+        );
+        self.state = served.state;
+        let answer = &self.room[..served.written];
+        let written = self.answers.write_all(answer);
+        keep(&mut self.book, self.line.as_slice(), answer)?;
+        self.line.clear();
+        written
+    }
+
+    // Writes the record away. What can't be written is given up.
+    fn write_away(&mut self) -> io::Result<()> {
+        let written = self.record.write_all(self.book.as_slice());
+        self.book.clear();
+        written
+    }
+
+    // Serves what was read, line by line, and writes the record away where it has no room for one more entry.
+    fn serve(&mut self, input: &[u8]) -> io::Result<()> {
+        for piece in input.split_inclusive(|byte| *byte == b'\n') {
+            let Some(part) = piece.strip_suffix(b"\n") else {
+                return Ok(self.hold(piece)?);
+            };
+            self.hold(part)?;
+            self.run_line()?;
+            if BOOK.saturating_sub(self.book.len()) < ENTRY {
+                self.write_away()?;
+            }
         }
-        out[end] = text[i];
-        end += 1;
-        i += 1;
+        Ok(())
     }
-    end
-}
 
-// Copies a text to a place of a line, so that one byte stays free.
-fn put_held(part: &[u8], line: &mut [u8], held: usize) -> usize {
-    if line.len() <= LONGEST {
-        return held;
+    // Serves from power-up until the input ends, or can't be read, or something can't be written. A proved loop has to end: this
+    // one does after more reads than any run makes.
+    fn run(&mut self, source: &mut impl Read) -> io::Result<()> {
+        let mut input = [0u8; CHUNK];
+        for _ in 0..u64::MAX {
+            let n = source.read(&mut input)?;
+            if n == 0 {
+                return Ok(());
+            }
+            let served = self.serve(&input[..n]);
+            self.write_away().and(served)?;
+        }
+        Ok(())
     }
-    put(part, &mut line[0..LONGEST], held)
-}
-
-// Holds bytes of a line, as far as they count.
-fn hold(part: &[u8], line: &mut [u8; HELD], held: usize) -> usize {
-    put_held(part, line, held)
 }
 
 // Adds a line and its answer, both with their newlines, to the record.
-fn keep(line: &[u8], answer: &[u8], book: &mut [u8], at: usize) -> usize {
-    let start = put(b">", book, at);
-    let end = put(line, book, start);
-    if answer.len() == 0 {
-        return end;
+fn keep(book: &mut Vec<u8>, line: &[u8], answer: &[u8]) -> Result<(), AllocError> {
+    book.push(b'>')?;
+    book.extend_from_slice(line)?;
+    if !answer.is_empty() {
+        book.push(b'<')?;
+        book.extend_from_slice(answer)?;
     }
-    let mark = put(b"<", book, end);
-    put(answer, book, mark)
+    Ok(())
 }
 
-// Writes the record away where it has no room for one more entry, or where that is wanted.
-fn write_away(to: &mut impl Write, book: &[u8], kept: usize, wanted: bool) -> Spilled {
-    if book.len() < kept {
-        return Spilled {
-            kept: 0,
-            serving: false,
-        };
-    }
-    if !wanted {
-        if ENTRY <= book.len() - kept {
-            return Spilled {
-                kept,
-                serving: true,
-            };
-        }
-    }
-    Spilled {
-        kept: 0,
-        serving: to.write_all(&book[0..kept]).is_ok(),
+// Runs the box with its record. A read or a write that fails ends the run, and nothing more is said of it.
+fn record(
+    rt: &(impl AllocGlobal + Input),
+    record: impl Write + Drop,
+    answers: impl Write + Drop,
+) -> io::Result<()> {
+    let mut recorder = Recorder::new(rt.alloc(), record, answers)?;
+    match recorder.run(&mut rt.reader()) {
+        Err(e) if e.kind() == io::ErrorKind::OutOfMemory => Err(e),
+        _ => Ok(()),
     }
 }
 
-fn spill(mut bench: Bench, to: &mut impl Write, book: &[u8; BOOK], wanted: bool) -> Bench {
-    let spilled = write_away(to, book, bench.kept, wanted);
-    bench.kept = spilled.kept;
-    bench.serving = bench.serving & spilled.serving;
-    bench
-}
-
-// Runs a line, writes its answer out if that is wanted, and keeps both.
-fn run_line(
-    rt: &impl Print,
-    bench: Bench,
-    answers: bool,
-    store: &mut [u8],
-    line: &[u8],
-    room: &mut [u8],
-    book: &mut [u8],
-) -> Bench {
-    let state = bench.state;
-    let served = server::serve(state, store, line, room);
-    let next = served.state;
-    let n = served.written;
-    if room.len() < n {
-        return bench;
-    }
-    let mut serving = true;
-    if answers {
-        serving = rt.write_all(&room[0..n]).is_ok();
-    }
-    let kept = keep(line, &room[0..n], book, bench.kept);
-    Bench {
-        state: next,
-        held: 0,
-        kept,
-        serving,
-    }
-}
-
-// Ends the line at hand with its newline and runs it.
-fn end_line(
-    rt: &impl Print,
-    bench: Bench,
-    answers: bool,
-    store: &mut [u8; STORE],
-    line: &mut [u8; HELD],
-    room: &mut [u8; ANSWER],
-    book: &mut [u8; BOOK],
-) -> Bench {
-    let held = bench.held;
-    if LONGEST < held {
-        return bench;
-    }
-    line[held] = b'\n';
-    let end = held + 1;
-    let bytes: &[u8] = line;
-    run_line(rt, bench, answers, store, &bytes[0..end], room, book)
-}
-
-// Serves what was read, line by line.
-fn serve_all(
-    rt: &impl Print,
-    start: Bench,
-    to: &mut impl Write,
-    answers: bool,
-    store: &mut [u8; STORE],
-    input: &[u8],
-    line: &mut [u8; HELD],
-    room: &mut [u8; ANSWER],
-    book: &mut [u8; BOOK],
-) -> Bench {
-    let mut bench = start;
-    let mut at: usize = 0;
-    while at < input.len() {
-        if !bench.serving {
-            return bench;
-        }
-        let end = text::find(input, at, b'\n');
-        bench.held = hold(&input[at..end], line, bench.held);
-        if input.len() <= end {
-            return bench;
-        }
-        at = end + 1;
-        bench = end_line(rt, bench, answers, store, line, room, book);
-        bench = spill(bench, to, book, false);
-    }
-    bench
-}
-
-// Serves from power-up until the input ends, or can't be read, or something can't be written. A proved loop has to end, so it
-// counts its turns down, from a number that no run uses up.
-fn run(
-    rt: &(impl Input + Print),
-    to: &mut impl Write,
-    answers: bool,
-    store: &mut [u8; STORE],
-    input: &mut [u8],
-    line: &mut [u8; HELD],
-    room: &mut [u8; ANSWER],
-    book: &mut [u8; BOOK],
-) {
-    let mut source = rt.reader();
-    let mut bench = Bench {
-        state: State::power_up(),
-        held: 0,
-        kept: 0,
-        serving: true,
-    };
-    let mut turns = u64::MAX;
-    while turns > 0 {
-        turns -= 1;
-        let n = source.read(input).unwrap_or(0);
-        if n == 0 {
-            return;
-        }
-        bench = serve_all(
-            rt,
-            bench,
-            to,
-            answers,
-            store,
-            &input[0..n],
-            line,
-            room,
-            book,
-        );
-        bench = spill(bench, to, book, true);
-        if !bench.serving {
-            return;
-        }
-    }
-}
-
-// Runs the box with its record, and writes its answers out where the record doesn't go there.
-fn record(rt: &(impl Input + Print), to: &mut impl Write, answers: bool) {
-    let mut store = [0u8; STORE];
-    let mut input = [0u8; CHUNK];
-    let mut line = [0u8; HELD];
-    let mut room = [0u8; ANSWER];
-    let mut book = [0u8; BOOK];
-    run(
-        rt, to, answers, &mut store, &mut input, &mut line, &mut room, &mut book,
-    );
-}
-
-// Opens the file for the record, empty. To std a file's name is text, and no other can be opened.
-fn open_record<R: Files>(rt: &R, name: &[u8]) -> io::Result<R::File> {
-    match str::from_utf8(name) {
-        Ok(path) => fs::create(rt, path),
-        Err(_) => Err(io::Error::from(io::ErrorKind::InvalidFilename)),
-    }
+// Takes a file's name as text: to std no other is one. The marker has this and `argument` too (there it says why).
+fn path_of(name: &[u8]) -> io::Result<&str> {
+    str::from_utf8(name).map_err(|_| io::Error::from(io::ErrorKind::InvalidFilename))
 }
 
 // The system's words for an error, without the error's number, which std writes behind them.
@@ -278,21 +170,22 @@ fn fail(errors: &impl Print, alloc: Global, name: &[u8], error: io::Error) -> io
     println!(errors; ": {}", words_of(text.as_str()))
 }
 
+// Gives the argument, if there is one: one that is too long as an empty one.
+fn argument<'a>(rt: &impl Env, word: &'a mut [u8; NAME]) -> Option<&'a [u8]> {
+    match rt.arg(1, word) {
+        Ok(n) => Some(&word[..n]),
+        Err(FillError::TooLong) => Some(b""),
+        Err(FillError::NotPresent) => None,
+    }
+}
+
 fn main(rt: HostRuntime) -> io::Result<()> {
-    let mut name = [0u8; NAME];
-    let n = match rt.arg(1, &mut name) {
-        Ok(n) => n,
-        Err(FillError::TooLong) => 0,
-        Err(FillError::NotPresent) => {
-            record(&rt, &mut io::writer(&rt), false);
-            return Ok(());
-        }
+    let mut word = [0u8; NAME];
+    let Some(name) = argument(&rt, &mut word) else {
+        return record(&rt, io::writer(&rt), io::sink());
     };
-    match open_record(&rt, &name[0..n]) {
-        Ok(mut file) => {
-            record(&rt, &mut file, true);
-            Ok(())
-        }
-        Err(e) => fail(&rt.stderr(), rt.alloc(), &name[0..n], e),
+    match path_of(name).and_then(|path| fs::create(&rt, path)) {
+        Ok(file) => record(&rt, file, io::writer(&rt)),
+        Err(e) => fail(&rt.stderr(), rt.alloc(), name, e),
     }
 }

@@ -1,6 +1,0 @@
--- Measure: the bytes left to serve.
-use Rattle.std.proofs.Common.{length, ◌-◌}
-use Rattle.recorder.proofs.serve_all.Given as goal
-
-abbrev pub decreases-loop-at : goal.decreases-loop-at
-decreases-loop-at g l = length l.input - l.at
