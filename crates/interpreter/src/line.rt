@@ -84,7 +84,7 @@ fn do_deed(present: Present, deed: Deed, string: &[u8], out: &mut [u8]) -> Done
 {
     let mut next = perform::after(present, deed, string);
     match reply::answer(present, deed, out) {
-        Err(error) => stop(present, error),
+        Err(deadlocked) => stop(present, deadlocked),
         Ok(end) => {
             next.answered = end;
             Done {
