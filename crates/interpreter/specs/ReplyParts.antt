@@ -1,6 +1,6 @@
 -- What the functions that answer a deed say. Nothing of 01 is defined here: see Reply.antt.
 use Rattle.std.specs.Prelude.{◌≡◌, Bool, true, false, [], ℕ, ◌≤◌, ◌<◌, length, take, ℤ, Option, Some, None, Result, Ok, Err}
-use Rattle.registers.specs.Text.{Text, if◌then◌otherwise◌}
+use Rattle.registers.specs.Text.{Text}
 use Rattle.registers.specs.Words.{short_form}
 use Rattle.registers.specs.Check.{refused, passed}
 use Rattle.registers.specs.Answer.{decimal, tenths, signed_text}

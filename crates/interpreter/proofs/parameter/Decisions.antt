@@ -13,10 +13,10 @@ use mir.Val.{Fits, of_z, to_z, bool_byte}
 use mir.Facts.{to_z-of_z}
 use lib.ListN.{length}
 use borrow.Author.Tests.{leb-true}
-use Rattle.std.specs.Prelude.{Option, Some, None}
+use Rattle.std.specs.Prelude.{Some, None}
 use Rattle.registers.specs.Text.{Text, if◌then◌otherwise◌, letter, word_byte, every, first}
 use Rattle.registers.specs.Check.{Checked, refused, passed, ◌>>=◌, ◌>>◌, check}
-use Rattle.registers.specs.Rounding.{rounded, fitted, side_in, meant_fit, RoundedIn}
+use Rattle.registers.specs.Rounding.{rounded, side_in, meant_fit, RoundedIn}
 use Rattle.registers.specs.Settings.{count, Kind, bool, words, number, kind_of, quantity_of, lowest, highest, within, accepted}
 use Rattle.registers.specs.Status.{widest}
 use Rattle.registers.specs.declared.number.Decimal.{Decimal}

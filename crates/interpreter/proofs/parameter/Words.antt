@@ -1,6 +1,6 @@
 -- Check 5 on a word. The loop's invariant, `Searching`: what is found among the words not yet tried is what is found among all. No text with
 -- another byte than letters, digits and underscore spells a word (`word_bytes`), so that the search alone refuses it.
-use mathlib.Core.Path.{◌≡◌, refl, sym}
+use mathlib.Core.Path.{◌≡◌, refl}
 use mathlib.Core.Bool.{Bool, true, false, ◌&&◌, ◌||◌, false≢true, or-true}
 use mathlib.Core.List.{List, [], ◌∷◌, map}
 use Prim.Native.Nat.{ℕ, suc, ◌+◌, ◌-◌, ◌≤◌, ◌<◌}

@@ -1,6 +1,6 @@
 -- The checks after the header, by the one that ends them: no empty parameter, a row, its number of parameters, and then what the row's own
 -- checks say of them (`passes`). `says` is what is left of the chain once the role is known.
-use mathlib.Core.Path.{◌≡◌, refl, sym, ap, subst, ◌∙◌}
+use mathlib.Core.Path.{◌≡◌, refl, sym, ◌∙◌}
 use mathlib.Core.Bool.{Bool, true, false, not, ◌&&◌}
 use mathlib.Core.List.{List}
 use Prim.Native.Nat.{ℕ, ◌≤◌, ◌<◌}

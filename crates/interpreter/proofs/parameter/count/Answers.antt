@@ -1,6 +1,5 @@
 -- A turn of the loop, and what comes of it after the last byte, are laws of parameter/Counting.
 use mathlib.Core.Path.{sym}
-use native.Mathlib.Omega.{arith}
 use borrow.Author.Tests.{eqb-true, eqb-false}
 use Rattle.interpreter.proofs.parameter.Counting.{counting-start, counting-empty, counting-comma, counting-byte, counting-last, counting-end, counting-none}
 use Rattle.interpreter.proofs.parameter.count.Goals as goal

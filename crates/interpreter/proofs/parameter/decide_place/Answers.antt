@@ -1,6 +1,4 @@
 -- Neither has a query; otherwise the whole number is the place (parameter/Decisions).
-use mathlib.Core.Path.{◌≡◌, sym, ap, ◌∙◌}
-use mathlib.Core.Bool.{false}
 use borrow.Author.Rules.{rules}
 use Rattle.registers.specs.Check.{◌>>=◌}
 use Rattle.interpreter.specs.ParameterParts.{saving_to}

@@ -1,6 +1,4 @@
 -- A query asks for the register; otherwise its whole number is stored (parameter/Decisions).
-use mathlib.Core.Path.{◌≡◌, sym, ap, ◌∙◌}
-use mathlib.Core.Bool.{false}
 use borrow.Author.Rules.{rules}
 use Rattle.registers.specs.Check.{◌>>=◌}
 use Rattle.interpreter.specs.ParameterParts.{register_to}

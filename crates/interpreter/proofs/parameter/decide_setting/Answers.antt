@@ -12,7 +12,6 @@ use Rattle.std.specs.Prelude.{Some}
 use Rattle.registers.specs.Text.{Text, if◌then◌otherwise◌}
 use Rattle.registers.specs.Check.{Checked, passed, refused, ◌>>=◌}
 use Rattle.registers.specs.Settings.{count, kind_of, quantity_of}
-use Rattle.registers.specs.declared.rounding.Rounded.{Rounded}
 use Rattle.registers.specs.declared.rounding.Side.TheVariants.{On}
 use Rattle.interpreter.specs.Parameter.{Given, Word, parameter, words_of, takes_numbers, value_given, side_given, deed_of, greatest}
 use Rattle.interpreter.specs.ParameterParts.{parameter_where, given_by, fit_in, put_fit, parts_of, TakesOf}

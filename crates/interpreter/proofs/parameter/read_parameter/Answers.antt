@@ -1,8 +1,7 @@
 -- By the first byte: a letter starts a word, which is searched for, and any other byte is left to `read_figure`.
-use mathlib.Core.Path.{◌≡◌, sym, ap, ◌∙◌}
-use mathlib.Core.Bool.{false}
+use mathlib.Core.Path.{sym, ap, ◌∙◌}
 use borrow.Author.Rules.{rules}
-use Rattle.registers.specs.Text.{letter, first}
+use Rattle.registers.specs.Text.{letter}
 use Rattle.interpreter.specs.WordsParts.{words_in}
 use Rattle.interpreter.proofs.parameter.Words.{starts-word, no-letter}
 use Rattle.interpreter.proofs.parameter.read_parameter.Goals as goal

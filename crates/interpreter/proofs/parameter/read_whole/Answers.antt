@@ -1,12 +1,7 @@
 -- A word is barred; a number is rounded within 0 and the highest, or is outside (parameter/Decisions).
-use mathlib.Core.Path.{◌≡◌, sym, ap, ◌∙◌}
-use native.Mathlib.Omega.{arith}
-use lib.IntN.{pos}
-use mir.Val.{SFits}
-use mir.Syntax.{w32}
+use mathlib.Core.Path.{sym, ap, ◌∙◌}
 use borrow.Author.Rules.{rules}
 use Rattle.registers.specs.Text.{letter}
-use Rattle.registers.specs.Rounding.{RoundedIn}
 use Rattle.interpreter.proofs.parameter.Decisions.{back, word-barred, whole-refused, whole-natural, whole-within, whole-outside}
 use Rattle.interpreter.proofs.parameter.read_whole.Goals as goal
 

@@ -1,6 +1,4 @@
 -- Where a setting's words begin tells whether it takes numbers, as 01's table does (words/Taken).
-use mathlib.Core.Path.{◌≡◌, ap, ◌∙◌}
-use mathlib.Core.Bool.{Bool, true, false, not, ◌&&◌}
 use Rattle.registers.specs.Text.{if◌then◌otherwise◌}
 use Rattle.interpreter.proofs.parameter.setting_takes.Goals as goal
 

@@ -1,11 +1,11 @@
 -- The reply is written after the answers so far and their separator. Three ways: there is nothing to say, it leaves no room for the
 -- newline, or it stands whole. Each is a law of reply/Answers.
-use mathlib.Core.Path.{◌≡◌, ap, ◌∙◌}
-use Prim.Native.Nat.{◌+◌, ◌≤◌}
+use mathlib.Core.Path.{ap, ◌∙◌}
+use Prim.Native.Nat.{◌+◌}
 use Prim.Native.Char.{code}
 use native.Mathlib.Omega.{arith}
-use lib.ListN.{length, set, length-set}
-use Rattle.interpreter.proofs.reply.Answers.{start, start-room, given-none, given-whole, given-over, end-room}
+use lib.ListN.{length-set}
+use Rattle.interpreter.proofs.reply.Answers.{start-room, given-none, given-whole, given-over, end-room}
 use Rattle.interpreter.proofs.reply.append.Goals as goal
 
 pub returns-in_default : goal.returns-in_default

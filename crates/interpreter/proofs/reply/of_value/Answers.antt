@@ -1,7 +1,7 @@
 -- By what the setting's values are (`named`): a word by its place, tenths, or a whole number (reply/Values).
-use mathlib.Core.Path.{◌≡◌, refl}
+use mathlib.Core.Path.{refl}
 use Rattle.registers.specs.Settings.{kind_of}
-use Rattle.registers.proofs.settings.Laws.{values_in, values-is}
+use Rattle.registers.proofs.settings.Laws.{values-is}
 use Rattle.interpreter.specs.ReplyParts.{text_of}
 use Rattle.interpreter.proofs.reply.Values.{told-value, told-whole, word-row}
 use Rattle.interpreter.proofs.reply.of_value.Goals as goal
