@@ -11,7 +11,8 @@ use crate::sizes::{ANSWER, LINE, STORE};
 use crate::table::Table;
 use registers::text;
 
-// The small part of a state, which goes by value, and how many bytes and newlines were taken in; the two arrays are lent beside it.
+// The small part of a state, which goes by value, and how many bytes and newlines were taken in. Line, answer and store are lent beside
+// it, each for itself: a newline reads the line while it writes the others, so that one struct of the three would be taken apart again.
 #[derive(Clone, Copy)]
 pub(crate) struct Flow {
     pub(crate) present: Present,
