@@ -36,12 +36,6 @@ class_of t =
     if empty t then 0
     otherwise (if same t (bytes "1") then 1 otherwise (if same t (bytes "2") then 2 otherwise (if every digit t then 3 otherwise 4)))
 
--- the same by its first byte, how many it has, and whether all are digits
-unfoldable pub class_by : ℕ → ℕ → Bool → ℕ
-class_by x n digits =
-    if eqb n 0 then 0
-    otherwise (if eqb n 1 && eqb x (code_in "1") then 1 otherwise (if eqb n 1 && eqb x (code_in "2") then 2 otherwise (if digits then 3 otherwise 4)))
-
 -- where a suffix stands in a name's number, and the first number of what is no numeric suffix
 abbrev pub suffix_place : ℕ
 suffix_place = 2 ^ 60
@@ -59,14 +53,9 @@ name_in t = if letter (first t) then start word_byte t otherwise []
 
 -- ---- what each function finds
 
-pub record RestRead (t : Text) (at : ℕ) (r : Name) : Type 0 where
-  pub key : r.key ≡ key_from 0 (start stem_byte (drop at t))
-  pub end : r.end ≡ at + length (start stem_byte (drop at t))
-
--- what is left of a name from its first digit on
-pub record SuffixRead (t : Text) (at : ℕ) (r : Name) : Type 0 where
-  pub key : r.key ≡ class_of (start word_byte (drop at t))
-  pub end : r.end ≡ at + length (start word_byte (drop at t))
+pub record StemRead (t : Text) (r : Name) : Type 0 where
+  pub key : r.key ≡ key_from 0 (start stem_byte t)
+  pub end : r.end ≡ length (start stem_byte t)
 
 -- a name starts with a letter
 pub record NameHere (t : Text) (at : ℕ) (r : Name) : Type 0 where

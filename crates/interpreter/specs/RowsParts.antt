@@ -55,21 +55,6 @@ found r = if ltb r row_count then Some r otherwise None
 unfoldable pub row_cell : ℕ → ℕ → ℕ
 row_cell r i = get_or row_table (r * row_size + i) 0
 
--- two and four bytes as a number
-abbrev pub pair_at : Text → ℕ → ℕ
-pair_at t at = get_or t at 0 + get_or t (at + 1) 0 * 256
-
-abbrev pub quad_at : Text → ℕ → ℕ
-quad_at t at = pair_at t at + pair_at t (at + 2) * 65536
-
-pub record PairRead (t : Text) (at r : ℕ) : Type 0 where
-  pub is : r ≡ pair_at t at
-  pub small : r < 65536
-
-pub record QuadRead (t : Text) (at r : ℕ) : Type 0 where
-  pub is : r ≡ quad_at t at
-  pub small : r < 4294967296
-
 -- the number of a word's short form, or its long one
 unfoldable pub key_cell : ℕ → ℕ → ℕ
 key_cell w i = word_key (if eqb i 0 then short_form (node_at w) otherwise long_form (node_at w))

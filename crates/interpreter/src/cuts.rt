@@ -24,15 +24,13 @@ fn plain_end(text: &[u8], at: usize, separator: u8) -> usize
     requires { at ≤ length text.now }
     ensures { OnWay separator text.now at result 0 }
 {
-    let mut i = at;
-    while i < text.len() {
+    for i in at..text.len() {
         let b = text[i];
         if (b == separator) | ((b == b'"') | (b == b'\'')) {
             return i;
         }
-        i += 1;
     }
-    i
+    text.len()
 }
 
 // Finds the first separator outside quotes from a place on, where no quote is open; an unclosed quote takes the rest of the text.
@@ -41,14 +39,12 @@ pub(crate) fn part_end(text: &[u8], at: usize, separator: u8) -> usize
     ensures { (result ≡ at + place_open separator 0 (drop at text.now)) × (result ≤ length text.now) }
 {
     let mut mark: u8 = 0;
-    let mut i = plain_end(text, at, separator);
-    while i < text.len() {
+    for i in plain_end(text, at, separator)..text.len() {
         let b = text[i];
         if (mark == 0) & (b == separator) {
             return i;
         }
         mark = quote_next(mark, b);
-        i += 1;
     }
-    i
+    text.len()
 }

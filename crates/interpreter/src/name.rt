@@ -4,8 +4,8 @@
 // No word of the table has more than eleven letters. A longer name has a number all the same, of which the table's words have
 // none: its twelve lowest places are all taken.
 ghost use Rattle.std.specs.Prelude.{◌≡◌, ◌<◌};
-ghost use Rattle.registers.specs.Text.{word_byte};
-ghost use Rattle.interpreter.specs.NameParts.{code_count, with_code, class_by, NameRead, RestRead, SuffixRead};
+ghost use Rattle.registers.specs.Text.{word_byte, start};
+ghost use Rattle.interpreter.specs.NameParts.{code_count, with_code, class_of, NameRead, StemRead};
 
 use crate::table::Table;
 use registers::text;
@@ -34,21 +34,22 @@ fn with_code(key: u64, code: u64) -> u64
     key % KEPT * CODES + code
 }
 
-// Reads the rest of a name after its first letter, up to its first digit.
-fn read_rest(table: &Table, text: &[u8], at: usize) -> Name
-    ensures { RestRead text.now at result }
+// Reads the letters and underscores that a text starts with.
+fn read_stem(table: &Table, text: &[u8]) -> Name
+    ensures { StemRead text.now result }
 {
     let mut key: u64 = 0;
-    let mut i = at;
-    while i < text.len() {
-        let c = table.code(text[i]);
+    for (i, b) in text.iter().enumerate() {
+        let c = table.code(*b);
         if c == 0 {
             return Name { key, end: i };
         }
         key = with_code(key, c);
-        i += 1;
     }
-    Name { key, end: i }
+    Name {
+        key,
+        end: text.len(),
+    }
 }
 
 // Tells whether a name may have a byte after its first letter.
@@ -58,51 +59,34 @@ fn is_word_byte(b: u8) -> bool
     text::is_letter(b) | text::is_digit(b) | (b == b'_')
 }
 
-// Tells which suffix it is that has so many bytes, by the first of them: 0 for none, 1, 2, 3 for other digits, 4 for what is no
-// number.
-fn class(lead: u8, count: usize, digits: bool) -> u64
-    ensures { result ≡ class_by lead count digits }
+// Gives the bytes of a name that a text starts with.
+fn word_bytes(text: &[u8]) -> &[u8]
+    ensures { result.now ≡ start word_byte text.now }
 {
-    if count == 0 {
-        return 0;
-    }
-    if (count == 1) & (lead == b'1') {
-        return 1;
-    }
-    if (count == 1) & (lead == b'2') {
-        return 2;
-    }
-    if digits {
-        return 3;
-    }
-    4
-}
-
-// Reads what is left of a name from its first digit on.
-fn read_suffix(text: &[u8], at: usize) -> Name
-    ensures { SuffixRead text.now at result }
-{
-    let lead = text::byte_at(text, at);
-    let mut digits = true;
-    let mut i = at;
-    while i < text.len() {
-        let b = text[i];
-        if !is_word_byte(b) {
-            return Name {
-                key: class(lead, i - at, digits),
-                end: i,
-            };
+    for (i, b) in text.iter().enumerate() {
+        if !is_word_byte(*b) {
+            return &text[..i];
         }
-        digits = digits & text::is_digit(b);
-        i += 1;
     }
-    Name {
-        key: class(lead, i - at, digits),
-        end: i,
+    text
+}
+
+// Tells which suffix it is: 0 for none, 1, 2, 3 for other digits, 4 for what is no number. A number, since it is packed beside the
+// name's in the one that is compared.
+fn class(suffix: &[u8]) -> u64
+    ensures { result ≡ class_of suffix.now }
+{
+    match suffix {
+        [] => 0,
+        [b'1'] => 1,
+        [b'2'] => 2,
+        _ if suffix.iter().all(|b| text::is_digit(*b)) => 3,
+        _ => 4,
     }
 }
 
-// Reads the name that starts at a place, if one does. Its first letter comes last into the number, and so stands lowest.
+// Reads the name that starts at a place, if one does: its stem, and from its first digit on its suffix. Its first letter comes last
+// into the number, and so stands lowest.
 pub(crate) fn read(table: &Table, text: &[u8], at: usize) -> Option<Name>
     ensures { NameRead text.now at result }
 {
@@ -110,15 +94,11 @@ pub(crate) fn read(table: &Table, text: &[u8], at: usize) -> Option<Name>
     if !text::is_letter(lead) {
         return None;
     }
-    let rest = read_rest(table, text, at + 1);
-    let key = with_code(rest.key, table.code(lead));
-    let end = rest.end;
-    if !text::is_digit(text::byte_at(text, end)) {
-        return Some(Name { key, end });
-    }
-    let suffix = read_suffix(text, end);
+    let stem = read_stem(table, &text[at + 1..]);
+    let end = at + 1 + stem.end;
+    let suffix = word_bytes(&text[end..]);
     Some(Name {
-        key: key + suffix.key * SUFFIX_PLACE,
-        end: suffix.end,
+        key: with_code(stem.key, table.code(lead)) + class(suffix) * SUFFIX_PLACE,
+        end: end + suffix.len(),
     })
 }

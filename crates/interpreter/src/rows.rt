@@ -59,10 +59,11 @@ fn take_node(table: &Table, names: &[u64], at: usize, node: u8) -> Option<usize>
 fn form_bit(star: bool, asked: bool) -> u8
     ensures { result ≡ form_bit star asked }
 {
-    if star {
-        if asked { 8 } else { 4 }
-    } else {
-        if asked { 2 } else { 1 }
+    match (star, asked) {
+        (false, false) => 1,
+        (false, true) => 2,
+        (true, false) => 4,
+        (true, true) => 8,
     }
 }
 
@@ -70,11 +71,9 @@ fn form_bit(star: bool, asked: bool) -> u8
 fn mark(names: &[u64], star: bool) -> usize
     ensures { Marked star names.now result }
 {
-    let mut letters = star as usize;
-    let mut i: usize = 0;
-    while i < names.len() {
-        letters = (letters * 24 + (names[i] % CODES) as usize) % MARKS;
-        i += 1;
+    let mut letters = usize::from(star);
+    for key in names {
+        letters = (letters * 24 + (key % CODES) as usize) % MARKS;
     }
     letters
 }
@@ -108,13 +107,11 @@ pub(crate) fn find(table: &Table, names: &[u64], star: bool, asked: bool) -> Opt
 pub(crate) fn suffix(names: &[u64]) -> u64
     ensures { result ≡ class_in names.now }
 {
-    let mut i: usize = 0;
-    while i < names.len() {
-        let class = names[i] / SUFFIX_PLACE;
+    for key in names {
+        let class = key / SUFFIX_PLACE;
         if class != 0 {
             return class;
         }
-        i += 1;
     }
     0
 }

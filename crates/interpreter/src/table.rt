@@ -1,11 +1,11 @@
 // The table that the header search and the parameter reader look into: made once where a chunk of bytes is served, and lent
 // down. It is tied to 01's rows and words by its invariant.
-ghost use Rattle.std.specs.Prelude.{◌≡◌, ◌+◌, ◌≤◌, ◌<◌, length};
+ghost use Rattle.std.specs.Prelude.{◌≡◌, ◌<◌};
 ghost use Rattle.interpreter.specs.NameParts.{code_of};
 ghost use Rattle.interpreter.specs.WordsParts.{word_count, word_size, word_cell};
 ghost use Rattle.interpreter.specs.DeedParts.{row_count};
 ghost use Rattle.interpreter.specs.TableParts.{command_table, row_size, node_count, mark_count, start_of};
-ghost use Rattle.interpreter.specs.RowsParts.{row_cell, key_cell, PairRead, QuadRead};
+ghost use Rattle.interpreter.specs.RowsParts.{row_cell, key_cell};
 
 // How many words the parameters have, how many rows there are, and how many words the rows' nodes have.
 pub(crate) const WORDS: usize = 10;
@@ -124,22 +124,6 @@ pub(crate) struct Table {
     ghost has_01s_rows: { bytes ≡ command_table },
 }
 
-// Reads two bytes as a number, low byte first.
-fn pair(bytes: &[u8], at: usize) -> u64
-    requires { at + 2 ≤ length bytes.now }
-    ensures { PairRead bytes.now at result }
-{
-    bytes[at] as u64 + bytes[at + 1] as u64 * 256
-}
-
-// Reads four bytes in the same way.
-fn quad(bytes: &[u8], at: usize) -> u64
-    requires { at + 4 ≤ length bytes.now }
-    ensures { QuadRead bytes.now at result }
-{
-    pair(bytes, at) + pair(bytes, at + 2) * 65536
-}
-
 impl Table {
     // Reads a byte of a parameter's word: the lengths of its two forms, then its letters.
     pub(crate) fn word_cell(&self, word: usize, i: usize) -> u8
@@ -163,8 +147,8 @@ impl Table {
         ensures { result ≡ key_cell word i }
     {
         let at = FIRST_KEY + word * KEYS_SIZE + i * 8;
-        let bytes: &[u8] = &self.bytes;
-        quad(bytes, at) + quad(bytes, at + 4) * 4294967296
+        let b = &self.bytes[at..at + 8];
+        u64::from_le_bytes([b[0], b[1], b[2], b[3], b[4], b[5], b[6], b[7]])
     }
 
     // Gives a byte of a name as a number of five bits, the same for a letter in either case; 0 for a digit, and for a byte that

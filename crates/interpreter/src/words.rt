@@ -48,17 +48,15 @@ fn agreed_letters(table: &Table, text: &[u8], word: usize) -> usize
     ensures { result ≡ agreed text.now (long_form (word_at word)) }
 {
     let long = table.word_cell(word, 1) as usize;
-    let mut n: usize = 0;
-    while n < text.len() {
+    for (n, b) in text.iter().enumerate() {
         if long <= n {
             return n;
         }
-        if text::in_capitals(text[n]) != table.word_cell(word, n + 2) {
+        if text::in_capitals(*b) != table.word_cell(word, n + 2) {
             return n;
         }
-        n += 1;
     }
-    n
+    text.len()
 }
 
 // Tells whether a text spells a word, in its short or its long form. The short form is a start of the long one, so one walk over the letters

@@ -6,14 +6,18 @@ use mathlib.Core.Bool.{Bool, true, false, not, ◌&&◌, false≢true}
 use mathlib.Core.List.{[], ◌∷◌}
 use Prim.Native.Nat.{ℕ, suc, ◌+◌, ◌*◌, ◌-◌, ◌≤◌, ◌<◌}
 use native.Mathlib.Omega.{arith}
+use native.Mathlib.Nat.{zero-add}
 use lib.Dec.{eqb}
 use borrow.Author.Tests.{ne_eqb}
-use lib.ListN.{length, get_or, drop}
+use lib.ListN.{length, get_or, drop, length-drop}
+use lib.Seq.{drop-cons, drop-drop}
+use native.Mathlib.Numerals.{add-one}
+use Rattle.std.specs.List.{list_all}
 use Rattle.registers.specs.Text.{Text, if◌then◌otherwise◌, bytes, same, letter, small, digit, word_byte, every, first, start, after}
-use Rattle.registers.proofs.text.Laws.{first-at, first-within, start-more, start-stop, start-end, end-drop, OnWay, way_on, way-stop, way_end}
+use Rattle.registers.proofs.text.Laws.{first-at, first-within, start-more, start-stop, start-end, start-short, end-drop, OnWay, way_on, way-stop, way_end}
 use Rattle.registers.proofs.Tests.{and_assoc}
 use Rattle.interpreter.specs.Header.{stem, suffix}
-use Rattle.interpreter.specs.NameParts.{code_of, with_code, key_from, word_key, class_of, class_by, key_of, suffix_place, stem_byte, name_in, RestRead, SuffixRead, NameHere}
+use Rattle.interpreter.specs.NameParts.{code_of, with_code, key_from, word_key, class_of, key_of, suffix_place, stem_byte, name_in, StemRead, NameHere}
 use Rattle.interpreter.specs.declared.name.Name.{Name}
 use Rattle.interpreter.proofs.table.Codes.{letter-stem, code-small, code-some, code-none, stem-is}
 use Rattle.interpreter.proofs.table.Keys.{class-most}
@@ -36,102 +40,69 @@ uncoded b e = go (stem_byte b) refl
 
 -- ---- the loop over a name's bytes
 
--- i is on the way through the name that starts at `at`, and key is the number of the bytes before i
-pub record Spelled (t : Text) (at key i : ℕ) : Type 0 where
-  pub on : key_from key (start stem_byte (drop i t)) ≡ key_from 0 (start stem_byte (drop at t))
-  pub way : OnWay stem_byte t at i
+-- i is on the way through the stem that starts a text, and key is the number of the bytes before i
+pub record Spelled (t : Text) (key i : ℕ) : Type 0 where
+  pub on : key_from key (start stem_byte (drop i t)) ≡ key_from 0 (start stem_byte t)
+  pub way : OnWay stem_byte t 0 i
 
-pub spelled_none : (t : Text) (at : ℕ) → Spelled t at 0 at
-spelled_none t at = record { on = refl; way = refl }
+pub spelled_none : (t : Text) → Spelled t 0 0
+spelled_none t = record { on = refl; way = refl }
 
-module _ {t : Text} {at key i : ℕ} (s : Spelled t at key i) where
+module _ {t : Text} {key i : ℕ} (s : Spelled t key i) where
   module _ (h : i < length t) (c : ℕ) (is : c ≡ code_of (get_or t i 0)) where
-    pub spelled-on : (c ≡ 0 → ⊥) → Spelled t at (with_code key c) (i + 1)
+    pub spelled-on : (c ≡ 0 → ⊥) → Spelled t (with_code key c) (i + 1)
     unfolding key_from
     spelled-on ne =
         let w = coded (get_or t i 0) (λ e. ne (is ∙ e)) in
-        record { on = rw is (rw (start-more stem_byte t i h w) at s.on); way = way_on stem_byte t at i s.way h w }
+        record { on = rw is (rw (start-more stem_byte t i h w) at s.on); way = way_on stem_byte t 0 i s.way h w }
 
-    pub spelled-stop : c ≡ 0 → RestRead t at (record { key = key; end = i })
+    pub spelled-stop : c ≡ 0 → StemRead t (record { key = key; end = i })
     unfolding key_from
     spelled-stop e =
         let w = uncoded (get_or t i 0) (sym is ∙ e) in
-        record { key = rw (start-stop stem_byte t i h w) at s.on; end = way-stop stem_byte t at i s.way h w }
+        record { key = rw (start-stop stem_byte t i h w) at s.on; end = way-stop stem_byte t 0 i s.way h w ∙ zero-add _ }
 
-  pub spelled-end : length t ≤ i → RestRead t at (record { key = key; end = i })
+  pub spelled-end : length t ≤ i → StemRead t (record { key = key; end = length t })
   unfolding key_from
-  spelled-end h = record { key = rw (start-end stem_byte t i h) at s.on; end = way_end stem_byte t at i s.way h }
+  spelled-end h =
+      let short = start-short stem_byte t in
+      let e = way_end stem_byte t 0 i s.way h in
+      record { key = rw (start-end stem_byte t i h) at s.on; end = omega arith }
 
--- ---- the loop over a suffix's bytes
+-- ---- a suffix, by its bytes
 
--- i is on the way through the suffix that starts at `at`, and `digits` tells whether those before i are all digits
-pub record Counting (t : Text) (at : ℕ) (digits : Bool) (i : ℕ) : Type 0 where
-  pub on : (digits && every digit (start word_byte (drop i t))) ≡ every digit (start word_byte (drop at t))
-  pub way : OnWay word_byte t at i
-  pub from : at ≤ i
+pub no_suffix : (t : Text) → length t < 1 → 0 ≡ class_of t
+unfolding class_of if◌then◌otherwise◌
+no_suffix [] h = refl
+no_suffix (b ∷ t) h = absurd (omega arith)
 
-pub counting-none : (t : Text) (at : ℕ) → Counting t at true at
-counting-none t at = record { on = refl; way = refl; from = omega arith }
+pub first-channel : (t : Text) → 1 ≤ length t → length t < 2 → get_or t 0 0 ≡ 49 → 1 ≡ class_of t
+unfolding class_of same bytes if◌then◌otherwise◌
+first-channel [] k h e = absurd (omega arith)
+first-channel (b ∷ []) k h e = rw e
+first-channel (b ∷ c ∷ t) k h e = absurd (omega arith)
 
-class-is : (u : Text) → class_of (start word_byte u) ≡ class_by (first u) (length (start word_byte u)) (every digit (start word_byte u))
-unfolding class_of class_by same bytes if◌then◌otherwise◌
-class-is [] = refl
-class-is (b ∷ u) = go (word_byte b) (start word_byte u)
+pub second-channel : (t : Text) → 1 ≤ length t → length t < 2 → get_or t 0 0 ≡ 50 → 2 ≡ class_of t
+unfolding class_of same bytes if◌then◌otherwise◌
+second-channel [] k h e = absurd (omega arith)
+second-channel (b ∷ []) k h e = rw e
+second-channel (b ∷ c ∷ t) k h e = absurd (omega arith)
+
+pub no-channel : (t : Text) → 1 ≤ length t → (length t < 2 → get_or t 0 0 ≡ 49 → ⊥) → (length t < 2 → get_or t 0 0 ≡ 50 → ⊥) → class_of t ≡ (if every digit t then 3 otherwise 4)
+unfolding class_of same bytes if◌then◌otherwise◌
+no-channel [] k one two = absurd (omega arith)
+no-channel (b ∷ []) k one two = rw (ne_eqb b 49 (one (omega arith)), ne_eqb b 50 (two (omega arith)))
+no-channel (b ∷ c ∷ t) k one two = go (eqb b 49) (eqb b 50)
   where
-    go : (w : Bool) (s : Text) → class_of (if w then b ∷ s otherwise []) ≡ class_by b (length (if w then b ∷ s otherwise [])) (every digit (if w then b ∷ s otherwise []))
-    go false s = refl
-    go true [] = one (eqb b 49) (eqb b 50)
-      where
-        one : (x y : Bool) → ◌≡◌ {A = ℕ} (if x && true then 1 otherwise (if y && true then 2 otherwise (if digit b && true then 3 otherwise 4)))
-            (if x then 1 otherwise (if y then 2 otherwise (if digit b && true then 3 otherwise 4)))
-        one true y = refl
-        one false true = refl
-        one false false = refl
-    go true (c ∷ s) =
-        rw (ne_eqb (suc (suc (length s))) 0 (λ e. omega arith), ne_eqb (suc (suc (length s))) 1 (λ e. omega arith)) (two (eqb b 49) (eqb b 50))
-      where
-        two : (x y : Bool) → ◌≡◌ {A = ℕ} (if x && false then 1 otherwise (if y && false then 2 otherwise (if digit b && (digit c && every digit s) then 3 otherwise 4)))
-            (if digit b && (digit c && every digit s) then 3 otherwise 4)
-        two true true = refl
-        two true false = refl
-        two false true = refl
-        two false false = refl
+    go : (x y : Bool) → ◌≡◌ {A = ℕ} (if x && false then 1 otherwise (if y && false then 2 otherwise (if every digit (b ∷ c ∷ t) then 3 otherwise 4))) (if every digit (b ∷ c ∷ t) then 3 otherwise 4)
+    go true true = refl
+    go true false = refl
+    go false true = refl
+    go false false = refl
 
-module _ {t : Text} {at i : ℕ} {digits : Bool} (s : Counting t at digits i) (lead : ℕ) (is : lead ≡ first (drop at t)) where
-  module _ (h : i < length t) (d : Bool) (told : d ≡ digit (get_or t i 0)) where
-    pub counting-on : word_byte (get_or t i 0) ≡ true → Counting t at (digits && d) (i + 1)
-    counting-on w =
-        let f = s.from in
-        record {
-          on = rw told (and_assoc digits (digit (get_or t i 0)) _ ∙ rw (start-more word_byte t i h w) at s.on);
-          way = way_on word_byte t at i s.way h w;
-          from = omega arith;
-        }
-
-  counted : i ≡ at + length (start word_byte (drop at t)) → digits ≡ every digit (start word_byte (drop at t)) → (k : ℕ) → k ≡ class_by lead (i - at) digits
-      → SuffixRead t at (record { key = k; end = i })
-  counted e d k q =
-      let n : i - at ≡ length (start word_byte (drop at t)) = omega arith in
-      record { key = q ∙ rw (is, n, d) (sym (class-is (drop at t))); end = e }
-
-  pub counting-stop : i < length t → word_byte (get_or t i 0) ≡ false → (k : ℕ) → k ≡ class_by lead (i - at) digits → SuffixRead t at (record { key = k; end = i })
-  counting-stop h w k q =
-      counted (way-stop word_byte t at i s.way h w) (sym (and_one digits) ∙ rw (start-stop word_byte t i h w) at s.on) k q
-    where
-      and_one : (b : Bool) → (b && true) ≡ b
-      and_one true = refl
-      and_one false = refl
-
-  pub counting-end : length t ≤ i → (k : ℕ) → k ≡ class_by lead (i - at) digits → SuffixRead t at (record { key = k; end = i })
-  counting-end h k q =
-      counted (way_end word_byte t at i s.way h) (sym (and_one digits) ∙ rw (start-end word_byte t i h) at s.on) k q
-    where
-      and_one : (b : Bool) → (b && true) ≡ b
-      and_one true = refl
-      and_one false = refl
-
-pub suffix-most : (t : Text) (at : ℕ) (r : Name) → SuffixRead t at r → r.key ≤ 4
-suffix-most t at r p = rw p.key (class-most (start word_byte (drop at t)))
+pub all-digits : (t : Text) → list_all digit t ≡ every digit t
+all-digits [] = refl
+all-digits (b ∷ t) = rw (all-digits t)
 
 -- ---- a name is its stem and its suffix
 
@@ -179,64 +150,62 @@ after-stem (b ∷ u) = go (stem_byte b) refl (after-stem u)
     go true q ih = ih
     go false q ih = q
 
-no_word : (u : Text) → stem_byte (first u) ≡ false → digit (first u) ≡ false → start word_byte u ≡ []
-unfolding if◌then◌otherwise◌
-no_word [] s d = refl
-no_word (b ∷ u) s d = go (word_byte b) refl
-  where
-    go : (w : Bool) → word_byte b ≡ w → (if w then b ∷ start word_byte u otherwise []) ≡ []
-    go true q = absurd (false≢true (sym s ∙ stem-is b ∙ rw (q, d)))
-    go false q = refl
+-- ---- the whole name: a letter, the rest of its stem, and the suffix after that
 
--- ---- the whole name
+module _ (lead : ℕ) (t : Text) (e : letter lead ≡ true) where
+  name-is : name_in (lead ∷ t) ≡ start word_byte (lead ∷ t)
+  unfolding name_in if◌then◌otherwise◌
+  name-is = rw e
 
-module _ (t : Text) (at lead : ℕ) (is : lead ≡ first (drop at t)) where
-  module _ (e : letter lead ≡ true) where
-    pub name-within : at < length t
-    unfolding letter small
-    name-within = first-within letter t at refl (ap letter (sym is) ∙ e)
+  stem-of : start stem_byte (lead ∷ t) ≡ lead ∷ start stem_byte t
+  unfolding if◌then◌otherwise◌
+  stem-of = rw (letter-stem lead e)
 
-    name-is : name_in (drop at t) ≡ start word_byte (drop at t)
-    unfolding name_in if◌then◌otherwise◌
-    name-is = rw (sym is, e)
+  module _ (r : Name) (p : StemRead t r) where
+    after_is : drop r.end t ≡ after stem_byte (lead ∷ t)
+    unfolding if◌then◌otherwise◌
+    after_is = rw (letter-stem lead e) (end-drop stem_byte t 0 r.end (p.end ∙ sym (zero-add _)))
 
-    stem-of : start stem_byte (drop at t) ≡ lead ∷ start stem_byte (drop (at + 1) t)
-    stem-of =
-        let l = is ∙ first-at t at in
-        start-more stem_byte t at name-within (ap stem_byte (sym l) ∙ letter-stem lead e) ∙ rw (sym l)
+    pub stem-within : r.end ≤ length t
+    stem-within = rw p.end (start-short stem_byte t)
 
-    module _ (r : Name) (p : RestRead t (at + 1) r) where
-      stem-ends : r.end ≡ at + length (start stem_byte (drop at t))
-      stem-ends = let k = p.end in rw stem-of (omega arith)
+    pub whole-key : with_code r.key (code_of lead) + class_of (start word_byte (drop r.end t)) * suffix_place ≡ key_of (name_in (lead ∷ t))
+    unfolding key_of word_key
+    whole-key = rw (name-is, stem-start (lead ∷ t), suffix-start (lead ∷ t), stem-of, p.key, after_is)
 
-      after_is : drop r.end t ≡ after stem_byte (drop at t)
-      after_is = end-drop stem_byte t at r.end stem-ends
+    pub whole-end : 1 + r.end + length (start word_byte (drop r.end t)) ≡ length (name_in (lead ∷ t))
+    whole-end =
+        let n = parts-length (lead ∷ t) in
+        let a : length (start stem_byte (lead ∷ t)) ≡ suc r.end = rw (stem-of, p.end) in
+        let b : length (start word_byte (drop r.end t)) ≡ length (start word_byte (after stem_byte (lead ∷ t))) = ap (λ (u : Text). length (start word_byte u)) after_is in
+        rw name-is (omega arith)
 
-      pub whole-name : (s : Name) → SuffixRead t r.end s
-          → NameHere t at (record { key = with_code r.key (code_of lead) + s.key * suffix_place; end = s.end })
-      unfolding key_of word_key
-      whole-name s q =
-          let n = parts-length (drop at t) in
-          let a = stem-ends in
-          let b = q.end in
-          record {
-            lettered = ap letter (sym is) ∙ e;
-            key = rw (name-is, stem-start (drop at t), suffix-start (drop at t), stem-of, p.key, q.key, after_is);
-            end = rw name-is (let c : length (start word_byte (drop r.end t)) ≡ length (start word_byte (after stem_byte (drop at t))) = ap (λ (u : Text). length (start word_byte u)) after_is in omega arith);
-          }
+-- the number fits
+pub key-few : (k b : ℕ) → with_code k (code_of b) < suffix_place
+unfolding with_code
+key-few k b = let c = code-small b in omega arith
 
-      none_left : digit (first (drop r.end t)) ≡ false → start word_byte (drop r.end t) ≡ []
-      none_left d = rw after_is (no_word (after stem_byte (drop at t)) (after-stem (drop at t)) (rw after_is at d))
+-- where it stands in a text
+module _ (t : Text) (at lead : ℕ) (is : lead ≡ first (drop at t)) (e : letter lead ≡ true) where
+  pub name-within : at < length t
+  unfolding letter small
+  name-within = first-within letter t at refl (ap letter (sym is) ∙ e)
 
-      pub plain-name : digit (first (drop r.end t)) ≡ false → NameHere t at (record { key = with_code r.key (code_of lead); end = r.end })
-      unfolding class_of if◌then◌otherwise◌
-      plain-name d =
-          let z : r.end ≡ r.end + 0 = omega arith in
-          let n = whole-name (record { key = 0; end = r.end }) (record { key = rw (none_left d); end = rw (none_left d) z }) in
-          let k : with_code r.key (code_of lead) ≡ with_code r.key (code_of lead) + 0 * suffix_place = omega arith in
-          record { lettered = n.lettered; key = k ∙ n.key; end = n.end }
+  here : drop at t ≡ lead ∷ drop (at + 1) t
+  here = rw (drop-cons t at 0 name-within, add-one at, is ∙ first-at t at)
 
-      -- the number fits
-      pub key_fits : with_code r.key (code_of lead) < suffix_place
-      unfolding with_code
-      key_fits = let c = code-small lead in omega arith
+  module _ (r : Name) (p : StemRead (drop (at + 1) t) r) where
+    pub ends-within : at + 1 + r.end ≤ length t
+    ends-within = let w = name-within in let n = stem-within lead (drop (at + 1) t) e r p in let d = length-drop (at + 1) t in omega arith
+
+    pub whole-name : (k n : ℕ) → k ≡ class_of (start word_byte (drop (at + 1 + r.end) t)) → n ≡ length (start word_byte (drop (at + 1 + r.end) t))
+        → NameHere t at (record { key = with_code r.key (code_of lead) + k * suffix_place; end = at + 1 + r.end + n })
+    whole-name k n kind long =
+        let d = drop-drop r.end (at + 1) t in
+        let key = whole-key lead (drop (at + 1) t) e r p in
+        let len = whole-end lead (drop (at + 1) t) e r p in
+        record {
+          lettered = ap letter (sym is) ∙ e;
+          key = rw (kind, ← d, here) key;
+          end = rw (long, ← d, here) (omega arith);
+        }

@@ -1,18 +1,19 @@
 -- Where each cell stands in the one table of words, rows, numbers, codes and starts. The table is those five parts one after the
--- other, so a byte at a part's start and i is the part's byte i; a word's number is eight such bytes.
+-- other, so a byte at a part's start and i is the part's byte i; a word's number is eight such bytes, low byte first.
 use mathlib.Core.Path.{◌≡◌, refl, sym, ◌∙◌, ap}
 use mathlib.Core.List.{◌++◌}
 use Prim.Native.Nat.{ℕ, zero, suc, ◌+◌, ◌*◌, ◌<◌, ◌≤◌}
 use native.Mathlib.Omega.{arith}
-use lib.ListN.{length, get_or, drop, get_or-append}
-use lib.Seq.{drop-append-le, drop-append-add, drop-drop, get_or-append-add, get_or-drop}
+use Rattle.std.specs.Int.{w64, from_le_bytes}
+use lib.ListN.{length, get_or, take, drop, get_or-append}
+use lib.Seq.{drop-append-le, drop-append-add, drop-drop, get_or-append-add}
 use Rattle.registers.specs.Text.{Text, if◌then◌otherwise◌}
 use Rattle.registers.specs.Words.{short_form, long_form}
 use Rattle.interpreter.specs.NameParts.{code_of, word_key}
 use Rattle.interpreter.specs.WordsParts.{word_bytes, word_count, word_table, word_cell, word_size}
 use Rattle.interpreter.specs.DeedParts.{row_count}
 use Rattle.interpreter.specs.TableParts.{key_bytes, first_key, first_code, first_start, node_count, node_list, node_at, row_table, eight, key_row, key_table_of, key_table, list_from, code_table, start_of, start_table, search_table, command_table, row_size, keys_size, byte_count, mark_count}
-use Rattle.interpreter.specs.RowsParts.{row_cell, quad_at, key_cell}
+use Rattle.interpreter.specs.RowsParts.{row_cell, key_cell}
 use Rattle.interpreter.proofs.Lists.{table_at}
 use Rattle.interpreter.proofs.table.Lengths.{words_long, rows_long, nodes-many, keys-wide, keys-long, lists, codes-long}
 
@@ -84,28 +85,9 @@ keys_from x h =
     ∙ drop-append-add row_table (key_table ++ lists) x
     ∙ drop-append-le x key_table lists (omega arith))
 
--- eight bytes as they are read
-abbrev eight_at : Text → ℕ → ℕ
-eight_at t at = quad_at t at + quad_at t (at + 4) * 4294967296
-
-eight_is : (n : ℕ) (more : Text) → eight_at (eight n ++ more) 0 ≡ n
-eight_is n more = omega arith
-
-from-drop : (t : Text) (at : ℕ) → eight_at t at ≡ eight_at (drop at t) 0
-from-drop t at =
-    let d : (k : ℕ) → get_or (drop at t) k 0 ≡ get_or t (at + k) 0 = λ k. get_or-drop at t k 0 in
-    rw (d 0, d 1, d 2, d 3, d 4, d 5, d 6, d 7) (assoc at)
-  where
-    assoc : (at : ℕ) → eight_at t at
-        ≡ get_or t (at + 0) 0 + get_or t (at + 1) 0 * 256 + (get_or t (at + 2) 0 + get_or t (at + 3) 0 * 256) * 65536
-        + (get_or t (at + 4) 0 + get_or t (at + 5) 0 * 256 + (get_or t (at + 6) 0 + get_or t (at + 7) 0 * 256) * 65536) * 4294967296
-    assoc at =
-        let a : at + 0 ≡ at = omega arith in
-        let b : at + 2 + 1 ≡ at + 3 = omega arith in
-        let c : at + 4 + 1 ≡ at + 5 = omega arith in
-        let d : at + 4 + 2 ≡ at + 6 = omega arith in
-        let e : at + 6 + 1 ≡ at + 7 = omega arith in
-        rw (a, b, c, d, e)
+-- eight bytes as a number
+pub eight-worth : (n : ℕ) → from_le_bytes w64 (eight n) ≡ n
+eight-worth n = omega arith
 
 module _ (w : ℕ) (h : w < node_count) where
   abbrev more : Text
@@ -117,13 +99,13 @@ module _ (w : ℕ) (h : w < node_count) where
       let n = nodes-many in
       keys_from (w * keys_size) (omega arith) ∙ rw (table_at key_row keys_size key_table_of refl (λ x xs. refl) node_list keys-wide w "" (omega arith))
 
-  pub key-read : (i : ℕ) → i < 2 → eight_at command_table (first_key + w * keys_size + i * 8) ≡ key_cell w i
+  pub key-read : (i : ℕ) → i < 2 → take 8 (drop (first_key + w * keys_size + i * 8) command_table) ≡ eight (key_cell w i)
   unfolding key_cell if◌then◌otherwise◌
   key-read zero k =
       let e : first_key + w * keys_size + 0 * 8 ≡ first_key + w * keys_size = omega arith in
-      rw e (from-drop command_table (first_key + w * keys_size) ∙ rw word-keys (eight_is (word_key (short_form (node_at w))) (eight (word_key (long_form (node_at w))) ++ more)))
+      rw e (ap (take 8) word-keys)
   key-read (suc zero) k =
       let d : drop (first_key + w * keys_size + 8) command_table ≡ eight (word_key (long_form (node_at w))) ++ more =
       sym (drop-drop 8 (first_key + w * keys_size) command_table) ∙ ap (drop 8) word-keys in
-      from-drop command_table (first_key + w * keys_size + 8) ∙ rw d (eight_is (word_key (long_form (node_at w))) more)
+      ap (take 8) d
   key-read (suc (suc i)) k = absurd (omega arith)

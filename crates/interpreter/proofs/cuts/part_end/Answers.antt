@@ -1,3 +1,5 @@
+use mathlib.Core.Path.{◌≡◌, ◌∙◌}
+use lib.ListN.{length}
 use native.Mathlib.Omega.{arith}
 use Rattle.interpreter.proofs.cuts.Search.{way_on, way-stop, way_end}
 use Rattle.interpreter.proofs.cuts.part_end.Goals as goal
@@ -12,4 +14,7 @@ pub loop-i-preserved : goal.loop-i-preserved
 loop-i-preserved c = rw c.quote_next-mark.ensures (way_on _ _ _ _ _ c.loop-i.invariant (omega arith) c.if-mark-b.false)
 
 pub returns : goal.returns
-returns c = way_end _ _ _ _ _ c.loop-i.invariant (omega arith)
+returns c =
+    let w = c.loop-i.invariant.within in
+    let e : length c.args.text.now ≡ c.loop-i.i = omega arith in
+    (e ∙ (way_end _ _ _ _ _ c.loop-i.invariant (omega arith)).0, omega arith)

@@ -1,4 +1,5 @@
-use mathlib.Core.Path.{refl}
+use mathlib.Core.Path.{◌≡◌, refl}
+use lib.ListN.{length}
 use native.Mathlib.Omega.{arith}
 use borrow.Author.Rules.{rules}
 use Rattle.interpreter.proofs.cuts.Search.{way-plain}
@@ -9,3 +10,9 @@ loop-i-init c = record { within = search rules; is = refl }
 
 pub loop-i-preserved : goal.loop-i-preserved
 loop-i-preserved c = way-plain _ _ _ _ c.loop-i.invariant (omega arith) c.if-b-separator.false
+
+pub returns : goal.returns
+returns c =
+    let w = c.loop-i.invariant.within in
+    let e : length c.args.text.now ≡ c.loop-i.i = omega arith in
+    rw e c.loop-i.invariant

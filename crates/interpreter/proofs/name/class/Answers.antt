@@ -1,24 +1,44 @@
-use borrow.Author.Tests.{eq-eqb, ne_eqb}
-use Rattle.registers.specs.Text.{if◌then◌otherwise◌}
-use Rattle.interpreter.specs.NameParts.{class_by}
+use mathlib.Core.Path.{◌≡◌, sym, ◌∙◌}
+use mathlib.Core.Bool.{true}
+use Prim.Native.Nat.{◌≤◌}
+use lib.ListN.{length}
+use Rattle.std.proofs.Common.{rules, tests}
+use Rattle.std.proofs.lemmas.Iterator.{YieldsList-from_slice}
+use Rattle.std.proofs.lemmas.Iterator.Search.{all_from_yields_List}
+use Rattle.registers.specs.Text.{if◌then◌otherwise◌, digit, every}
+use Rattle.interpreter.specs.NameParts.{class_of}
+use Rattle.interpreter.proofs.name.Laws.{no_suffix, first-channel, second-channel, no-channel, all-digits}
+use native.Mathlib.Omega.{arith}
 use Rattle.interpreter.proofs.name.class.Goals as goal
+use Rattle.interpreter.proofs.name.class.Goals.{in_default-via-then-suffix-lt2+in_default-1, in_default-via-else-suffix-lt2}
 
-pub returns-then-count-eq0 : goal.returns-then-count-eq0
-unfolding class_by if◌then◌otherwise◌
-returns-then-count-eq0 c = rw (eq-eqb c.args.count 0 c.if-count-eq0.true)
+pub returns-in-empty : goal.returns-in-empty
+returns-in-empty c = no_suffix _ c.in-empty.len_below
 
-pub returns-then-count-lead : goal.returns-then-count-lead
-unfolding class_by if◌then◌otherwise◌
-returns-then-count-lead c = rw (ne_eqb c.args.count 0 c.if-count-eq0.false, c.if-count-lead.true)
+pub returns-in-49 : goal.returns-in-49
+returns-in-49 c = first-channel c.args.suffix.now c.in-49.len_at_least c.in-49.len_below (omega arith)
 
-pub returns-then-count-lead-2 : goal.returns-then-count-lead-2
-unfolding class_by if◌then◌otherwise◌
-returns-then-count-lead-2 c = rw (ne_eqb c.args.count 0 c.if-count-eq0.false, c.if-count-lead.false, c.if-count-lead-2.true)
+pub returns-in-50 : goal.returns-in-50
+returns-in-50 c = second-channel c.args.suffix.now c.in-50.len_at_least c.in-50.len_below (omega arith)
 
-pub returns-then-digits : goal.returns-then-digits
-unfolding class_by if◌then◌otherwise◌
-returns-then-digits c = rw (ne_eqb c.args.count 0 c.if-count-eq0.false, c.if-count-lead.false, c.if-count-lead-2.false, c.if-digits.true)
+pub returns-in_default : goal.returns-in_default
+unfolding if◌then◌otherwise◌
+returns-in_default c =
+    let t = c.args.suffix.now in
+    let is : class_of t ≡ (if every digit t then 3 otherwise 4) = elim c.in_default.branch [
+      | in_default-via-then-suffix-lt2+in_default-1 w ↦ no-channel t (search (rules, tests)) (λ h e. search (rules, tests)) (λ h e. search (rules, tests))
+      | in_default-via-else-suffix-lt2 w ↦ no-channel t (search (rules, tests)) (λ h e. search (rules, tests)) (λ h e. search (rules, tests))
+    ] in
+    let all = all_from_yields_List digit _ _ _ c.all.ensures.ran (YieldsList-from_slice t cc) (λ x b q k. search (rules, tests)) ∙ all-digits t in
+    sym (is ∙ rw (sym all ∙ c.if-all.true))
 
-pub returns : goal.returns
-unfolding class_by if◌then◌otherwise◌
-returns c = rw (ne_eqb c.args.count 0 c.if-count-eq0.false, c.if-count-lead.false, c.if-count-lead-2.false, c.if-digits.false)
+pub returns-in_default-2 : goal.returns-in_default-2
+unfolding if◌then◌otherwise◌
+returns-in_default-2 c =
+    let t = c.args.suffix.now in
+    let is : class_of t ≡ (if every digit t then 3 otherwise 4) = elim c.in_default.branch [
+      | in_default-via-then-suffix-lt2+in_default-1 w ↦ no-channel t (search (rules, tests)) (λ h e. search (rules, tests)) (λ h e. search (rules, tests))
+      | in_default-via-else-suffix-lt2 w ↦ no-channel t (search (rules, tests)) (λ h e. search (rules, tests)) (λ h e. search (rules, tests))
+    ] in
+    let all = all_from_yields_List digit _ _ _ c.all.ensures.ran (YieldsList-from_slice t cc) (λ x b q k. search (rules, tests)) ∙ all-digits t in
+    sym (is ∙ rw (sym all ∙ c.if-all.false))

@@ -1,18 +1,18 @@
 use Rattle.interpreter.specs.RowsParts.{form_bit}
 use Rattle.interpreter.proofs.rows.form_bit.Goals as goal
 
-pub returns-then-asked : goal.returns-then-asked
+pub returns-in-true-true : goal.returns-in-true-true
 unfolding form_bit
-returns-then-asked c = rw (c.if-star.true, c.if-asked.true)
+returns-in-true-true c = rw (c.in-true-true.is-0, c.in-true-true.is-1)
 
-pub returns-else-asked : goal.returns-else-asked
+pub returns-in-true-false : goal.returns-in-true-false
 unfolding form_bit
-returns-else-asked c = rw (c.if-star.true, c.if-asked.false)
+returns-in-true-false c = rw (c.in-true-false.is-0, c.in-true-false.is-1)
 
-pub returns-then-asked-2 : goal.returns-then-asked-2
+pub returns-in-false-true : goal.returns-in-false-true
 unfolding form_bit
-returns-then-asked-2 c = rw (c.if-star.false, c.if-asked-2.true)
+returns-in-false-true c = rw (c.in-false-true.is-0, c.in-false-true.is-1)
 
-pub returns-else-asked-2 : goal.returns-else-asked-2
+pub returns-in-false-false : goal.returns-in-false-false
 unfolding form_bit
-returns-else-asked-2 c = rw (c.if-star.false, c.if-asked-2.false)
+returns-in-false-false c = rw (c.in-false-false.is-0, c.in-false-false.is-1)

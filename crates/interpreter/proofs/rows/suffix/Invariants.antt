@@ -1,12 +1,8 @@
--- Invariant: from place i on the names have the suffix that all have. Measure: the names that are left.
+-- Invariant: from this place on the names have the suffix that all have.
 use mathlib.Core.Path.{◌≡◌}
-use Prim.Native.Nat.{◌-◌}
-use lib.ListN.{length, drop}
+use lib.ListN.{drop}
 use Rattle.interpreter.specs.RowsParts.{class_in}
 use Rattle.interpreter.proofs.rows.suffix.Given as goal
 
-abbrev pub invariant-loop-i : goal.invariant-loop-i
-invariant-loop-i l = class_in (drop l.i l.names) ≡ class_in l.names
-
-abbrev pub decreases-loop-i : goal.decreases-loop-i
-decreases-loop-i l = length l.names - l.i
+abbrev pub invariant-loop-key : goal.invariant-loop-key
+invariant-loop-key l = class_in (drop l.key-index l.names) ≡ class_in l.names

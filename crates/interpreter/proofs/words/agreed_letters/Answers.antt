@@ -1,6 +1,6 @@
-use mathlib.Core.Path.{sym, ◌∙◌}
+use mathlib.Core.Path.{◌≡◌, sym, ◌∙◌}
+use lib.ListN.{length}
 use native.Mathlib.Omega.{arith}
-use Rattle.interpreter.proofs.Lists.{fewer}
 use Rattle.interpreter.proofs.words.Letters.{agreeing-none, agreeing-on, agreeing-miss, agreeing-end, agreeing-full}
 use Rattle.interpreter.proofs.words.agreed_letters.Goals as goal
 
@@ -13,17 +13,13 @@ loop-n-init c = agreeing-none _ _ c.requires
 pub returns-then-long-n : goal.returns-then-long-n
 returns-then-long-n c = agreeing-full c.loop-n.invariant (omega arith)
 
-pub bounds-text-n : goal.bounds-text-n
-bounds-text-n c = c.loop-n-test.true
-
 pub returns-then-in_capitals-word_cell : goal.returns-then-in_capitals-word_cell
 returns-then-in_capitals-word_cell c = agreeing-miss c.loop-n.invariant (omega arith) (omega arith) (λ e. c.if-in_capitals-word_cell.true (c.in_capitals.ensures ∙ e ∙ sym c.word_cell.ensures))
-
-pub loop-n-smaller : goal.loop-n-smaller
-loop-n-smaller c = fewer c.loop-n-test.true
 
 pub loop-n-preserved : goal.loop-n-preserved
 loop-n-preserved c = agreeing-on c.loop-n.invariant (omega arith) (omega arith) (sym c.in_capitals.ensures ∙ c.if-in_capitals-word_cell.false ∙ c.word_cell.ensures)
 
 pub returns : goal.returns
-returns c = agreeing-end c.loop-n.invariant c.loop-n-test.false
+returns c =
+    let e : length c.args.text.now ≡ c.loop-n.n = omega arith in
+    e ∙ agreeing-end c.loop-n.invariant c.loop-n-test.false

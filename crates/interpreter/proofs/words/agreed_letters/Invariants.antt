@@ -1,12 +1,7 @@
 -- The walk ends at the word's end, at the first byte that differs, or at the text's end. Invariant: words/Letters' `Agreeing`, the first
--- n bytes are the word's letters and the rest is to be compared. Measure: the bytes that are left.
-use Prim.Native.Nat.{◌-◌}
-use lib.ListN.{length}
+-- n bytes are the word's letters and the rest is to be compared.
 use Rattle.interpreter.proofs.words.Letters.{Agreeing}
 use Rattle.interpreter.proofs.words.agreed_letters.Given as goal
 
 abbrev pub invariant-loop-n : goal.invariant-loop-n
 invariant-loop-n l = Agreeing l.text l.word l.n
-
-abbrev pub decreases-loop-n : goal.decreases-loop-n
-decreases-loop-n l = length l.text - l.n
