@@ -89,7 +89,7 @@ pub enum Role {
 }
 
 // What each row of 'Registers and queue' is for, the register sets last.
-const OTHER_ROLES: [Role; ROWS - Settings::ROWS] = [
+static OTHER_ROLES: [Role; ROWS - Settings::ROWS] = [
     Role::Only(Deed::Query(Query::Identity)),
     Role::Only(Deed::Query(Query::SelfTest)),
     Role::Only(Deed::Query(Query::Completed)),
