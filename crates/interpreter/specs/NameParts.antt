@@ -1,5 +1,5 @@
 -- How the code reads a name: as a number. Nothing of 01 is defined here: see Header.antt.
-use Rattle.std.specs.Prelude.{◌≡◌, Bool, true, false, ◌&&◌, ◌||◌, [], ◌∷◌, ℕ, ◌+◌, ◌-◌, ◌*◌, ◌%◌, ◌^◌, eqb, length, drop, Option, Some, None}
+use Rattle.std.specs.Prelude.{◌≡◌, Bool, true, false, ◌||◌, [], ◌∷◌, ℕ, ◌+◌, ◌-◌, ◌*◌, ◌%◌, ◌^◌, eqb, length, drop, Option, Some, None}
 use Prim.Native.Char.{code as code_in}
 use Rattle.registers.specs.Text.{Text, if◌then◌otherwise◌, bytes, letter, digit, word_byte, every, empty, same, first, start}
 use Rattle.interpreter.specs.Header.{stem, suffix}

@@ -73,11 +73,8 @@ form_length w n = eqb n (word_cell w 0) || eqb n (word_cell w 1)
 -- ---- the words that a setting takes
 
 -- where each setting's words begin, and how many there are
-unfoldable pub first_words : List ℕ
-first_words = map (λ (s : Setting). place_in word_list (get_or (words_of s.kind) 0 "")) slots
-
-unfoldable pub word_counts : List ℕ
-word_counts = map (λ (s : Setting). length (words_of s.kind)) slots
+unfoldable pub words_taken : List Words
+words_taken = map (λ (s : Setting). record { first = place_in word_list (get_or (words_of s.kind) 0 ""); count = length (words_of s.kind) }) slots
 
 abbrev pub words_in : Words → List String
 words_in w = take w.count (drop w.first word_list)

@@ -17,13 +17,23 @@ pub(crate) struct Words {
     pub(crate) count: usize,
 }
 
-// Where each setting's words begin, and how many there are, by the setting's row (table.rt lists the rows and the words).
-const FIRST_WORDS: [u8; Settings::COUNT] = [
-    6, 6, 6, 0, 8, 3, 8, 8, 5, 5, 8, 8, 8, 8, 8, 6, 6, 6, 6, 6, 8, 3, 8, 8, 5, 5, 8, 8, 8, 8,
-];
+// The words that settings take (table.rt lists the words): switches, what is monitored, the ranges, the modes of a limit, and the
+// bounds of a number.
+const SWITCH: Words = Words { first: 6, count: 2 };
 
-const WORD_COUNTS: [u8; Settings::COUNT] = [
-    2, 2, 2, 3, 2, 2, 2, 2, 2, 2, 2, 2, 2, 2, 2, 2, 2, 2, 2, 2, 2, 2, 2, 2, 2, 2, 2, 2, 2, 2,
+const MONITORED: Words = Words { first: 0, count: 3 };
+
+const RANGES: Words = Words { first: 3, count: 2 };
+
+const MODES: Words = Words { first: 5, count: 2 };
+
+const BOUNDS: Words = Words { first: 8, count: 2 };
+
+// Each setting's words, by the setting's row (table.rt lists the rows).
+const OF_SETTINGS: [Words; Settings::COUNT] = [
+    SWITCH, SWITCH, SWITCH, MONITORED, BOUNDS, RANGES, BOUNDS, BOUNDS, MODES, MODES, BOUNDS,
+    BOUNDS, BOUNDS, BOUNDS, BOUNDS, SWITCH, SWITCH, SWITCH, SWITCH, SWITCH, BOUNDS, RANGES, BOUNDS,
+    BOUNDS, MODES, MODES, BOUNDS, BOUNDS, BOUNDS, BOUNDS,
 ];
 
 // How many bytes a word has in the table of short forms.
@@ -74,12 +84,7 @@ pub(crate) fn of_setting(row: usize) -> Words
     requires { row < count }
     ensures { TakenOf (words_of (kind_of row)) (takes_numbers (kind_of row)) result }
 {
-    let firsts = FIRST_WORDS;
-    let counts = WORD_COUNTS;
-    Words {
-        first: firsts[row] as usize,
-        count: counts[row] as usize,
-    }
+    OF_SETTINGS[row]
 }
 
 // Writes a word in its short form, as the table of short forms has it.

@@ -2,9 +2,9 @@
 -- stem's; a code of 0 ends it. The name's first byte, a letter, is added last, as the lowest place. A name is its stem and, from the first
 -- digit on, its suffix.
 use mathlib.Core.Path.{◌≡◌, refl, sym, ◌∙◌, ap}
-use mathlib.Core.Bool.{Bool, true, false, not, ◌&&◌, false≢true}
+use mathlib.Core.Bool.{Bool, true, false, not, ◌&&◌}
 use mathlib.Core.List.{[], ◌∷◌}
-use Prim.Native.Nat.{ℕ, suc, ◌+◌, ◌*◌, ◌-◌, ◌≤◌, ◌<◌}
+use Prim.Native.Nat.{ℕ, suc, ◌+◌, ◌*◌, ◌≤◌, ◌<◌}
 use native.Mathlib.Omega.{arith}
 use native.Mathlib.Nat.{zero-add}
 use lib.Dec.{eqb}
@@ -15,12 +15,10 @@ use native.Mathlib.Numerals.{add-one}
 use Rattle.std.specs.List.{list_all}
 use Rattle.registers.specs.Text.{Text, if◌then◌otherwise◌, bytes, same, letter, small, digit, word_byte, every, first, start, after}
 use Rattle.registers.proofs.text.Laws.{first-at, first-within, start-more, start-stop, start-end, start-short, end-drop, OnWay, way_on, way-stop, way_end}
-use Rattle.registers.proofs.Tests.{and_assoc}
 use Rattle.interpreter.specs.Header.{stem, suffix}
 use Rattle.interpreter.specs.NameParts.{code_of, with_code, key_from, word_key, class_of, key_of, suffix_place, stem_byte, name_in, StemRead, NameHere}
 use Rattle.interpreter.specs.declared.name.Name.{Name}
 use Rattle.interpreter.proofs.table.Codes.{letter-stem, code-small, code-some, code-none, stem-is}
-use Rattle.interpreter.proofs.table.Keys.{class-most}
 
 -- ---- a byte by its code
 

@@ -16,23 +16,23 @@ use Rattle.registers.specs.Text.{if◌then◌otherwise◌, bytes, same}
 use Rattle.registers.specs.Words.{short_form}
 use Rattle.registers.specs.Settings.{count, table, setting_at, kind_of, word_text, slots}
 use Rattle.interpreter.specs.Parameter.{words_of, takes_numbers}
-use Rattle.interpreter.specs.WordsParts.{word_count, word_list, word_at, place_in, first_words, word_counts, words_in, with_numbers, TakenOf}
+use Rattle.interpreter.specs.WordsParts.{word_count, word_list, word_at, place_in, words_taken, words_in, with_numbers, TakenOf}
 use Rattle.interpreter.specs.declared.words.Words.{Words}
 use Rattle.interpreter.proofs.Lists.{listed, agree}
 
 -- ---- where each setting's words begin, and how many there are
 
 abbrev at_row : ℕ → Words
-at_row i = record { first = get_or first_words i 0; count = get_or word_counts i 0 }
+at_row i = get_or words_taken i (record { first = 0; count = 0 })
 
 pub taken_of : (i : ℕ) → i < count → TakenOf (words_of (kind_of i)) (takes_numbers (kind_of i)) (at_row i)
-unfolding listed first_words word_counts place_in word_list setting_at slots table same bytes if◌then◌otherwise◌
+unfolding listed words_taken place_in word_list setting_at slots table same bytes if◌then◌otherwise◌
 taken_of i h =
     record {
       words = agree count (λ k. words_in (at_row k)) (λ k. words_of (kind_of k)) refl i h;
       also = agree count (λ k. with_numbers (at_row k)) (λ k. takes_numbers (kind_of k)) refl i h;
-      room = leb-true (get_or first_words i 0 + get_or word_counts i 0) word_count
-          (agree count (λ k. leb (get_or first_words k 0 + get_or word_counts k 0) word_count) (λ _. true) refl i h);
+      room = leb-true ((at_row i).first + (at_row i).count) word_count
+          (agree count (λ k. leb ((at_row k).first + (at_row k).count) word_count) (λ _. true) refl i h);
     }
 
 -- ---- a word by its place

@@ -1,10 +1,10 @@
 -- The stem is read after the name's first letter, and the suffix after the stem. That the two are the whole name is in name/Laws.
-use mathlib.Core.Path.{◌≡◌, sym, ap, ◌∙◌}
+use mathlib.Core.Path.{sym, ap, ◌∙◌}
 use Prim.Native.Nat.{◌+◌}
 use lib.ListN.{length, drop, length-drop}
 use Rattle.registers.proofs.text.Laws.{start-short}
-use Rattle.registers.specs.Text.{letter, start, word_byte}
-use Rattle.interpreter.specs.NameParts.{with_code, class_of, code_of, StemRead}
+use Rattle.registers.specs.Text.{letter, word_byte}
+use Rattle.interpreter.specs.NameParts.{with_code, class_of}
 use Rattle.interpreter.proofs.Lists.{rest-is}
 use Rattle.interpreter.proofs.table.Codes.{code-small}
 use Rattle.interpreter.proofs.table.Keys.{class-most}
