@@ -16,15 +16,15 @@ fn send(
     buffer: &mut [u8],
 ) -> io::Result<State> {
     let fed = state.piece(store, line);
-    let seen = fed.state.look(store);
-    if seen.byte & 16 == 0 {
+    let Ok(byte) = fed.state.look(store) else {
+        return Ok(fed.state);
+    };
+    if byte & 16 == 0 {
         return Ok(fed.state);
     }
     let taken = fed.state.take(store, buffer);
-    let outcome = taken.outcome;
-    if outcome.number() == 0 {
-        let n = taken.length;
-        rt.write_all(&buffer[0..n])?;
+    if let Ok(length) = taken.length {
+        rt.write_all(&buffer[0..length])?;
     }
     Ok(taken.state)
 }

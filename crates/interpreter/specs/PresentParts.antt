@@ -1,8 +1,9 @@
 -- What the functions that raise an error, refuse a unit or discard an answer say. Nothing of 01 is defined here: see Line.antt.
-use Rattle.std.specs.Prelude.{◌≡◌, false, [], ◌≤◌, ◌<◌, length, take}
+use Rattle.std.specs.Prelude.{◌≡◌, Bool, false, ◌&&◌, [], ◌≤◌, ◌<◌, length, take}
 use Rattle.registers.specs.Text.{Text}
 use Rattle.registers.specs.Error.{number_of}
-use Rattle.registers.specs.Status.{Registers, registers_of, trouble_of, raised_in}
+use Rattle.registers.specs.Settings.{possible_settings, AsLong}
+use Rattle.registers.specs.Status.{Registers, registers_of, trouble_of, raised_in, possible_status}
 use Rattle.registers.specs.Queue.{most}
 use Rattle.registers.specs.declared.error.Error.{Error}
 use Rattle.registers.specs.declared.settings.Settings.{Settings}
@@ -28,6 +29,12 @@ abbrev pub box_at : Present → Text → Memory → Box
 box_at p out m = box_in p (take p.answered out) m
 
 -- ---- what each function leaves
+
+-- refusal 4 on settings and status, whose arrays are as long as the code makes them
+pub record Tested (p : Present) (r : Bool) : Type 0 where
+  pub is : r ≡ (possible_settings p.settings && possible_status p.status)
+  pub values : AsLong p.settings
+  pub errors : length p.status.errors ≡ most
 
 unfoldable pub raised_with : Error → Present → Present
 raised_with e p = record { settings = p.settings; status = raised_in (number_of e) p.status; answered = p.answered }

@@ -1,5 +1,5 @@
 -- "What can happen to the box", for the code: what a State means, and what each of the five events says of it; refusals 4 and 5.
-use Rattle.std.specs.Prelude.{◌≡◌, Bool, true, false, ◌&&◌, ℕ, leb, take}
+use Rattle.std.specs.Prelude.{◌≡◌, Bool, true, false, ◌&&◌, ℕ, leb, take, Result as Outcome, Ok, Err}
 use Rattle.registers.specs.Settings.{possible_settings}
 use Rattle.registers.specs.Status.{registers_of, trouble_of, possible_status}
 use Rattle.registers.specs.declared.settings.Settings.{Settings}
@@ -7,17 +7,30 @@ use Rattle.registers.specs.declared.status.Status.{Status}
 use Rattle.interpreter.specs.Box.{Memory, right_size, Box, box, power_up, most_line, most_answer}
 use Rattle.interpreter.specs.Events.{Event, started, received, take as takes, condition, look, altered, mislent, Result, result_of, happened, happens, lent}
 use Rattle.interpreter.specs.declared.state.State.{State}
-use Rattle.interpreter.specs.declared.state.Outcome.{Outcome}
-use Rattle.interpreter.specs.declared.state.Outcome.TheVariants.{Done, BufferTooShort, NoAnswer, ConditionTooWide, ImpossibleState, WrongStore}
+use Rattle.interpreter.specs.declared.state.Refusal.{Refusal}
+use Rattle.interpreter.specs.declared.state.Refusal.TheVariants.{BufferTooShort, NoAnswer, ConditionTooWide, ImpossibleState, WrongStore}
 
 -- the numbers of 01's table, and 02's (#108)
-abbrev pub number_of : Outcome → ℕ
-number_of Done = 0
-number_of BufferTooShort = 1
-number_of NoAnswer = 2
-number_of ConditionTooWide = 3
-number_of ImpossibleState = 4
-number_of WrongStore = 5
+abbrev pub refusal_number : Refusal → ℕ
+refusal_number (BufferTooShort n) = 1
+refusal_number NoAnswer = 2
+refusal_number ConditionTooWide = 3
+refusal_number ImpossibleState = 4
+refusal_number WrongStore = 5
+
+-- 0 where nothing is refused
+abbrev pub number_of : {T : Type 0} → Outcome T Refusal → ℕ
+number_of (Ok x) = 0
+number_of (Err r) = refusal_number r
+
+-- the count, length or status byte; where it is refused the length that the buffer needs, or 0
+abbrev pub value_of : Outcome ℕ Refusal → ℕ
+value_of (Ok n) = n
+value_of (Err (BufferTooShort n)) = n
+value_of (Err NoAnswer) = 0
+value_of (Err ConditionTooWide) = 0
+value_of (Err ImpossibleState) = 0
+value_of (Err WrongStore) = 0
 
 -- "The array places beyond a stored length mean nothing and two states differing only there are the same"
 abbrev pub box_of : State → Memory → Box

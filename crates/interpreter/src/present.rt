@@ -1,6 +1,6 @@
 // What the units of a line change, and what an error does to it.
 ghost use Rattle.std.specs.Prelude.{◌≡◌};
-ghost use Rattle.interpreter.specs.PresentParts.{raised_with, RefusedWith, Discarded};
+ghost use Rattle.interpreter.specs.PresentParts.{Tested, raised_with, RefusedWith, Discarded};
 
 use registers::error::Error;
 use registers::settings::Settings;
@@ -16,6 +16,15 @@ pub(crate) struct Present {
 }
 
 impl Present {
+    // Tests for refusal 4 on settings and status.
+    pub(crate) fn possible(self) -> bool
+        ensures { Tested self result }
+    {
+        let settings = self.settings;
+        let status = self.status;
+        settings.possible() & status.possible()
+    }
+
     // Puts an error into the status; settings and answer stay.
     pub(crate) fn raise(mut self, error: Error) -> Present
         ensures { result ≡ raised_with error self }

@@ -7,14 +7,14 @@ ghost use Rattle.interpreter.specs.Server.{Serves};
 ghost use Rattle.interpreter.specs.ServerParts.{FlowServed};
 
 use crate::flow::Flow;
-use crate::sizes::{ANSWER, LINE, STORE};
-use crate::state::{Outcome, State};
-use crate::{flow, memory, state, table};
+use crate::sizes::{ANSWER, LINE};
+use crate::state::{Refusal, State};
+use crate::{flow, memory, table};
 
 // How far a chunk was served: bytes read of the input, and written of the output.
 #[derive(Clone, Copy)]
 pub struct Served {
-    pub outcome: Outcome,
+    pub outcome: Result<(), Refusal>,
     pub read: usize,
     pub written: usize,
     pub state: State,
@@ -53,33 +53,33 @@ fn lines(
 
 // Feeds the input's lines and takes each answer into the output. It stops before a line whose answer might find no room there;
 // a caller writes the output away and calls again with the rest.
-pub fn serve(state: State, store: &mut [u8], input: &[u8], output: &mut [u8]) -> Served
+pub fn serve(mut state: State, store: &mut [u8], input: &[u8], output: &mut [u8]) -> Served
     ensures { Serves state (memory store.old) input.now output.old (number_of result.outcome) result.read result.written result.state (memory store.new) output.new }
 {
-    if store.len() != STORE {
-        return Served {
-            outcome: Outcome::WrongStore,
-            read: 0,
-            written: 0,
-            state,
-        };
-    }
-    if !state.possible() {
-        return Served {
-            outcome: Outcome::ImpossibleState,
-            read: 0,
-            written: 0,
-            state,
-        };
-    }
-    let mut line = state.line;
-    let mut answer = state.answer;
-    let flow = state::flow_of(state);
-    let done = lines(flow, &mut line, &mut answer, store, input, output);
+    let begun = match state.admit(store) {
+        Ok(flow) => flow,
+        Err(refusal) => {
+            return Served {
+                outcome: Err(refusal),
+                read: 0,
+                written: 0,
+                state,
+            };
+        }
+    };
+    let done = lines(
+        begun,
+        &mut state.line,
+        &mut state.answer,
+        store,
+        input,
+        output,
+    );
+    state.keep(done.flow);
     Served {
-        outcome: Outcome::Done,
+        outcome: Ok(()),
         read: done.flow.read,
         written: done.written,
-        state: state::state_of(done.flow, line, answer),
+        state,
     }
 }

@@ -2,8 +2,8 @@
 ghost use Rattle.std.specs.Prelude.{◌≡◌, []};
 ghost use Rattle.interpreter.specs.Box.{memory};
 ghost use Rattle.interpreter.specs.Events.{received, take, condition, look, result_of};
-ghost use Rattle.interpreter.specs.State.{number_of, Happens, Started};
-ghost use Rattle.interpreter.specs.StateParts.{Tested, flow_of, state_of};
+ghost use Rattle.interpreter.specs.State.{refusal_number, number_of, value_of, Happens, Started};
+ghost use Rattle.interpreter.specs.StateParts.{Admitted, state_of};
 
 use crate::flow::Flow;
 use crate::present::Present;
@@ -33,11 +33,11 @@ pub struct State {
     pub waiting: usize,
 }
 
-// Why an event was refused, by 01's table and 02 (#108), or that it was not.
-#[derive(Clone, Copy)]
-pub enum Outcome {
-    Done,
-    BufferTooShort,
+// Why an event was refused, by 01's table and 02 (#108).
+#[derive(Clone, Copy, PartialEq, Eq)]
+pub enum Refusal {
+    // with the length that the buffer needs
+    BufferTooShort { needed: usize },
     NoAnswer,
     ConditionTooWide,
     ImpossibleState,
@@ -47,92 +47,125 @@ pub enum Outcome {
 // What a piece leaves: the number of newlines in it.
 #[derive(Clone, Copy)]
 pub struct Fed {
-    pub outcome: Outcome,
-    pub count: usize,
+    pub count: Result<usize, Refusal>,
     pub state: State,
 }
 
-// What a take leaves: the answer's length, or the length that the buffer needs.
+// What a take leaves: the answer's length.
 #[derive(Clone, Copy)]
 pub struct Taken {
-    pub outcome: Outcome,
-    pub length: usize,
+    pub length: Result<usize, Refusal>,
     pub state: State,
 }
 
 // What a report of a condition leaves.
 #[derive(Clone, Copy)]
 pub struct Reported {
-    pub outcome: Outcome,
+    pub outcome: Result<(), Refusal>,
     pub state: State,
 }
 
-// What a look tells: the status byte.
-#[derive(Clone, Copy)]
-pub struct Seen {
-    pub outcome: Outcome,
-    pub byte: u8,
-}
-
-impl Outcome {
-    // Gives the refusal's number in 01's table, 0 where there is none.
+impl Refusal {
+    // Gives its number in 01's table.
     pub fn number(self) -> u8
-        ensures { result ≡ number_of self }
+        ensures { result ≡ refusal_number self }
     {
         match self {
-            Outcome::Done => 0,
-            Outcome::BufferTooShort => 1,
-            Outcome::NoAnswer => 2,
-            Outcome::ConditionTooWide => 3,
-            Outcome::ImpossibleState => 4,
-            Outcome::WrongStore => 5,
+            Refusal::BufferTooShort { .. } => 1,
+            Refusal::NoAnswer => 2,
+            Refusal::ConditionTooWide => 3,
+            Refusal::ImpossibleState => 4,
+            Refusal::WrongStore => 5,
         }
     }
 }
 
-// Takes a state apart: its small part, with no byte taken in yet.
-pub(crate) fn flow_of(state: State) -> Flow
-    ensures { result ≡ flow_of state }
+// Gives the number of the refusal, or 0 where nothing is refused.
+pub fn number_of<T>(outcome: &Result<T, Refusal>) -> u8
+    ensures { result ≡ number_of outcome.now }
 {
-    let settings = state.settings;
-    let status = state.status;
-    Flow {
-        present: Present {
-            settings,
-            status,
-            answered: state.waiting,
-        },
-        filled: state.filled,
-        overlong: state.overlong,
-        read: 0,
-        count: 0,
-    }
-}
-
-// Puts a state together again from its small part and its arrays.
-pub(crate) fn state_of(flow: Flow, line: [u8; LINE], answer: [u8; ANSWER]) -> State
-    ensures { result ≡ state_of flow line answer }
-{
-    let settings = flow.present.settings;
-    let status = flow.present.status;
-    State {
-        settings,
-        status,
-        line,
-        filled: flow.filled,
-        overlong: flow.overlong,
-        answer,
-        waiting: flow.present.answered,
+    match outcome {
+        Ok(_) => 0,
+        Err(refusal) => refusal.number(),
     }
 }
 
 impl State {
-    // Tests for refusal 4, on the record's own numbers.
-    pub(crate) fn possible(self) -> bool
-        ensures { Tested self result }
+    // Tests for number 5 and then for number 4, on the record's own numbers ("as number 4 but tested before it"). Gives the small
+    // part, with no byte taken in yet.
+    pub(crate) fn admit(&self, store: &[u8]) -> Result<Flow, Refusal>
+        ensures { Admitted self.now store.now result }
     {
-        let good = self.settings.possible() & self.status.possible();
-        good & (self.filled <= LINE) & (self.waiting <= ANSWER)
+        if store.len() != STORE {
+            return Err(Refusal::WrongStore);
+        }
+        let settings = self.settings;
+        let status = self.status;
+        let present = Present {
+            settings,
+            status,
+            answered: self.waiting,
+        };
+        let possible = present.possible() & (self.filled <= LINE) & (self.waiting <= ANSWER);
+        if !possible {
+            return Err(Refusal::ImpossibleState);
+        }
+        Ok(Flow {
+            present,
+            filled: self.filled,
+            overlong: self.overlong,
+            read: 0,
+            count: 0,
+        })
+    }
+
+    // Puts the small part back beside the arrays.
+    pub(crate) fn keep(&mut self, flow: Flow)
+        ensures { self.new ≡ state_of flow self.old.line self.old.answer }
+    {
+        self.settings = flow.present.settings;
+        self.status = flow.present.status;
+        self.filled = flow.filled;
+        self.overlong = flow.overlong;
+        self.waiting = flow.present.answered;
+    }
+
+    // The events that change a state, in place: what is refused by `admit` leaves it as it is.
+    fn receive(&mut self, store: &mut [u8], bytes: &[u8]) -> Result<usize, Refusal>
+        ensures { Happens self.old (memory store.old) (received bytes.now) (result_of (number_of result) (value_of result) []) self.new (memory store.new) }
+    {
+        let begun = self.admit(store)?;
+        let flow = flow::feed(begun, &mut self.line, &mut self.answer, store, bytes);
+        self.keep(flow);
+        Ok(flow.count)
+    }
+
+    fn hand_out(&mut self, store: &[u8], buffer: &mut [u8]) -> Result<usize, Refusal>
+        ensures { Happens self.old (memory store.now) (take buffer.old) (result_of (number_of result) (value_of result) buffer.new) self.new (memory store.now) }
+    {
+        self.admit(store)?;
+        let waiting = self.waiting;
+        if waiting == 0 {
+            self.status = self.status.raise(Error::QueryUnterminated);
+            return Err(Refusal::NoAnswer);
+        }
+        if buffer.len() < waiting {
+            return Err(Refusal::BufferTooShort { needed: waiting });
+        }
+        memory::paste(&self.answer, waiting, buffer, 0);
+        self.waiting = 0;
+        Ok(waiting)
+    }
+
+    fn report(&mut self, store: &[u8], set: RegisterSet, value: u16) -> Result<(), Refusal>
+        ensures { Happens self.old (memory store.now) (condition set value) (result_of (number_of result) 0 []) self.new (memory store.now) }
+    {
+        self.admit(store)?;
+        if Group::WIDEST < value {
+            return Err(Refusal::ConditionTooWide);
+        }
+        self.status = self.status.report(set, value);
+        Ok(())
     }
 
     // Makes the first state.
@@ -151,73 +184,20 @@ impl State {
     }
 
     // Takes in bytes of any number, also none; the count is that of their newlines.
-    pub fn piece(self, store: &mut [u8], bytes: &[u8]) -> Fed
-        ensures { Happens self (memory store.old) (received bytes.now) (result_of (number_of result.outcome) result.count []) result.state (memory store.new) }
+    pub fn piece(mut self, store: &mut [u8], bytes: &[u8]) -> Fed
+        ensures { Happens self (memory store.old) (received bytes.now) (result_of (number_of result.count) (value_of result.count) []) result.state (memory store.new) }
     {
-        if store.len() != STORE {
-            return Fed {
-                outcome: Outcome::WrongStore,
-                count: 0,
-                state: self,
-            };
-        }
-        if !self.possible() {
-            return Fed {
-                outcome: Outcome::ImpossibleState,
-                count: 0,
-                state: self,
-            };
-        }
-        let mut line = self.line;
-        let mut answer = self.answer;
-        let flow = flow::feed(flow_of(self), &mut line, &mut answer, store, bytes);
-        Fed {
-            outcome: Outcome::Done,
-            count: flow.count,
-            state: state_of(flow, line, answer),
-        }
+        let count = self.receive(store, bytes);
+        Fed { count, state: self }
     }
 
     // Copies the waiting answer to the start of the buffer; it is then gone.
     pub fn take(mut self, store: &[u8], buffer: &mut [u8]) -> Taken
-        ensures { Happens self (memory store.now) (take buffer.old) (result_of (number_of result.outcome) result.length buffer.new) result.state (memory store.now) }
+        ensures { Happens self (memory store.now) (take buffer.old) (result_of (number_of result.length) (value_of result.length) buffer.new) result.state (memory store.now) }
     {
-        if store.len() != STORE {
-            return Taken {
-                outcome: Outcome::WrongStore,
-                length: 0,
-                state: self,
-            };
-        }
-        if !self.possible() {
-            return Taken {
-                outcome: Outcome::ImpossibleState,
-                length: 0,
-                state: self,
-            };
-        }
-        let waiting = self.waiting;
-        if waiting == 0 {
-            self.status = self.status.raise(Error::QueryUnterminated);
-            return Taken {
-                outcome: Outcome::NoAnswer,
-                length: 0,
-                state: self,
-            };
-        }
-        if buffer.len() < waiting {
-            return Taken {
-                outcome: Outcome::BufferTooShort,
-                length: waiting,
-                state: self,
-            };
-        }
-        let answer = self.answer;
-        let n = memory::paste(&answer, waiting, buffer, 0);
-        self.waiting = 0;
+        let length = self.hand_out(store, buffer);
         Taken {
-            outcome: Outcome::Done,
-            length: n,
+            length,
             state: self,
         }
     }
@@ -226,50 +206,18 @@ impl State {
     pub fn condition(mut self, store: &[u8], set: RegisterSet, value: u16) -> Reported
         ensures { Happens self (memory store.now) (condition set value) (result_of (number_of result.outcome) 0 []) result.state (memory store.now) }
     {
-        if store.len() != STORE {
-            return Reported {
-                outcome: Outcome::WrongStore,
-                state: self,
-            };
-        }
-        if !self.possible() {
-            return Reported {
-                outcome: Outcome::ImpossibleState,
-                state: self,
-            };
-        }
-        if Group::WIDEST < value {
-            return Reported {
-                outcome: Outcome::ConditionTooWide,
-                state: self,
-            };
-        }
-        self.status = self.status.report(set, value);
+        let outcome = self.report(store, set, value);
         Reported {
-            outcome: Outcome::Done,
+            outcome,
             state: self,
         }
     }
 
     // Gives the status byte. It changes nothing, so the state is not handed back.
-    pub fn look(self, store: &[u8]) -> Seen
-        ensures { Happens self (memory store.now) look (result_of (number_of result.outcome) result.byte []) self (memory store.now) }
+    pub fn look(self, store: &[u8]) -> Result<u8, Refusal>
+        ensures { Happens self (memory store.now) look (result_of (number_of result) (value_of result) []) self (memory store.now) }
     {
-        if store.len() != STORE {
-            return Seen {
-                outcome: Outcome::WrongStore,
-                byte: 0,
-            };
-        }
-        if !self.possible() {
-            return Seen {
-                outcome: Outcome::ImpossibleState,
-                byte: 0,
-            };
-        }
-        Seen {
-            outcome: Outcome::Done,
-            byte: self.status.status_byte(self.waiting != 0),
-        }
+        self.admit(store)?;
+        Ok(self.status.status_byte(self.waiting != 0))
     }
 }

@@ -1,7 +1,9 @@
 -- What each event leaves of the record, as the box that it means: by the ways that the code takes, in each of which the definition of the
 -- event computes once the test is known.
 use mathlib.Core.Path.{◌≡◌, refl, sym, ◌∙◌}
-use mathlib.Core.Bool.{Bool, true, false, not, false≢true}
+use mathlib.Core.Bool.{true, false, not, false≢true}
+use Rattle.std.specs.Prelude.{Result as Outcome, Ok, Err}
+use Rattle.std.specs.Result.{IsErrAnd}
 use mathlib.Core.List.{[], ◌++◌}
 use Prim.Native.Nat.{ℕ, ◌≤◌, ◌<◌}
 use native.Mathlib.Omega.{arith}
@@ -20,14 +22,25 @@ use Rattle.registers.specs.declared.status.RegisterSet.{RegisterSet}
 use Rattle.interpreter.specs.Box.{Memory, memory, store_size, right_size}
 use Rattle.interpreter.specs.Line.{newlines}
 use Rattle.interpreter.specs.Events.{Event, received, take as takes, condition, look, Result, result_of, happened, happens, taken, reported, lent}
-use Rattle.interpreter.specs.State.{box_of, possible_parts, possible_state, admitted, rightly, Happens}
-use Rattle.interpreter.specs.StateParts.{Tested, flow_of, state_of}
+use Rattle.interpreter.specs.State.{refusal_number, number_of, value_of, box_of, possible_parts, possible_state, admitted, rightly, Happens}
+use Rattle.interpreter.specs.StateParts.{flow_of, state_of, Admits, Admitted}
 use Rattle.interpreter.specs.FlowParts.{FlowFed}
 use Rattle.interpreter.specs.declared.state.State.{State}
+use Rattle.interpreter.specs.declared.state.Refusal.{Refusal}
+use Rattle.interpreter.specs.declared.state.Refusal.TheVariants.{BufferTooShort, NoAnswer, ConditionTooWide, ImpossibleState, WrongStore}
 use Rattle.interpreter.specs.declared.flow.Flow.{Flow}
 use Rattle.registers.specs.Queue.{most}
 use Rattle.registers.proofs.Tests.{front-empty}
-use Rattle.interpreter.proofs.state.Records.{Short, short-from, could, could-not, happens-so}
+use Rattle.interpreter.proofs.state.Records.{Short, short-from, happens-so}
+
+-- a refusal of a state or a store tells no count, length or status byte
+pub no-value : (s : State) (store : Text) (x : Outcome ℕ Refusal) (r : Refusal) → IsErrAnd x (λ y. y ≡ r) → Admitted s store (Err r) → value_of x ≡ 0
+no-value s store (Ok n) r is h = absurd is
+no-value s store (Err y) (BufferTooShort n) is h = absurd h
+no-value s store (Err y) NoAnswer is h = absurd h
+no-value s store (Err y) ConditionTooWide is h = absurd h
+no-value s store (Err y) ImpossibleState is h = rw is
+no-value s store (Err y) WrongStore is h = rw is
 
 -- what the length of the lent store says of its size
 module _ (store : Text) where
@@ -40,10 +53,20 @@ module _ (store : Text) where
   size-wrong e = ne_eqb (length store) store_size e
 
 -- an event that is no power-up
-module _ (s : State) (store : Text) (e : Event) (lends : rightly (memory store) e ≡ right_size (memory store)) where
-  -- a store of the wrong length
-  pub refused-5 : (length store ≡ store_size → ⊥) → Happens s (memory store) e (result_of 5 0 (lent e)) s (memory store)
-  refused-5 h =
+module _ (s : State) (store : Text) (e : Event) (lends : rightly (memory store) e ≡ right_size (memory store)) (call : admitted s e ≡ possible_state s) where
+  -- a store of the wrong length, or a state that couldn't be the box's, which is handed back
+  refused : (r : Refusal) → Admitted s store (Err r) → Happens s (memory store) e (result_of (refusal_number r) 0 (lent e)) s (memory store)
+  refused (BufferTooShort n) h = absurd h
+  refused NoAnswer h = absurd h
+  refused ConditionTooWide h = absurd h
+  refused ImpossibleState h =
+      let sized = lends ∙ size-right store h.0 in
+      record {
+        possible = λ _ p. absurd (false≢true (sym (call ∙ h.1) ∙ p));
+        impossible = λ _ _. (refl, refl, refl);
+        wrong = λ n. absurd (false≢true (sym n ∙ sized));
+      }
+  refused WrongStore h =
       let no = lends ∙ size-wrong store h in
       record {
         possible = λ q _. absurd (false≢true (sym no ∙ q));
@@ -51,32 +74,25 @@ module _ (s : State) (store : Text) (e : Event) (lends : rightly (memory store) 
         wrong = λ _. (refl, refl, refl);
       }
 
-  module _ (long : length store ≡ store_size) (call : admitted s e ≡ possible_state s) (t : Bool) (w : Tested s t) where
-    sized : rightly (memory store) e ≡ true
-    sized = lends ∙ size-right store long
+  -- the refusal is passed on, with no count, length or status byte
+  pub passed-on : {T : Type 0} (x : Outcome T Refusal) (r : Refusal) → IsErrAnd x (λ y. y ≡ r) → Admitted s store (Err r)
+      → Happens s (memory store) e (result_of (number_of x) 0 (lent e)) s (memory store)
+  passed-on (Ok n) r is h = absurd is
+  passed-on (Err y) r is h = rw is (refused r h)
 
-    -- a state that couldn't be the box's is handed back
-    pub refused-4 : not t ≡ true → Happens s (memory store) e (result_of 4 0 (lent e)) s (memory store)
-    refused-4 h =
-        record {
-          possible = λ _ p. absurd (false≢true (sym (call ∙ could-not s t w h) ∙ p));
-          impossible = λ _ _. (refl, refl, refl);
-          wrong = λ n. absurd (false≢true (sym n ∙ sized));
-        }
-
-    pub happens-on : not t ≡ false → (r : Result) (u : State) (left : Text) → (Short s → Short u) → length left ≡ length store
-        → happened r (box_of u (memory left)) ≡ happens (box_of s (memory store)) e → Happens s (memory store) e r u (memory left)
-    happens-on h r u left k kept is =
-        let p = could s t w h in
-        record {
-          possible = λ _ _. (
-            happens-so s (memory store) e r u (memory left) w.values (k (short-from s p)) is p,
-            is,
-            size-right left (kept ∙ long) ∙ sym (size-right store long),
-          );
-          impossible = λ _ n. absurd (false≢true (sym n ∙ call ∙ p));
-          wrong = λ n. absurd (false≢true (sym n ∙ sized));
-        }
+  pub happens-on : (f : Flow) → Admits s store f → (r : Result) (u : State) (left : Text) → (Short s → Short u) → length left ≡ length store
+      → happened r (box_of u (memory left)) ≡ happens (box_of s (memory store)) e → Happens s (memory store) e r u (memory left)
+  happens-on f w r u left k kept is =
+      let sized = size-right store w.sized in
+      record {
+        possible = λ _ _. (
+          happens-so s (memory store) e r u (memory left) w.values (k (short-from s w.could)) is w.could,
+          is,
+          size-right left (kept ∙ w.sized) ∙ sym sized,
+        );
+        impossible = λ _ n. absurd (false≢true (sym n ∙ call ∙ w.could));
+        wrong = λ n. absurd (false≢true (sym n ∙ lends ∙ sized));
+      }
 
 -- ---- other status in the same record
 

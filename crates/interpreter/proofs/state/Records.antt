@@ -1,9 +1,9 @@
 -- Refusal 4 on the record against refusal 4 on the box that it means: the same, beside the record's own three lengths.
 use mathlib.Core.Path.{◌≡◌}
-use mathlib.Core.Bool.{Bool, true, false, not}
+use mathlib.Core.Bool.{true}
 use Prim.Native.Nat.{◌≤◌, zero-le}
 use lib.Dec.{leb}
-use borrow.Author.Tests.{leb-true, le-leb, not-true, not-false}
+use borrow.Author.Tests.{leb-true, le-leb}
 use Rattle.registers.specs.Text.{Text}
 use Rattle.registers.specs.Settings.{possible_settings, AsLong}
 use Rattle.registers.specs.Status.{registers_of, trouble_of, possible_status, possible_registers, possible_trouble}
@@ -12,7 +12,7 @@ use Rattle.registers.proofs.Tests.{and_both, front-within}
 use Rattle.interpreter.specs.Box.{Memory, most_line, most_answer}
 use Rattle.interpreter.specs.Events.{Event, possible, possible_core, happened, Result, happens}
 use Rattle.interpreter.specs.State.{box_of, possible_parts, possible_state}
-use Rattle.interpreter.specs.StateParts.{Tested, flow_of, state_of}
+use Rattle.interpreter.specs.StateParts.{state_of, Admits}
 use Rattle.interpreter.specs.FlowParts.{FlowFits}
 use Rattle.interpreter.specs.declared.state.State.{State}
 use Rattle.interpreter.specs.declared.flow.Flow.{Flow}
@@ -57,17 +57,11 @@ module _ (s : State) where
       let c = and_both (possible_registers (registers_of s.status)) _ b.1 in
       rw (b.0, c.0, a.1, le-leb s.status.queued most w.queued, le-leb s.filled most_line w.filled, le-leb s.waiting most_answer w.waiting)
 
--- ---- what the test of refusal 4 tells, where it fails and where it passes
+-- ---- what the tests of an event's state and store tell, where they pass
 
-module _ (s : State) (r : Bool) (w : Tested s r) where
-  pub could-not : not r ≡ true → possible_state s ≡ false
-  could-not h = rw (← w.is) (not-true r h)
-
-  pub could : not r ≡ false → possible_state s ≡ true
-  could h = rw (← w.is) (not-false r h)
-
-  pub flow-fits : not r ≡ false → FlowFits (flow_of s)
-  flow-fits h = let k = short-from s (could h) in record { filled = k.filled; waiting = k.waiting; queued = k.queued; few = zero-le }
+pub flow-fits : (s : State) (store : Text) (f : Flow) → Admits s store f → FlowFits f
+flow-fits s store f w =
+    let k = short-from s w.could in rw w.is (record { filled = k.filled; waiting = k.waiting; queued = k.queued; few = zero-le })
 
 pub short-of : (f : Flow) (line answer : Text) → FlowFits f → Short (state_of f line answer)
 short-of f line answer w = record { queued = w.queued; filled = w.filled; waiting = w.waiting }

@@ -2,6 +2,7 @@
 use mathlib.Core.Path.{◌≡◌, refl, sym, ap, ap₂, ◌∙◌}
 use mathlib.Core.Bool.{Bool, true, false}
 use mathlib.Core.List.{List}
+use Rattle.std.specs.Prelude.{Result as Outcome, Ok, Err}
 use Prim.Native.Nat.{ℕ, ◌≤◌}
 use native.Mathlib.Omega.{arith}
 use lib.Dec.{eqb}
@@ -11,32 +12,34 @@ use Rattle.registers.specs.Text.{if◌then◌otherwise◌}
 use Rattle.registers.specs.Queue.{most}
 use Rattle.interpreter.specs.Box.{Memory, Box, most_line, most_answer}
 use Rattle.interpreter.specs.Events.{Event, Result, Happened}
-use Rattle.interpreter.specs.State.{number_of, box_of, possible_state, admitted, rightly, Happens, Started}
+use Rattle.interpreter.specs.State.{number_of, value_of, box_of, possible_state, admitted, rightly, Happens, Started}
 use Rattle.interpreter.specs.declared.state.State.{State}
-use Rattle.interpreter.specs.declared.state.Outcome.{Outcome}
-use Rattle.interpreter.specs.declared.state.Outcome.TheVariants.{Done, BufferTooShort, NoAnswer, ConditionTooWide, ImpossibleState, WrongStore}
+use Rattle.interpreter.specs.declared.state.Refusal.{Refusal}
+use Rattle.interpreter.specs.declared.state.Refusal.TheVariants.{BufferTooShort, NoAnswer, ConditionTooWide, ImpossibleState, WrongStore}
 use Rattle.interpreter.proofs.state.Records.{short-from}
 
--- no two outcomes have the same number
-outcome_of : ℕ → Outcome
-outcome_of n =
-    if eqb n 0 then Done
-    otherwise (if eqb n 1 then BufferTooShort
-    otherwise (if eqb n 2 then NoAnswer
-    otherwise (if eqb n 3 then ConditionTooWide
-    otherwise (if eqb n 4 then ImpossibleState otherwise WrongStore))))
+-- no two refusals have the same number, and no two outcomes the same number and value
+refusal_of : ℕ → ℕ → Refusal
+refusal_of k n =
+    if eqb k 1 then BufferTooShort n
+    otherwise (if eqb k 2 then NoAnswer
+    otherwise (if eqb k 3 then ConditionTooWide
+    otherwise (if eqb k 4 then ImpossibleState otherwise WrongStore)))
 
-outcome-back : (o : Outcome) → outcome_of (number_of o) ≡ o
-unfolding outcome_of if◌then◌otherwise◌
-outcome-back Done = refl
-outcome-back BufferTooShort = refl
-outcome-back NoAnswer = refl
-outcome-back ConditionTooWide = refl
-outcome-back ImpossibleState = refl
-outcome-back WrongStore = refl
+outcome_of : ℕ → ℕ → Outcome ℕ Refusal
+outcome_of k n = if eqb k 0 then Ok n otherwise Err (refusal_of k n)
 
-pub outcome-unique : (o o' : Outcome) → number_of o ≡ number_of o' → o ≡ o'
-outcome-unique o o' e = sym (outcome-back o) ∙ ap outcome_of e ∙ outcome-back o'
+outcome-back : (o : Outcome ℕ Refusal) → outcome_of (number_of o) (value_of o) ≡ o
+unfolding outcome_of refusal_of if◌then◌otherwise◌
+outcome-back (Ok n) = refl
+outcome-back (Err (BufferTooShort n)) = refl
+outcome-back (Err NoAnswer) = refl
+outcome-back (Err ConditionTooWide) = refl
+outcome-back (Err ImpossibleState) = refl
+outcome-back (Err WrongStore) = refl
+
+pub outcome-unique : (o o' : Outcome ℕ Refusal) → number_of o ≡ number_of o' → value_of o ≡ value_of o' → o ≡ o'
+outcome-unique o o' e f = sym (outcome-back o) ∙ ap₂ outcome_of e f ∙ outcome-back o'
 
 -- an event's result, its state's meaning, and that both states could be the box's or neither
 pub happens-unique : (s : State) (m : Memory) (e : Event) (r r' : Result) (t t' : State) (n n' : Memory) → Happens s m e r t n → Happens s m e r' t' n'

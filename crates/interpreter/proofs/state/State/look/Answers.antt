@@ -1,23 +1,20 @@
--- Refused where the store has the wrong length or the state couldn't be the box's; otherwise the status byte, and nothing is changed.
+-- Refused, or the status byte; nothing is changed.
 use mathlib.Core.Path.{refl}
 use native.Mathlib.Omega.{arith}
 use Rattle.interpreter.specs.Box.{memory}
 use Rattle.interpreter.specs.Events.{look}
-use Rattle.interpreter.proofs.state.Events.{refused-5, refused-4, happens-on, look-byte}
+use Rattle.interpreter.proofs.state.Events.{no-value, passed-on, happens-on, look-byte}
 use Rattle.interpreter.proofs.state.State.look.Goals as goal
 
-pub returns-then-store-ne-STORE : goal.returns-then-store-ne-STORE
-returns-then-store-ne-STORE c = let a = c.args in refused-5 a.self a.store.now look refl c.if-store-ne-STORE.true
-
-pub returns-then-not-possible : goal.returns-then-not-possible
-returns-then-not-possible c =
+pub returns-in_err-admit : goal.returns-in_err-admit
+returns-in_err-admit c =
     let a = c.args in
-    refused-4 a.self a.store.now look refl c.if-store-ne-STORE.false refl _ c.possible.ensures c.if-not-possible.true-raw
+    rw (no-value a.self a.store.now c.from_residual.result _ c.from_residual.ensures.1 c.in_err-admit.ensures)
+    (passed-on a.self a.store.now look refl refl c.from_residual.result _ c.from_residual.ensures.1 c.in_err-admit.ensures)
 
 pub returns : goal.returns
 returns c =
-    let a = c.args in
-    let s = a.self in
-    let w = c.possible.ensures in let wide = c.possible.ensures.answer in
-    happens-on s a.store.now look refl c.if-store-ne-STORE.false refl _ w c.if-not-possible.false-raw _ s _ (λ k. k) refl
-    (look-byte s (memory a.store.now) (omega arith) c.status_byte.result c.status_byte.ensures)
+    let s = c.args.self in
+    let w = c.in_ok-admit.ensures in let wide = w.answer in
+    happens-on s c.args.store.now look refl refl _ w _ s _ (λ k. k) refl
+    (look-byte s (memory c.args.store.now) (omega arith) c.status_byte.result c.status_byte.ensures)
