@@ -264,8 +264,9 @@ fn report_at(place: Place) -> Report
         if waiting == 0 {
             return Report::Agree { lines: number };
         }
+        let line = place.sent;
         return Report::Differs {
-            line: place.sent,
+            line,
             shown: number + 1,
             waiting,
         };
