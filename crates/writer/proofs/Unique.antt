@@ -2,27 +2,28 @@
 use mathlib.Core.Path.{◌≡◌, refl, sym, ◌∙◌, ap}
 use Prim.Native.Nat.{ℕ}
 use native.Mathlib.Omega.{arith}
+use Rattle.std.specs.Prelude.{Ok, Err, Result as Outcome}
 use Rattle.registers.specs.Text.{Text}
 use Rattle.registers.specs.declared.settings.Settings.{Settings}
 use Rattle.interpreter.specs.Events.{Result, result_of}
-use Rattle.writer.specs.Lines.{number_of, written}
-use Rattle.writer.specs.declared.lines.Outcome.{Outcome}
-use Rattle.writer.specs.declared.lines.Outcome.TheVariants.{Done, NotWritable, BufferTooShort}
+use Rattle.writer.specs.Lines.{number_of, length_of, written}
+use Rattle.writer.specs.declared.lines.Refusal.{Refusal}
+use Rattle.writer.specs.declared.lines.Refusal.TheVariants.{NotWritable, BufferTooShort}
 
-pub outcome-unique : (o o' : Outcome) → number_of o ≡ number_of o' → o ≡ o'
-outcome-unique Done Done e = refl
-outcome-unique Done NotWritable e = absurd (omega arith)
-outcome-unique Done BufferTooShort e = absurd (omega arith)
-outcome-unique NotWritable Done e = absurd (omega arith)
-outcome-unique NotWritable NotWritable e = refl
-outcome-unique NotWritable BufferTooShort e = absurd (omega arith)
-outcome-unique BufferTooShort Done e = absurd (omega arith)
-outcome-unique BufferTooShort NotWritable e = absurd (omega arith)
-outcome-unique BufferTooShort BufferTooShort e = refl
+pub outcome-unique : (o o' : Outcome ℕ Refusal) → number_of o ≡ number_of o' → length_of o ≡ length_of o' → o ≡ o'
+outcome-unique (Ok n) (Ok n') e f = ap Ok f
+outcome-unique (Ok n) (Err NotWritable) e f = absurd (omega arith)
+outcome-unique (Ok n) (Err (BufferTooShort k)) e f = absurd (omega arith)
+outcome-unique (Err NotWritable) (Ok n) e f = absurd (omega arith)
+outcome-unique (Err NotWritable) (Err NotWritable) e f = refl
+outcome-unique (Err NotWritable) (Err (BufferTooShort k)) e f = absurd (omega arith)
+outcome-unique (Err (BufferTooShort k)) (Ok n) e f = absurd (omega arith)
+outcome-unique (Err (BufferTooShort k)) (Err NotWritable) e f = absurd (omega arith)
+outcome-unique (Err (BufferTooShort k)) (Err (BufferTooShort k')) e f = ap (λ (n : ℕ). Err (BufferTooShort n)) f
 
-pub written-unique : (p w : Settings) (channel : ℕ) (buffer left left' : Text) (o o' : Outcome) (n n' : ℕ)
-    → result_of (number_of o) n left ≡ written p w channel buffer → result_of (number_of o') n' left' ≡ written p w channel buffer
-    → (o ≡ o') × (n ≡ n') × (left ≡ left')
-written-unique p w channel buffer left left' o o' n n' v v' =
+pub written-unique : (p w : Settings) (channel : ℕ) (buffer left left' : Text) (o o' : Outcome ℕ Refusal)
+    → result_of (number_of o) (length_of o) left ≡ written p w channel buffer → result_of (number_of o') (length_of o') left' ≡ written p w channel buffer
+    → (o ≡ o') × (left ≡ left')
+written-unique p w channel buffer left left' o o' v v' =
     let is = v ∙ sym v' in
-    (outcome-unique o o' (ap (λ (r : Result). r.number) is), ap (λ (r : Result). r.value) is, ap (λ (r : Result). r.buffer) is)
+    (outcome-unique o o' (ap (λ (r : Result). r.number) is) (ap (λ (r : Result). r.value) is), ap (λ (r : Result). r.buffer) is)

@@ -1,6 +1,5 @@
+pub mod Drafts
 pub mod Laws
-pub mod Texts
+pub mod Words
 pub mod Values
-pub mod Line
 pub mod Whole
-pub mod Label

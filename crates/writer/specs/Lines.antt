@@ -1,6 +1,6 @@
 -- 02, #114, "Line writer": "takes present and wanted settings of channel 1 or 2 and writes into a lent buffer one line for each setting that
 -- differs". The settings of a channel are its thirteen and the single ones; those of the other channel stay.
-use Rattle.std.specs.Prelude.{◌≡◌, Bool, true, false, not, ◌&&◌, ◌||◌, List, [], ◌∷◌, ◌++◌, ℕ, zero, suc, ◌<◌, eqb, leb, length, take, drop, ℤ}
+use Rattle.std.specs.Prelude.{◌≡◌, Bool, true, false, not, ◌&&◌, ◌||◌, List, [], ◌∷◌, ◌++◌, ℕ, zero, suc, ◌<◌, eqb, leb, length, take, drop, ℤ, Ok, Err, Result as Outcome}
 use Prim.Native.Char.{code}
 use Rattle.std.specs.Int.Signed.{lt_z}
 use Rattle.registers.specs.Text.{Text, if◌then◌otherwise◌, bytes, same, empty}
@@ -20,14 +20,26 @@ use Rattle.interpreter.specs.State.{box_of, possible_state}
 use Rattle.interpreter.specs.Calls.{Calls}
 use Rattle.interpreter.specs.declared.state.State.{State}
 use Rattle.interpreter.specs.Demand3.{Fresh}
-use Rattle.writer.specs.declared.lines.Outcome.{Outcome}
-use Rattle.writer.specs.declared.lines.Outcome.TheVariants.{Done, NotWritable, BufferTooShort}
+use Rattle.writer.specs.declared.lines.Refusal.{Refusal}
+use Rattle.writer.specs.declared.lines.Refusal.TheVariants.{NotWritable, BufferTooShort}
 
 -- "refused with number 6", "with number 7"
-abbrev pub number_of : Outcome → ℕ
-number_of Done = 0
-number_of NotWritable = 6
-number_of BufferTooShort = 7
+abbrev pub refusal_number : Refusal → ℕ
+refusal_number NotWritable = 6
+refusal_number (BufferTooShort n) = 7
+
+abbrev pub number_of : Outcome ℕ Refusal → ℕ
+number_of (Ok n) = 0
+number_of (Err e) = refusal_number e
+
+-- the length of the lines; 7 tells the needed length
+abbrev pub length_told : Refusal → ℕ
+length_told NotWritable = 0
+length_told (BufferTooShort n) = n
+
+abbrev pub length_of : Outcome ℕ Refusal → ℕ
+length_of (Ok n) = n
+length_of (Err e) = length_told e
 
 -- ---- one line
 
@@ -100,13 +112,13 @@ lines_for p w channel = lines_to p w channel table_count ++ label_line p w
 unfoldable pub writable : Settings → Settings → ℕ → Bool
 writable p w channel = (eqb channel 1 || eqb channel 2) && (possible_settings p && (possible_settings w && not (differs p w exam)))
 
--- "A buffer too short is refused with number 7, tested after 6; both leave the buffer unchanged"; 7 tells the needed length
+-- "A buffer too short is refused with number 7"; 7 tells the needed length
+abbrev pub copied : Text → Text → Result
+copied t buffer = if leb (length t) (length buffer) then result_of 0 (length t) (t ++ drop (length t) buffer) otherwise result_of 7 (length t) buffer
+
+-- "tested after 6; both leave the buffer unchanged"
 unfoldable pub written : Settings → Settings → ℕ → Text → Result
-written p w channel buffer =
-    let t = lines_for p w channel in
-    if writable p w channel
-    then (if leb (length t) (length buffer) then result_of 0 (length t) (t ++ drop (length t) buffer) otherwise result_of 7 (length t) buffer)
-    otherwise result_of 6 0 buffer
+written p w channel buffer = if writable p w channel then copied (lines_for p w channel) buffer otherwise result_of 6 0 buffer
 
 -- ---- what its lines do
 

@@ -8,9 +8,8 @@ use Rattle.interpreter.specs.Box.{Box, memory, blank, answer_is, store_size, mos
 use Rattle.interpreter.specs.Events.{received, happens}
 use Rattle.interpreter.specs.State.{box_of, possible_state, Started}
 use Rattle.writer.specs.Session.{Verdict, agree, differs, broken, verdict_on}
-use Rattle.writer.specs.declared.session.Found as found
-use Rattle.writer.specs.declared.session.Found.TheVariants.{Agree, Differs, Broken, Refused}
 use Rattle.writer.specs.declared.session.Report.{Report}
+use Rattle.writer.specs.declared.session.Report.TheVariants.{Agree, Differs, Broken, Refused}
 use Rattle.writer.specs.declared.session.Place.{Place}
 use Rattle.writer.specs.declared.session.Marker.{Marker}
 
@@ -91,30 +90,21 @@ closed p = if eqb p.place.stage sending || eqb p.place.stage finding then byte_r
 
 -- ---- what is found
 
-abbrev pub plainly : found.Found → ℕ → Report
-plainly f n = record { found = f; line = n; shown = 0; waiting = 0 }
-
-abbrev pub differs_at : ℕ → ℕ → ℕ → Report
-differs_at line shown waiting = record { found = Differs; line = line; shown = shown; waiting = waiting }
-
 -- at a place where no line is left open
 unfoldable pub report_at : Place → Report
 report_at q =
     if eqb q.stage fresh
-    then (if eqb q.waiting 0 then plainly Agree q.number otherwise differs_at q.sent (q.number + 1) q.waiting)
+    then (if eqb q.waiting 0 then Agree q.number otherwise Differs q.sent (q.number + 1) q.waiting)
     otherwise (if eqb q.stage differing
-    then (if eqb q.sent 0 then differs_at q.number q.number q.waiting otherwise differs_at q.sent q.number q.waiting)
-    otherwise plainly Broken q.number)
+    then (if eqb q.sent 0 then Differs q.number q.number q.waiting otherwise Differs q.sent q.number q.waiting)
+    otherwise Broken q.number)
 
 -- a report as a verdict: the box's answer stands at the start of the room. A marker that was refused marks nothing: line 0 is no line
-abbrev pub verdict_in : found.Found → ℕ → ℕ → Text → Verdict
-verdict_in Agree n j a = agree n
-verdict_in Differs n j a = differs n j a
-verdict_in Broken n j a = broken n
-verdict_in Refused n j a = broken 0
-
 abbrev pub verdict_of : Report → Text → Verdict
-verdict_of r room = verdict_in r.found r.line r.shown (take r.waiting room)
+verdict_of (Agree n) room = agree n
+verdict_of (Differs n j waiting) room = differs n j (take waiting room)
+verdict_of (Broken n) room = broken n
+verdict_of Refused room = broken 0
 
 -- ---- what the functions say
 
@@ -156,7 +146,7 @@ pub record Fed (m : Marker) (store room bytes : Text) (r : Marker) (store' room'
 pub record Finished (m : Marker) (store room : Text) (r : Report) (store' room' : Text) : Type 0 where
   pub possible : Lent store room → possible_marker m ≡ true
       → let p = closed (progress_of m store room) in (r ≡ report_at p.place) × (room' ≡ p.room) × (memory store' ≡ p.box.core.memory)
-  pub impossible : Lent store room → possible_marker m ≡ false → (r ≡ plainly Refused 0) × (store' ≡ store) × (room' ≡ room)
+  pub impossible : Lent store room → possible_marker m ≡ false → (r ≡ Refused) × (store' ≡ store) × (room' ≡ room)
 
 -- ---- a session in pieces
 

@@ -1,309 +1,305 @@
 // Writes the lines that lead from the present settings of a channel to the wanted ones: one for each that differs, with range
 // and voltage in an order that is never refused.
-ghost use Rattle.std.specs.Prelude.{◌≡◌, true, ◌+◌, ◌≤◌, ◌<◌, length};
-ghost use Rattle.registers.specs.Text.{same};
-ghost use Rattle.registers.specs.Label.{most_text, held_in, quoted_text};
-ghost use Rattle.registers.specs.Settings.{count, table_count, kind_of, possible_settings, answer_of};
+ghost use Rattle.std.specs.Prelude.{◌≡◌, true, ℕ, List, [], ◌++◌, ◌+◌, ◌≤◌, ◌<◌, length, take, map};
+ghost use Rattle.std.specs.Borrow.{Bor};
+ghost use Rattle.registers.specs.Text.{Text};
+ghost use Rattle.registers.specs.Label.{held_in, quoted_text};
+ghost use Rattle.registers.specs.Settings.{count, kind_of, possible_settings, answer_of};
 ghost use Rattle.interpreter.specs.Events.{result_of};
-ghost use Rattle.writer.specs.Lines.{number_of, line_for, line_at, row_at, slot_of, lines_to, label_for, lines_for, written};
-ghost use Rattle.writer.specs.LinesParts.{Put, Value, text_count, text_table, text_at, word_place, most_value, most_one_line, most_lines};
+ghost use Rattle.writer.specs.Lines.{refusal_number, number_of, length_of, header_for, line_for, line_at, row_at, slot_of, label_for, lines_for, copied, written};
+ghost use Rattle.writer.specs.LinesParts.{headers_to, channel_number, named, Value, Worded, most_value, most_quoted, most_one_line};
 
+use registers::label::TEXT;
 use registers::settings::{Settings, Values};
 use registers::{answer, label};
+use std::marker::Model;
 
-// Why nothing was written, by 02's number, or that it was.
-#[derive(Clone, Copy)]
-pub enum Outcome {
-    Done,
+// Why nothing was written. A buffer that is too short is told the length that it needs.
+#[derive(Clone, Copy, Debug, PartialEq, Eq)]
+pub enum Refusal {
     NotWritable,
-    BufferTooShort,
+    BufferTooShort { needed: usize },
 }
 
-// The length of the lines, or the length that the buffer needs.
-#[derive(Clone, Copy)]
-pub struct Written {
-    pub outcome: Outcome,
-    pub length: usize,
-}
-
-impl Outcome {
-    // Gives the refusal's number in 02, 0 where there is none.
+impl Refusal {
+    // Gives the refusal's number in 02.
     pub fn number(self) -> u8
-        ensures { result ≡ number_of self }
+        ensures { result ≡ refusal_number self }
     {
         match self {
-            Outcome::Done => 0,
-            Outcome::NotWritable => 6,
-            Outcome::BufferTooShort => 7,
+            Refusal::NotWritable => 6,
+            Refusal::BufferTooShort { .. } => 7,
         }
     }
 }
 
+// Gives the number of what `write` gave: 0, or the refusal's.
+pub fn number_of(written: Result<usize, Refusal>) -> u8
+    ensures { result ≡ number_of written }
+{
+    match written {
+        Ok(_) => 0,
+        Err(refusal) => refusal.number(),
+    }
+}
+
 // The two channels (02, #111).
-const FIRST: u8 = 1;
+#[derive(Clone, Copy)]
+enum Channel {
+    First,
+    Second,
+}
 
-const SECOND: u8 = 2;
+impl TryFrom<u8> for Channel {
+    type Error = Refusal;
 
-// How many bytes a text has in the table of texts.
-const TEXT_SIZE: usize = 21;
+    ghost try_from_gives = { λ n r. r ≡ named n };
+
+    fn try_from(number: u8) -> Result<Channel, Refusal> {
+        match number {
+            1 => Ok(Channel::First),
+            2 => Ok(Channel::Second),
+            _ => Err(Refusal::NotWritable),
+        }
+    }
+}
 
 // The monitor mode's row, and the first after those of a channel.
 const MONITOR: usize = 3;
 
 const BRIGHTNESS: usize = 14;
 
-// The place of the text's header in the table of texts.
-const LABEL: usize = 37;
-
-// The room for all lines.
-const ROOM: usize = 1024;
-
-// Writes a text of the table at a place, and gives where it ends.
-fn put_from(table: &[u8], text: usize, out: &mut [u8], at: usize) -> usize
-    requires { (table.now ≡ text_table) × (text < text_count) × (at + most_value ≤ length out.old) }
-    ensures { Put out.old at (text_at text) result out.new }
-{
-    let row = text * TEXT_SIZE;
-    let start = row + 1;
-    let end = start + table[row] as usize;
-    at + answer::write_text(&table[start..end], &mut out[at..])
-}
-
-// Writes a header with the blank after it, or a word: how many bytes it has, its bytes, and zeros.
-fn put_text(text: usize, out: &mut [u8], at: usize) -> usize
-    requires { (text < text_count) × (at + most_value ≤ length out.old) }
-    ensures { Put out.old at (text_at text) result out.new }
-{
-    let table = b"\
-        \x05OUTP \0\0\0\0\0\0\0\0\0\0\0\0\0\0\0\
-        \x09OUTP:PON \0\0\0\0\0\0\0\0\0\0\0\
-        \x09OUTP:REL \0\0\0\0\0\0\0\0\0\0\0\
-        \x0eOUTP:MON:MODE \0\0\0\0\0\0\
-        \x05VOLT \0\0\0\0\0\0\0\0\0\0\0\0\0\0\0\
-        \x0aVOLT:RANG \0\0\0\0\0\0\0\0\0\0\
-        \x05FREQ \0\0\0\0\0\0\0\0\0\0\0\0\0\0\0\
-        \x0dCURR:LIM:RMS \0\0\0\0\0\0\0\
-        \x12CURR:LIM:RMS:MODE \0\0\
-        \x13CURR:LIM:PEAK:MODE \0\
-        \x12CURR:LIM:RMS:TIME \0\0\
-        \x13CURR:LIM:PEAK:TIME \0\
-        \x13CURR:LIM:PEAK:HIGH \0\
-        \x12CURR:LIM:PEAK:LOW \0\0\
-        \x0aDISP:BRIG \0\0\0\0\0\0\0\0\0\0\
-        \x0aSYST:KLOC \0\0\0\0\0\0\0\0\0\0\
-        \x0aSYST:EXAM \0\0\0\0\0\0\0\0\0\0\
-        \x06OUTP2 \0\0\0\0\0\0\0\0\0\0\0\0\0\0\
-        \x0aOUTP2:PON \0\0\0\0\0\0\0\0\0\0\
-        \x0aOUTP2:REL \0\0\0\0\0\0\0\0\0\0\
-        \x06VOLT2 \0\0\0\0\0\0\0\0\0\0\0\0\0\0\
-        \x0bVOLT2:RANG \0\0\0\0\0\0\0\0\0\
-        \x06FREQ2 \0\0\0\0\0\0\0\0\0\0\0\0\0\0\
-        \x0eCURR2:LIM:RMS \0\0\0\0\0\0\
-        \x13CURR2:LIM:RMS:MODE \0\
-        \x14CURR2:LIM:PEAK:MODE \
-        \x13CURR2:LIM:RMS:TIME \0\
-        \x14CURR2:LIM:PEAK:TIME \
-        \x14CURR2:LIM:PEAK:HIGH \
-        \x13CURR2:LIM:PEAK:LOW \0\
-        \x04CURR\0\0\0\0\0\0\0\0\0\0\0\0\0\0\0\0\
-        \x04SCUR\0\0\0\0\0\0\0\0\0\0\0\0\0\0\0\0\
-        \x04VOLT\0\0\0\0\0\0\0\0\0\0\0\0\0\0\0\0\
-        \x04R12V\0\0\0\0\0\0\0\0\0\0\0\0\0\0\0\0\
-        \x04R24V\0\0\0\0\0\0\0\0\0\0\0\0\0\0\0\0\
-        \x04CONT\0\0\0\0\0\0\0\0\0\0\0\0\0\0\0\0\
-        \x03OFF\0\0\0\0\0\0\0\0\0\0\0\0\0\0\0\0\0\
-        \x0aDISP:TEXT \0\0\0\0\0\0\0\0\0\0";
-    put_from(table, text, out, at)
-}
-
-// Gives the place of a setting's word in the table of texts; of a setting that has no words it says nothing.
-fn word_of(row: usize, value: i32) -> usize
-    ensures { result ≡ word_place row value }
-{
-    if row == MONITOR {
-        if value < 1 {
-            return 30;
+impl Channel {
+    // Gives a row's slot on the channel; a single setting has the same on both.
+    fn slot_of(self, row: usize) -> usize
+        ensures { result ≡ slot_of (channel_number self) row }
+    {
+        match self {
+            Channel::First => row,
+            Channel::Second => match row {
+                0..MONITOR => row + Settings::ROWS,
+                Settings::VOLTAGE..BRIGHTNESS => row + (Settings::ROWS - 1),
+                _ => row,
+            },
         }
-        if value < 2 {
-            return 31;
-        }
-        return 32;
     }
-    if (row == Settings::RANGE) | (row == Settings::RANGE_2) {
-        if value < 1 {
-            return 33;
-        }
-        return 34;
-    }
-    if value < 1 {
-        return 35;
-    }
-    36
-}
-
-// Writes a setting's value as its query answers it.
-fn put_value(row: usize, value: i32, out: &mut [u8], at: usize) -> usize
-    requires { Value row value × (at + most_value ≤ length out.old) }
-    ensures { Put out.old at (answer_of (kind_of row) value) result out.new }
-{
-    let values = Settings::values_of(row);
-    match values {
-        Values::Word => put_text(word_of(row, value), out, at),
-        Values::Tenths => at + answer::write_tenths(value, &mut out[at..]),
-        Values::Whole | Values::Bool => at + answer::write_whole(value, &mut out[at..]),
-    }
-}
-
-// Writes a setting's line.
-fn put_line(row: usize, value: i32, out: &mut [u8], at: usize) -> usize
-    requires { Value row value × (at + most_one_line ≤ length out.old) }
-    ensures { Put out.old at (line_for row value) result out.new }
-{
-    let header = put_text(row, out, at);
-    let end = put_value(row, value, out, header);
-    out[end] = b'\n';
-    end + 1
 }
 
 // Gives the row that comes at a place: to range R24V the range comes before the voltage.
 fn row_at(wide: bool, place: usize) -> usize
     ensures { result ≡ row_at wide place }
 {
-    if wide & (place == Settings::VOLTAGE) {
-        return Settings::RANGE;
+    match place {
+        Settings::VOLTAGE if wide => Settings::RANGE,
+        Settings::RANGE if wide => Settings::VOLTAGE,
+        _ => place,
     }
-    if wide & (place == Settings::RANGE) {
-        return Settings::VOLTAGE;
-    }
-    place
 }
 
-// Gives a row's slot on a channel; a single setting has the same on both.
-fn slot_of(channel: u8, row: usize) -> usize
-    ensures { result ≡ slot_of channel row }
+// Gives each setting's header: the short forms of its names.
+fn headers() -> &'static [&'static [u8]; Settings::COUNT]
+    ensures { map (λ (r : Bor Text). r.now) result.now ≡ headers_to count }
 {
-    if channel != SECOND {
-        return row;
-    }
-    if row < MONITOR {
-        return row + Settings::ROWS;
-    }
-    if (MONITOR < row) & (row < BRIGHTNESS) {
-        return row + (Settings::ROWS - 1);
-    }
-    row
+    &[
+        b"OUTP",
+        b"OUTP:PON",
+        b"OUTP:REL",
+        b"OUTP:MON:MODE",
+        b"VOLT",
+        b"VOLT:RANG",
+        b"FREQ",
+        b"CURR:LIM:RMS",
+        b"CURR:LIM:RMS:MODE",
+        b"CURR:LIM:PEAK:MODE",
+        b"CURR:LIM:RMS:TIME",
+        b"CURR:LIM:PEAK:TIME",
+        b"CURR:LIM:PEAK:HIGH",
+        b"CURR:LIM:PEAK:LOW",
+        b"DISP:BRIG",
+        b"SYST:KLOC",
+        b"SYST:EXAM",
+        b"OUTP2",
+        b"OUTP2:PON",
+        b"OUTP2:REL",
+        b"VOLT2",
+        b"VOLT2:RANG",
+        b"FREQ2",
+        b"CURR2:LIM:RMS",
+        b"CURR2:LIM:RMS:MODE",
+        b"CURR2:LIM:PEAK:MODE",
+        b"CURR2:LIM:RMS:TIME",
+        b"CURR2:LIM:PEAK:TIME",
+        b"CURR2:LIM:PEAK:HIGH",
+        b"CURR2:LIM:PEAK:LOW",
+    ]
 }
 
-// Writes the line of a slot, if it differs.
-fn put_row(present: Settings, wanted: Settings, row: usize, out: &mut [u8], at: usize) -> usize
-    requires { (row < count) × (possible_settings wanted ≡ true) × (at + most_one_line ≤ length out.old) }
-    ensures { Put out.old at (line_at present wanted row) result out.new }
+fn header_of(slot: usize) -> &'static [u8]
+    requires { slot < count }
+    ensures { result.now ≡ header_for slot }
 {
-    let here = present.value(row);
-    let there = wanted.value(row);
-    if (here < there) | (there < here) {
-        return put_line(row, there, out, at);
-    }
-    at
+    headers()[slot]
 }
 
-// Writes the lines of all of a channel's rows that differ.
-fn put_rows(present: Settings, wanted: Settings, channel: u8, out: &mut [u8]) -> usize
-    requires { (possible_settings wanted ≡ true) × (most_lines ≤ length out.old) }
-    ensures { Put out.old 0 (lines_to present wanted channel table_count) result out.new }
+// Gives the word of a setting whose values are words.
+fn word_of(slot: usize, value: i32) -> &'static [u8]
+    requires { Worded slot value }
+    ensures { result.now ≡ answer_of (kind_of slot) value }
 {
-    let wide = 1 <= wanted.value(slot_of(channel, Settings::RANGE));
-    let mut at: usize = 0;
-    let mut place: usize = 0;
-    while place < Settings::ROWS {
-        at = put_row(
-            present,
-            wanted,
-            slot_of(channel, row_at(wide, place)),
-            out,
-            at,
-        );
-        place += 1;
+    match slot {
+        MONITOR => match value {
+            0 => b"CURR",
+            1 => b"SCUR",
+            _ => b"VOLT",
+        },
+        Settings::RANGE | Settings::RANGE_2 => match value {
+            0 => b"R12V",
+            _ => b"R24V",
+        },
+        _ => match value {
+            0 => b"CONT",
+            _ => b"OFF",
+        },
     }
-    at
 }
 
-// Tells whether two texts are the same.
-fn is_same(one: &[u8], other: &[u8]) -> bool
-    ensures { result ≡ same one.now other.now }
-{
-    if one.len() != other.len() {
-        return false;
-    }
-    let mut i: usize = 0;
-    while i < one.len() {
-        if one[i] != other[i] {
-            return false;
+// The room for all lines.
+const ROOM: usize = 1024;
+
+// Lines, as far as they are written. A contract sees their text.
+#[derive(Drop)]
+struct Draft {
+    bytes: [u8; ROOM],
+    end: usize,
+}
+
+impl Model for Draft {
+    ghost Value = { List ℕ };
+
+    ghost view = { λ d. take d.end d.bytes };
+
+    ghost invariant = { λ d. d.end ≤ length d.bytes };
+}
+
+impl Draft {
+    fn new() -> Draft
+        ensures { result ≡ [] }
+    {
+        Draft {
+            bytes: [0; ROOM],
+            end: 0,
         }
-        i += 1;
     }
-    true
-}
 
-// Writes a text in its quotes.
-fn put_quoted(text: &[u8], out: &mut [u8], at: usize) -> usize
-    requires { (length text.now ≡ most_text) × (at + 34 ≤ length out.old) }
-    ensures { Put out.old at (quoted_text (held_in text.now)) result out.new }
-{
-    at + label::write_label(text, &mut out[at..])
-}
-
-// Writes the line of the display's text.
-fn put_label(text: &[u8], out: &mut [u8], at: usize) -> usize
-    requires { (length text.now ≡ most_text) × (at + most_one_line ≤ length out.old) }
-    ensures { Put out.old at (label_for (held_in text.now)) result out.new }
-{
-    let header = put_text(LABEL, out, at);
-    let end = put_quoted(text, out, header);
-    out[end] = b'\n';
-    end + 1
-}
-
-// Writes the lines of all settings of a channel that differ.
-fn put_lines(present: Settings, wanted: Settings, channel: u8, out: &mut [u8]) -> usize
-    requires { (possible_settings wanted ≡ true) × (most_lines ≤ length out.old) }
-    ensures { Put out.old 0 (lines_for present wanted channel) result out.new }
-{
-    let at = put_rows(present, wanted, channel, out);
-    let here = present.text;
-    let there = wanted.text;
-    if is_same(&here, &there) {
-        return at;
+    fn push(&mut self, text: &[u8])
+        requires { length self.old + length text.now ≤ ROOM }
+        ensures { self.new ≡ self.old ++ text.now }
+    {
+        self.end += answer::write_text(text, &mut self.bytes[self.end..]);
     }
-    put_label(&there, out, at)
+
+    // Appends a setting's value as its query answers it.
+    fn push_value(&mut self, slot: usize, value: i32)
+        requires { Value slot value × (length self.old + most_value ≤ ROOM) }
+        ensures { self.new ≡ self.old ++ answer_of (kind_of slot) value }
+    {
+        match Settings::values_of(slot) {
+            Values::Word => self.push(word_of(slot, value)),
+            Values::Tenths => {
+                self.end += answer::write_tenths(value, &mut self.bytes[self.end..]);
+            }
+            Values::Whole | Values::Bool => {
+                self.end += answer::write_whole(value, &mut self.bytes[self.end..]);
+            }
+        }
+    }
+
+    // Appends a setting's line.
+    fn push_line(&mut self, slot: usize, value: i32)
+        requires { Value slot value × (length self.old + most_one_line ≤ ROOM) }
+        ensures { self.new ≡ self.old ++ line_for slot value }
+    {
+        self.push(header_of(slot));
+        self.push(b" ");
+        self.push_value(slot, value);
+        self.push(b"\n");
+    }
+
+    // Appends a text in its quotes.
+    fn push_quoted(&mut self, text: &[u8; TEXT])
+        requires { length self.old + most_quoted ≤ ROOM }
+        ensures { self.new ≡ self.old ++ quoted_text (held_in text.now) }
+    {
+        self.end += label::write_label(text, &mut self.bytes[self.end..]);
+    }
+
+    // Appends the line of the display's text.
+    fn push_label(&mut self, text: &[u8; TEXT])
+        requires { length self.old + most_one_line ≤ ROOM }
+        ensures { self.new ≡ self.old ++ label_for (held_in text.now) }
+    {
+        self.push(b"DISP:TEXT ");
+        self.push_quoted(text);
+        self.push(b"\n");
+    }
+
+    // Appends the line of a slot, if it differs.
+    fn push_row(&mut self, present: Settings, wanted: Settings, slot: usize)
+        requires { (slot < count) × (possible_settings wanted ≡ true) × (length self.old + most_one_line ≤ ROOM) }
+        ensures { self.new ≡ self.old ++ line_at present wanted slot }
+    {
+        let value = wanted.value(slot);
+        if present.value(slot) != value {
+            self.push_line(slot, value);
+        }
+    }
+
+    // Makes the lines of all settings of a channel that differ.
+    fn of(present: Settings, wanted: Settings, channel: Channel) -> Draft
+        requires { possible_settings wanted ≡ true }
+        ensures { result ≡ lines_for present wanted (channel_number channel) }
+    {
+        let mut draft = Draft::new();
+        let wide = 1 <= wanted.value(channel.slot_of(Settings::RANGE));
+        for place in 0..Settings::ROWS {
+            let slot = channel.slot_of(row_at(wide, place));
+            draft.push_row(present, wanted, slot);
+        }
+        if present.text != wanted.text {
+            draft.push_label(&wanted.text);
+        }
+        draft
+    }
+
+    // Copies the lines into a buffer, if it has room for all of them.
+    fn copy_to(&self, buffer: &mut [u8]) -> Result<usize, Refusal>
+        ensures { result_of (number_of result) (length_of result) buffer.new ≡ copied self.now buffer.old }
+    {
+        let n = self.end;
+        if buffer.len() < n {
+            return Err(Refusal::BufferTooShort { needed: n });
+        }
+        buffer[..n].copy_from_slice(&self.bytes[..n]);
+        Ok(n)
+    }
 }
 
-// Writes the lines into the buffer, if it has room for all of them; a refusal leaves it as it was. Number 6 tests both whole records, the
-// settings of the other channel too, though they get no line: a record that breaks a limit anywhere is no box's.
-pub fn write(present: Settings, wanted: Settings, channel: u8, buffer: &mut [u8]) -> Written
-    ensures { result_of (number_of result.outcome) result.length buffer.new ≡ written present wanted channel buffer.old }
+// Writes the lines into the buffer, if it has room for all of them, and gives their length; a refusal leaves it as it was. Number 6 tests both
+// whole records, the settings of the other channel too, though they get no line: a record that breaks a limit anywhere is no box's.
+pub fn write(
+    present: Settings,
+    wanted: Settings,
+    channel: u8,
+    buffer: &mut [u8],
+) -> Result<usize, Refusal>
+    ensures { result_of (number_of result) (length_of result) buffer.new ≡ written present wanted channel buffer.old }
 {
+    let channel = Channel::try_from(channel)?;
     let here = present.value(Settings::EXAM);
     let there = wanted.value(Settings::EXAM);
     let good = present.possible() & wanted.possible();
-    if ((channel != FIRST) & (channel != SECOND)) | !good | (here < there) | (there < here) {
-        return Written {
-            outcome: Outcome::NotWritable,
-            length: 0,
-        };
+    if !good | (here != there) {
+        return Err(Refusal::NotWritable);
     }
-    let mut out = [0u8; ROOM];
-    let n = put_lines(present, wanted, channel, &mut out);
-    if buffer.len() < n {
-        return Written {
-            outcome: Outcome::BufferTooShort,
-            length: n,
-        };
-    }
-    let lines: &[u8] = &out;
-    answer::write_text(&lines[0..n], buffer);
-    Written {
-        outcome: Outcome::Done,
-        length: n,
-    }
+    Draft::of(present, wanted, channel).copy_to(buffer)
 }

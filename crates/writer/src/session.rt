@@ -9,31 +9,33 @@ ghost use Rattle.std.specs.Prelude.{◌≡◌, true, ◌+◌, ◌≤◌, ◌<◌
 ghost use Rattle.registers.specs.Text.{index_of};
 ghost use Rattle.interpreter.specs.Box.{store_size, most_answer, Box};
 ghost use Rattle.interpreter.specs.FlowParts.{first_line};
-ghost use Rattle.writer.specs.Marking.{line_begun, place_sent, place_found, possible_marker, Begun, Fed, Finished, plainly, differs_at, report_at};
+ghost use Rattle.writer.specs.Marking.{line_begun, place_sent, place_found, possible_marker, Begun, Fed, Finished, report_at};
 ghost use Rattle.writer.specs.MarkingParts.{AnswerRead, Fits, FedAll};
 
 use interpreter::server;
 use interpreter::state::{ANSWER, STORE, State};
 use registers::text;
 
-// What is found: all lines agree, one differs, or one is broken; or the marker is none that `begin` and `feed` left.
-#[derive(Clone, Copy)]
-pub enum Found {
-    Agree,
-    Differs,
-    Broken,
+// What is found; lines count from 1.
+#[derive(Clone, Copy, Debug, PartialEq, Eq)]
+pub enum Report {
+    // All lines agree, and so many they are.
+    Agree {
+        lines: usize,
+    },
+    // A line differs: `line` is the one that was sent, and `shown` the one at which it shows, the recorded answer, or what stands where one is
+    // missing, or one after the last. The first `waiting` bytes of the room are then the box's answer with its newline; none where it has none.
+    Differs {
+        line: usize,
+        shown: usize,
+        waiting: usize,
+    },
+    // This line is broken.
+    Broken {
+        line: usize,
+    },
+    // The marker is none that `begin` and `feed` left.
     Refused,
-}
-
-// What is found, and at which line, counted from 1; where all agree, how many there are. Where a line differs, it is the one that was
-// sent, and `shown` is the one at which it shows: the recorded answer, or what stands where one is missing, or one after
-// the last. The first `waiting` bytes of the room are then the box's answer with its newline; none where it has none.
-#[derive(Clone, Copy)]
-pub struct Report {
-    pub found: Found,
-    pub line: usize,
-    pub shown: usize,
-    pub waiting: usize,
 }
 
 // Where the marker stands: the stage; how many lines have begun; the last that was sent, 0 before the first; how many bytes its
@@ -84,7 +86,7 @@ struct Ending {
 
 // Takes in the first byte of a line. A line is sent only once the answer to the one before was found.
 fn begin_line(mut place: Place, byte: u8) -> Place
-    requires { place.number < 18446744073709551615 }
+    requires { place.number < usize.MAX }
     ensures { result ≡ line_begun place byte }
 {
     place.number += 1;
@@ -216,9 +218,7 @@ fn possible(marker: Marker, store: &[u8]) -> bool
     let waiting = marker.place.waiting;
     let own = marker.state.waiting;
     let state = marker.state;
-    let seen = state.look(store);
-    let outcome = seen.outcome;
-    (outcome.number() == 0) & (own == 0) & (waiting <= ANSWER) & (number < MOST)
+    state.look(store).is_ok() & (own == 0) & (waiting <= ANSWER) & (number < MOST)
 }
 
 // Makes the marker of a session of which nothing has come.
@@ -253,48 +253,39 @@ pub fn feed(
     feed_all(marker, store, room, bytes)
 }
 
-fn differs(line: usize, shown: usize, waiting: usize) -> Report
-    ensures { result ≡ differs_at line shown waiting }
-{
-    Report {
-        found: Found::Differs,
-        line,
-        shown,
-        waiting,
-    }
-}
-
-fn stopped(found: Found, line: usize) -> Report
-    ensures { result ≡ plainly found line }
-{
-    Report {
-        found,
-        line,
-        shown: 0,
-        waiting: 0,
-    }
-}
-
 // Reads what was found off a place where no line is left open.
 fn report_at(place: Place) -> Report
-    requires { place.number < 18446744073709551615 }
+    requires { place.number < usize.MAX }
     ensures { result ≡ report_at place }
 {
     let number = place.number;
     let waiting = place.waiting;
     if place.stage == FRESH {
         if waiting == 0 {
-            return stopped(Found::Agree, number);
+            return Report::Agree { lines: number };
         }
-        return differs(place.sent, number + 1, waiting);
+        let line = place.sent;
+        return Report::Differs {
+            line,
+            shown: number + 1,
+            waiting,
+        };
     }
     if place.stage != DIFFERS {
-        return stopped(Found::Broken, number);
+        return Report::Broken { line: number };
     }
     if place.sent == 0 {
-        return differs(number, number, waiting);
+        return Report::Differs {
+            line: number,
+            shown: number,
+            waiting,
+        };
     }
-    differs(place.sent, number, waiting)
+    Report::Differs {
+        line: place.sent,
+        shown: number,
+        waiting,
+    }
 }
 
 // Ends the session: a last line without its newline counts as one with it.
@@ -302,7 +293,7 @@ pub fn finish(marker: Marker, store: &mut [u8; STORE], room: &mut [u8; ANSWER]) 
     ensures { Finished marker store.old room.old result store.new room.new }
 {
     if !possible(marker, store) {
-        return stopped(Found::Refused, 0);
+        return Report::Refused;
     }
     let stage = marker.place.stage;
     if (stage != SENDING) & (stage != FINDING) {

@@ -1,17 +1,15 @@
 -- What a value's text is, by the kind of values that the code was told.
-use mathlib.Core.Path.{◌≡◌, refl}
+use mathlib.Core.Path.{◌≡◌, refl, sym, ◌∙◌, ap}
 use mathlib.Core.List.{[], ◌∷◌}
 use Prim.Native.Nat.{ℕ}
 use native.Mathlib.Omega.{arith}
 use lib.IntN.{ℤ}
-use types.Run.{OneOf, miss}
-use denote.Enum.Declared.{tag_of}
+use mathlib.Core.Logic.{◌⊎◌, inl, inr}
 use Rattle.registers.specs.Text.{if◌then◌otherwise◌}
 use Rattle.registers.specs.Answer.{decimal, tenths, signed_text}
 use Rattle.registers.specs.Settings.{Kind, bool, words, number, answer_of, bools, numbers, sort_of, meant_values}
 use Rattle.registers.specs.declared.settings.Values.{Values}
-use Rattle.registers.specs.declared.settings.Values.TheVariants.{Bool as BoolValue, Word, Tenths, Whole}
-use Rattle.registers.specs.contracts.settings.Values as values
+use Rattle.registers.specs.declared.settings.Values.TheVariants.{Bool as BoolValue, Whole}
 
 pub tenths-text : (k : Kind) (z : ℤ) → numbers 10 ≡ sort_of k → answer_of k z ≡ signed_text tenths z
 unfolding answer_of if◌then◌otherwise◌
@@ -32,9 +30,6 @@ bool-text (words ws) z e = let y : ◌≡◌ {A = ℕ} 0 1 = cc in absurd (omega
 bool-text (number n low high) z e = let y : ◌≡◌ {A = ℕ} 0 1 = cc in absurd (omega arith)
 
 -- the two that are written alike
-pub decimal-text : (told : Values) → OneOf (3 ∷ 0 ∷ []) (tag_of values.the_type told) → (k : Kind) (z : ℤ) → meant_values told ≡ sort_of k
-    → answer_of k z ≡ signed_text decimal z
-decimal-text BoolValue h k z e = bool-text k z e
-decimal-text Word h k z e = absurd (miss (3 ∷ 0 ∷ []) 1 tt h)
-decimal-text Tenths h k z e = absurd (miss (3 ∷ 0 ∷ []) 2 tt h)
-decimal-text Whole h k z e = whole-text k z e
+pub decimal-text : (told : Values) → (told ≡ Whole) ⊎ (told ≡ BoolValue) → (k : Kind) (z : ℤ) → meant_values told ≡ sort_of k → answer_of k z ≡ signed_text decimal z
+decimal-text told (inl is) k z e = whole-text k z (ap meant_values (sym is) ∙ e)
+decimal-text told (inr is) k z e = bool-text k z (ap meant_values (sym is) ∙ e)

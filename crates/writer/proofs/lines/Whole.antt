@@ -1,86 +1,88 @@
--- The whole writer: the code's test is that of number 6, and what it leaves in each of the three ways is what the definition says.
+-- The whole writer: the code's test is that of number 6, and what it gives in each of the three ways is what the definition says.
 use mathlib.Core.Path.{◌≡◌, refl, sym, ◌∙◌, ap}
-use mathlib.Core.Bool.{Bool, true, false, not, ◌&&◌, ◌||◌}
-use Prim.Native.Nat.{ℕ, ◌-◌, ◌≤◌, ◌<◌}
-use native.Mathlib.Omega.{arith}
+use mathlib.Core.Bool.{Bool, true, false, not, ◌&&◌, ◌||◌, false≢true}
+use Prim.Native.Nat.{ℕ, ◌<◌}
 use lib.Dec.{eqb}
-use lib.ListN.{length, take, drop, length-take}
 use lib.IntN.{ℤ}
-use lib.Signed.{lt_z}
-use borrow.Author.Tests.{le-leb, lt-leb, not-false, not-true}
+use lib.Signed.{mag}
+use mir.Syntax.{w32}
+use mir.Val.{of_z}
+use borrow.Author.Tests.{eqb-true, eqb-false, not-true, not-false}
+use Rattle.std.specs.Prelude.{Ok, Err}
 use Rattle.registers.specs.Text.{Text, if◌then◌otherwise◌}
-use Rattle.registers.specs.Answer.{Laid}
 use Rattle.registers.specs.Settings.{exam, value_at, possible_settings}
 use Rattle.registers.specs.declared.settings.Settings.{Settings}
-use Rattle.registers.proofs.Tests.{and_both}
-use Rattle.registers.proofs.answer.Laws.{over-fits}
-use Rattle.interpreter.specs.Events.{result_of}
-use Rattle.writer.specs.Lines.{lines_for, writable, written}
-use Rattle.writer.specs.LinesParts.{Put}
+use Rattle.interpreter.specs.Events.{Result, result_of}
+use Rattle.writer.specs.Lines.{refusal_number, length_told, differs, lines_for, copied, writable, written}
+use Rattle.writer.specs.LinesParts.{channel_number, named}
+use Rattle.writer.specs.declared.lines.Refusal.{Refusal}
+use Rattle.writer.specs.declared.lines.Refusal.TheVariants.{NotWritable}
+use Rattle.writer.specs.declared.lines.Channel.{Channel}
+use Rattle.writer.specs.declared.lines.Channel.TheVariants.{First, Second}
+use Rattle.writer.proofs.lines.Laws.{bits-apart, bits-alike}
 
--- the code's test for number 6
-abbrev pub refusing : Settings → Settings → ℕ → Bool
-refusing p w channel =
-    (((not (eqb channel 1) && not (eqb channel 2)) || not (possible_settings p && possible_settings w)) || lt_z (value_at p exam) (value_at w exam))
-    || lt_z (value_at w exam) (value_at p exam)
+-- a channel that has a name is one of 02's
+record Named (n : ℕ) (q : Channel) : Type 0 where
+  one : (eqb n 1 || eqb n 2) ≡ true
+  number : channel_number q ≡ n
 
-passing : (p q a b : Bool) → ((not (p && q) || a) || b) ≡ not (p && (q && not (a || b)))
-passing false q a b = refl
-passing true false a b = refl
-passing true true true b = refl
-passing true true false true = refl
-passing true true false false = refl
+data Called (n : ℕ) : Type 0 where
+  known : (q : Channel) → named n ≡ Ok q → Named n q → Called n
+  other : named n ≡ Err NotWritable → (eqb n 1 || eqb n 2) ≡ false → Called n
 
-opposite : (c d p q a b : Bool) → ((((not c && not d) || not (p && q)) || a) || b) ≡ not ((c || d) && (p && (q && not (a || b))))
-opposite false false p q a b = refl
-opposite false true p q a b = passing p q a b
-opposite true d p q a b = passing p q a b
+called : (n : ℕ) → Called n
+unfolding if◌then◌otherwise◌
+called n = go (eqb n 1) refl (eqb n 2) refl
+  where
+    go : (s : Bool) → eqb n 1 ≡ s → (t : Bool) → eqb n 2 ≡ t → Called n
+    go true e t f = known First (rw e refl) (record { one = rw e refl; number = sym (eqb-true n 1 e) })
+    go false e true f = known Second (rw (e, f) refl) (record { one = rw (e, f) refl; number = sym (eqb-true n 2 f) })
+    go false e false f = other (rw (e, f) refl) (rw (e, f) refl)
 
--- as the code makes it
-pub tested : (p w : Settings) (channel : ℕ) {h t : ℤ} {a b r : Bool} → h ≡ value_at p exam → t ≡ value_at w exam → a ≡ possible_settings p → b ≡ possible_settings w
-    → ((((not (eqb channel 1) && not (eqb channel 2)) || not (a && b)) || lt_z h t) || lt_z t h) ≡ r → refusing p w channel ≡ r
-tested p w channel e f g k is = rw (e, f, g, k) at is
+-- the code's test of the records, by the exam modes' bits
+passing : (a b d : Bool) → (not (a && b) || d) ≡ not (a && (b && not d))
+passing false b d = refl
+passing true false d = refl
+passing true true false = refl
+passing true true true = refl
+
+module _ (p w : Settings) {h t : ℤ} {a b : Bool} (k : mag h < 2147483648) (l : mag t < 2147483648) (e : h ≡ value_at p exam) (f : t ≡ value_at w exam)
+    (g : a ≡ possible_settings p) (j : b ≡ possible_settings w) where
+  differ : not (eqb (of_z w32 h) (of_z w32 t)) ≡ differs p w exam
+  differ = go (eqb (of_z w32 h) (of_z w32 t)) refl
+    where
+      go : (s : Bool) → eqb (of_z w32 h) (of_z w32 t) ≡ s → not (eqb (of_z w32 h) (of_z w32 t)) ≡ differs p w exam
+      go true q = rw q (sym (bits-alike e f k l (eqb-true (of_z w32 h) (of_z w32 t) q)))
+      go false q = rw q (sym (bits-apart e f (eqb-false (of_z w32 h) (of_z w32 t) q)))
+
+  pub tested : {r : Bool} → (not (a && b) || not (eqb (of_z w32 h) (of_z w32 t))) ≡ r
+      → not (possible_settings p && (possible_settings w && not (differs p w exam))) ≡ r
+  tested is = sym (passing (possible_settings p) (possible_settings w) (differs p w exam)) ∙ rw (g, j, differ) at is
 
 module _ (p w : Settings) (channel : ℕ) (buffer : Text) where
-  refusing-is : refusing p w channel ≡ not (writable p w channel)
-  unfolding writable
-  refusing-is = opposite (eqb channel 1) (eqb channel 2) (possible_settings p) (possible_settings w) (lt_z (value_at p exam) (value_at w exam)) (lt_z (value_at w exam) (value_at p exam))
+  abbrev fit : Bool
+  fit = possible_settings p && (possible_settings w && not (differs p w exam))
 
-  pub is-refused : refusing p w channel ≡ true → result_of 6 0 buffer ≡ written p w channel buffer
-  unfolding written if◌then◌otherwise◌
-  is-refused e = rw (not-true (writable p w channel) (sym refusing-is ∙ e))
+  pub other-channel : {e : Refusal} → named channel ≡ Err e → result_of (refusal_number e) (length_told e) buffer ≡ written p w channel buffer
+  unfolding written writable if◌then◌otherwise◌
+  other-channel {e} is = go (called channel)
+    where
+      go : Called channel → result_of (refusal_number e) (length_told e) buffer ≡ written p w channel buffer
+      go (known q k n) = let no : Ok q ≡ Err e = sym k ∙ is in absurd (cc)
+      go (other k n) = let same : NotWritable ≡ e = cc in rw (n, ← same) refl
 
-  module _ (e : refusing p w channel ≡ false) where
-    pub may : writable p w channel ≡ true
-    may = not-false (writable p w channel) (sym refusing-is ∙ e)
+  pub unfit : not fit ≡ true → result_of 6 0 buffer ≡ written p w channel buffer
+  unfolding written writable if◌then◌otherwise◌
+  unfit e = rw (not-true fit e) (go (eqb channel 1 || eqb channel 2))
+    where
+      go : (t : Bool) → result_of 6 0 buffer ≡ (if t && false then copied (lines_for p w channel) buffer otherwise result_of 6 0 buffer)
+      go true = refl
+      go false = refl
 
-    pub may-possible : possible_settings w ≡ true
-    unfolding writable
-    may-possible =
-        let a = (and_both (eqb channel 1 || eqb channel 2) _ may).1 in
-        let b = (and_both (possible_settings p) _ a).1 in
-        (and_both (possible_settings w) _ b).0
-
-    module _ {n : ℕ} {out out' : Text} (put : Put out 0 (lines_for p w channel) n out') where
-      long : n ≡ length (lines_for p w channel)
-      long = let e = put.ends in omega arith
-
-      pub is_within : n ≤ length out'
-      is_within = let l = long in let e = ap length put.stands in let k = length-take n out' in omega arith
-
-      pub is-short : length buffer < n → result_of 7 n buffer ≡ written p w channel buffer
-      unfolding written if◌then◌otherwise◌
-      is-short h =
-          let l = long in
-          rw (may, lt-leb (length (lines_for p w channel)) (length buffer) (omega arith), l)
-
-      lines_are : take (n - 0) (drop 0 out') ≡ lines_for p w channel
-      lines_are = let k : n - 0 ≡ n = omega arith in rw k put.stands
-
-      pub is_whole : n ≤ length buffer → {r : ℕ} {buffer' : Text} → Laid (take (n - 0) (drop 0 out')) buffer r buffer' → result_of 0 n buffer' ≡ written p w channel buffer
-      unfolding written if◌then◌otherwise◌
-      is_whole h laid =
-          let l = long in
-          let k : length (lines_for p w channel) ≤ length buffer = omega arith in
-          let b = (rw lines_are at laid).bytes ∙ over-fits (lines_for p w channel) buffer k in
-          rw (may, le-leb (length (lines_for p w channel)) (length buffer) k, l, b)
+  pub whole : {q : Channel} → named channel ≡ Ok q → not fit ≡ false → {r : Result} → r ≡ copied (lines_for p w (channel_number q)) buffer → r ≡ written p w channel buffer
+  unfolding written writable if◌then◌otherwise◌
+  whole {q} is e {r} f = go (called channel)
+    where
+      go : Called channel → r ≡ written p w channel buffer
+      go (known q' k n) = let same : q ≡ q' = cc in let m : channel_number q ≡ channel = ap channel_number same ∙ n.number in rw (n.one, not-false fit e) (rw m at f)
+      go (other k n) = let no : Ok q ≡ Err NotWritable = sym is ∙ k in absurd (cc)

@@ -18,8 +18,8 @@ use Rattle.interpreter.specs.Line.{held, byte, piece}
 use Rattle.interpreter.specs.Events.{happens}
 use Rattle.interpreter.specs.FlowParts.{first_line}
 use Rattle.interpreter.proofs.Choices.{if-elim}
-use Rattle.writer.specs.Marking.{Progress, line_begun, place_sent, part_sent, place_found, begun_at, found_so, placed, byte_read, fed, plainly, differs_at, report_at}
-use Rattle.writer.specs.declared.session.Found.TheVariants.{Agree, Broken}
+use Rattle.writer.specs.Marking.{Progress, line_begun, place_sent, part_sent, place_found, begun_at, found_so, placed, byte_read, fed, report_at}
+use Rattle.writer.specs.declared.session.Report.TheVariants.{Agree, Differs, Broken}
 use Rattle.writer.specs.declared.session.Place.{Place}
 
 pub fed-append : (p : Progress) (xs ys : Text) → fed p (xs ++ ys) ≡ fed (fed p xs) ys
@@ -208,22 +208,22 @@ module _ (q : Place) (room : Text) (x : ℕ) where
 -- ---- what is found at a place
 
 module _ (q : Place) where
-  pub agree_at : q.stage ≡ 0 → q.waiting ≡ 0 → report_at q ≡ plainly Agree q.number
+  pub agree_at : q.stage ≡ 0 → q.waiting ≡ 0 → report_at q ≡ Agree q.number
   unfolding report_at if◌then◌otherwise◌
   agree_at e w = rw (e, w)
 
-  pub open_at : q.stage ≡ 0 → (q.waiting ≡ 0 → ⊥) → report_at q ≡ differs_at q.sent (q.number + 1) q.waiting
+  pub open_at : q.stage ≡ 0 → (q.waiting ≡ 0 → ⊥) → report_at q ≡ Differs q.sent (q.number + 1) q.waiting
   unfolding report_at if◌then◌otherwise◌
   open_at e w = rw (e, ne_eqb q.waiting 0 w)
 
-  pub broken-at : (q.stage ≡ 0 → ⊥) → (q.stage ≡ 3 → ⊥) → report_at q ≡ plainly Broken q.number
+  pub broken-at : (q.stage ≡ 0 → ⊥) → (q.stage ≡ 3 → ⊥) → report_at q ≡ Broken q.number
   unfolding report_at if◌then◌otherwise◌
   broken-at a b = rw (ne_eqb q.stage 0 a, ne_eqb q.stage 3 b)
 
-  pub first-at : q.stage ≡ 3 → q.sent ≡ 0 → report_at q ≡ differs_at q.number q.number q.waiting
+  pub first-at : q.stage ≡ 3 → q.sent ≡ 0 → report_at q ≡ Differs q.number q.number q.waiting
   unfolding report_at if◌then◌otherwise◌
   first-at e z = rw (e, z)
 
-  pub differs-at : q.stage ≡ 3 → (q.sent ≡ 0 → ⊥) → report_at q ≡ differs_at q.sent q.number q.waiting
+  pub differs-at : q.stage ≡ 3 → (q.sent ≡ 0 → ⊥) → report_at q ≡ Differs q.sent q.number q.waiting
   unfolding report_at if◌then◌otherwise◌
   differs-at e z = rw (e, ne_eqb q.sent 0 z)

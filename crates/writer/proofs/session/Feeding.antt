@@ -14,19 +14,22 @@ use Rattle.registers.proofs.Tests.{and_both, and-true, front-empty}
 use Rattle.interpreter.specs.Box.{Box, memory, blank, right_size, power_up, store_size, most_answer}
 use Rattle.interpreter.specs.Events.{look, Result, result_of, Happened, happens}
 use Rattle.interpreter.specs.FlowParts.{first_line}
-use Rattle.interpreter.specs.State.{box_of, possible_state, Happens, Started}
+use Rattle.interpreter.specs.State.{number_of, box_of, possible_state, Happens, Started}
+use Rattle.interpreter.specs.declared.state.Refusal as told
+use Rattle.interpreter.specs.declared.state.Refusal.TheVariants.{BufferTooShort, NoAnswer, ConditionTooWide, ImpossibleState, WrongStore}
+use Rattle.std.specs.Prelude.{Ok, Err, is_ok, Result as Outcome}
 use Rattle.interpreter.specs.Server.{Serves}
 use Rattle.interpreter.specs.declared.state.State.{State}
 use Rattle.interpreter.proofs.Choices.{if-elim}
 use Rattle.interpreter.proofs.Lists.{is-empty}
 use Rattle.interpreter.proofs.state.Events.{size-right}
-use Rattle.writer.specs.Marking.{Progress, line_begun, place_sent, place_found, byte_read, fed, closed, plainly, report_at, progress_of, sound_marker, possible_marker, most_lines, Lent, Begun, Fed, Finished}
+use Rattle.writer.specs.Marking.{Progress, line_begun, place_sent, place_found, byte_read, fed, closed, report_at, progress_of, sound_marker, possible_marker, most_lines, Lent, Begun, Fed, Finished}
 use Rattle.writer.specs.MarkingParts.{AnswerRead, Fits, FedAll}
 use Rattle.writer.specs.declared.session.Place.{Place}
 use Rattle.writer.specs.declared.session.Marker.{Marker}
 use Rattle.writer.specs.declared.session.Compared.{Compared}
 use Rattle.writer.specs.declared.session.Report.{Report}
-use Rattle.writer.specs.declared.session.Found.TheVariants.{Refused}
+use Rattle.writer.specs.declared.session.Report.TheVariants.{Refused}
 use Rattle.writer.proofs.session.Bytes.{fed-append, fed-next, byte-fresh, byte-finding, fed-stopped, fed-sent, ends, first-front, first_some, first-within}
 use Rattle.writer.proofs.session.Serving.{part-possible, part-silent, part-stored, part-written, part-sent}
 
@@ -61,6 +64,14 @@ unfolding possible_marker power_up
 begun-marker s h =
     let silent : take s.waiting s.answer ≡ [] = ap (λ (b : Box). b.core.answer) (h.first blank) in
     record { started = h; place = refl; possible = and-true (sound-from _ h.possible silent zero-le) refl }
+
+pub no-refusal : (r : Outcome ℕ told.Refusal) → is_ok r ≡ eqb (number_of r) 0
+no-refusal (Ok n) = refl
+no-refusal (Err (BufferTooShort n)) = refl
+no-refusal (Err NoAnswer) = refl
+no-refusal (Err ConditionTooWide) = refl
+no-refusal (Err ImpossibleState) = refl
+no-refusal (Err WrongStore) = refl
 
 -- what the test of a marker tells: a look is refused by number 4 just where its box is impossible
 module _ (m : Marker) (store : Text) (n byte : ℕ) (sized : length store ≡ store_size) (long : 0 < length m.state.answer)
@@ -368,7 +379,7 @@ pub counted : (m : Marker) {t : Bool} → t ≡ possible_marker m → not t ≡ 
 counted m {t} is e = possible-few m (sym is ∙ not-false t e)
 
 module _ (m : Marker) (store room : Text) {t : Bool} (is : t ≡ possible_marker m) {r : Report} where
-  pub finish-refused : not t ≡ true → r ≡ plainly Refused 0 → Finished m store room r store room
+  pub finish-refused : not t ≡ true → r ≡ Refused → Finished m store room r store room
   finish-refused e f =
       record { possible = λ _ p. absurd (false≢true (sym (not-true t e) ∙ is ∙ p)); impossible = λ _ _. (f, refl, refl) }
 

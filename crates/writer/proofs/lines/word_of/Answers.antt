@@ -1,59 +1,39 @@
--- By the tests, one after the other; the value comes back from its 32 bits.
-use mathlib.Core.Path.{◌≡◌}
-use mir.Syntax.{w32}
-use mir.Val.{to_z, of_z}
-use mir.Facts.{to_z-of_z}
-use borrow.Author.Tests.{eq-eqb, ne_eqb}
-use Rattle.registers.specs.Text.{if◌then◌otherwise◌}
-use Rattle.writer.specs.LinesParts.{word_place}
+-- By the slot and the value's bits, one arm after the other (lines/Words).
+use mathlib.Core.Path.{refl}
+use borrow.Author.Tests.{ne_eqb}
+use Rattle.registers.specs.Text.{if◌then◌otherwise◌, bytes}
+use Rattle.writer.proofs.lines.Words.{monitor-word, range-word, mode-word}
 use Rattle.writer.proofs.lines.word_of.Goals as goal
 
-pub returns-then-value-lt1 : goal.returns-then-value-lt1
-unfolding word_place if◌then◌otherwise◌
-returns-then-value-lt1 c =
-    let back : to_z w32 (of_z w32 c.args.value) ≡ c.args.value = to_z-of_z {w = w32} c.ranges.value in
-    let t = rw back at c.if-value-lt1.true in rw (eq-eqb c.args.row 3 c.if-row-eq-MONITOR.true, t)
+pub returns-in-0 : goal.returns-in-0
+unfolding if◌then◌otherwise◌ bytes
+returns-in-0 c = monitor-word c.requires c.in-3.is (rw c.in-0.in-0-own.keys1 refl)
 
-pub returns-then-value-lt2 : goal.returns-then-value-lt2
-unfolding word_place if◌then◌otherwise◌
-returns-then-value-lt2 c =
-    let back : to_z w32 (of_z w32 c.args.value) ≡ c.args.value = to_z-of_z {w = w32} c.ranges.value in
-    let t = rw back at c.if-value-lt1.false in
-    let u = rw back at c.if-value-lt2.true in
-    rw (eq-eqb c.args.row 3 c.if-row-eq-MONITOR.true, t, u)
+pub returns-in-1 : goal.returns-in-1
+unfolding if◌then◌otherwise◌ bytes
+returns-in-1 c = monitor-word c.requires c.in-3.is (rw c.in-1.in-1-own.keys2 refl)
 
-pub returns-then-row-eq-MONITOR : goal.returns-then-row-eq-MONITOR
-unfolding word_place if◌then◌otherwise◌
-returns-then-row-eq-MONITOR c =
-    let back : to_z w32 (of_z w32 c.args.value) ≡ c.args.value = to_z-of_z {w = w32} c.ranges.value in
-    let t = rw back at c.if-value-lt1.false in
-    let u = rw back at c.if-value-lt2.false in
-    rw (eq-eqb c.args.row 3 c.if-row-eq-MONITOR.true, t, u)
+pub returns-in_default-value : goal.returns-in_default-value
+unfolding if◌then◌otherwise◌ bytes
+returns-in_default-value c =
+    let r = c.in_default-value.in_default-value-own.rest in monitor-word c.requires c.in-3.is (rw (ne_eqb _ 0 r.0.1, ne_eqb _ 1 r.1) refl)
 
-pub returns-then-value-lt1-2 : goal.returns-then-value-lt1-2
-unfolding word_place if◌then◌otherwise◌
-returns-then-value-lt1-2 c =
-    let back : to_z w32 (of_z w32 c.args.value) ≡ c.args.value = to_z-of_z {w = w32} c.ranges.value in
-    let t = rw back at c.if-value-lt1-2.true in
-    rw (ne_eqb c.args.row 3 c.if-row-eq-MONITOR.false, c.if-row.true, t)
+pub returns-in-0-value : goal.returns-in-0-value
+unfolding if◌then◌otherwise◌ bytes
+returns-in-0-value c = range-word c.requires c.in-5.is (rw c.in-0-value.in-0-value-own.keys1 refl)
 
-pub returns-then-row : goal.returns-then-row
-unfolding word_place if◌then◌otherwise◌
-returns-then-row c =
-    let back : to_z w32 (of_z w32 c.args.value) ≡ c.args.value = to_z-of_z {w = w32} c.ranges.value in
-    let t = rw back at c.if-value-lt1-2.false in
-    rw (ne_eqb c.args.row 3 c.if-row-eq-MONITOR.false, c.if-row.true, t)
+pub returns-in_default-value-2 : goal.returns-in_default-value-2
+unfolding if◌then◌otherwise◌ bytes
+returns-in_default-value-2 c =
+    let r = c.in_default-value-2.in_default-value-2-own.rest in range-word c.requires c.in-5.is (rw (ne_eqb _ 0 r.1) refl)
 
-pub returns-then-value-lt1-3 : goal.returns-then-value-lt1-3
-unfolding word_place if◌then◌otherwise◌
-returns-then-value-lt1-3 c =
-    let back : to_z w32 (of_z w32 c.args.value) ≡ c.args.value = to_z-of_z {w = w32} c.ranges.value in
-    let t = rw back at c.if-value-lt1-3.true in
-    rw (ne_eqb c.args.row 3 c.if-row-eq-MONITOR.false, c.if-row.false, t)
+pub returns-in-0-value-2 : goal.returns-in-0-value-2
+unfolding if◌then◌otherwise◌ bytes
+returns-in-0-value-2 c =
+    let r = c.in_default.in_default-own.rest in mode-word c.requires r.0.1 r.1 (rw c.in-0-value-2.in-0-value-2-own.keys1 refl)
 
-pub returns : goal.returns
-unfolding word_place if◌then◌otherwise◌
-returns c =
-    let back : to_z w32 (of_z w32 c.args.value) ≡ c.args.value = to_z-of_z {w = w32} c.ranges.value in
-    let t = rw back at c.if-value-lt1-3.false in
-    rw (ne_eqb c.args.row 3 c.if-row-eq-MONITOR.false, c.if-row.false, t)
+pub returns-in_default-value-3 : goal.returns-in_default-value-3
+unfolding if◌then◌otherwise◌ bytes
+returns-in_default-value-3 c =
+    let r = c.in_default.in_default-own.rest in
+    let s = c.in_default-value-3.in_default-value-3-own.rest in mode-word c.requires r.0.1 r.1 (rw (ne_eqb _ 0 s.1) refl)

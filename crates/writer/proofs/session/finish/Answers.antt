@@ -1,11 +1,12 @@
 -- A line that is left open is closed by a newline (session/Feeding).
+use mathlib.Core.Path.{refl}
 use native.Mathlib.Omega.{arith}
 use Rattle.writer.proofs.session.Feeding.{fit-from, counted, finish-refused, finish-plain, finish-open}
 use borrow.Author.Rules.{rules}
 use Rattle.writer.proofs.session.finish.Goals as goal
 
 pub returns-then-not-possible : goal.returns-then-not-possible
-returns-then-not-possible c = finish-refused _ _ _ c.possible.ensures c.if-not-possible.true-raw c.stopped.ensures
+returns-then-not-possible c = finish-refused _ _ _ c.possible.ensures c.if-not-possible.true-raw refl
 
 pub report_at-requires : goal.report_at-requires
 report_at-requires c = let h = counted _ c.possible.ensures c.if-not-possible.false-raw in omega arith
