@@ -1,7 +1,7 @@
 // What a line of the report says of a session, behind its name: each part of it is a value, with its words.
 use interpreter::state::ANSWER;
 use std::fmt;
-use writer::session::{Found, Report};
+use writer::session::Report;
 
 // How many bytes of a text are shown, and how many of a line are looked at: its first byte, and one more than are shown.
 const SHOWN: usize = 200;
@@ -34,6 +34,15 @@ enum Answer<'a> {
     Text(&'a [u8]),
     Nothing,
     NothingMore,
+}
+
+// Where a session and its box differ: the line that was sent, the line at which it shows, and what the box answers.
+#[derive(Clone, Copy)]
+struct Difference<'a> {
+    line: usize,
+    shown: usize,
+    answer: Answer<'a>,
+    session: Option<&'a [u8]>,
 }
 
 // What was found in a session, the room in which its box's answer is, and the session, if all of it is at hand.
@@ -114,57 +123,68 @@ fn line_at(session: &[u8], number: usize) -> &[u8] {
     line.get(..LOOKED_AT).unwrap_or(line)
 }
 
-impl<'a> Finding<'a> {
-    // The status digit.
-    pub fn status(&self) -> u8 {
-        match self.report.found {
-            Found::Agree => 0,
-            Found::Differs => 1,
-            Found::Broken | Found::Refused => 2,
-        }
+// Gives the box's answer out of its room, without its newline.
+fn answer_of(room: &[u8], line: usize, shown: usize, waiting: usize) -> Answer<'_> {
+    match waiting.checked_sub(1) {
+        Some(end) => Answer::Text(room.get(..end).unwrap_or_default()),
+        None if shown.saturating_sub(line) > 1 => Answer::NothingMore,
+        None => Answer::Nothing,
     }
+}
 
-    // The box's answer, without its newline.
-    fn answer(&self) -> Answer<'a> {
-        let report = self.report;
-        let room = self.room;
-        match report.waiting.checked_sub(1) {
-            Some(end) => Answer::Text(room.get(..end).unwrap_or_default()),
-            None if report.shown.saturating_sub(report.line) > 1 => Answer::NothingMore,
-            None => Answer::Nothing,
-        }
-    }
-
-    // Writes what was sent, what was recorded and what the box answers.
-    fn difference<W: fmt::Write>(&self, f: &mut fmt::Formatter<W>) -> fmt::Result {
-        let answer = self.answer();
+impl fmt::Display for Difference<'_> {
+    fn fmt<W: fmt::Write>(&self, f: &mut fmt::Formatter<W>) -> fmt::Result {
+        let answer = self.answer;
+        write!(f, "line {}: ", self.line)?;
         let Some(session) = self.session else {
             return write!(f, "its answer differs, {answer}");
         };
-        let sent = line_at(session, self.report.line);
-        let shown = line_at(session, self.report.shown);
-        if self.report.line == self.report.shown {
-            let answer = Recorded(shown);
+        let shown = line_at(session, self.shown);
+        if self.line == self.shown {
+            let first = Recorded(shown);
             return write!(
                 f,
-                "{answer} is recorded as an answer before anything was sent"
+                "{first} is recorded as an answer before anything was sent"
             );
         }
-        write!(f, "{} {}, {answer}", Sent(sent), Answered(shown))
+        let sent = Sent(line_at(session, self.line));
+        write!(f, "{sent} {}, {answer}", Answered(shown))
+    }
+}
+
+impl Finding<'_> {
+    // The status digit.
+    pub fn status(&self) -> u8 {
+        match self.report {
+            Report::Agree { .. } => 0,
+            Report::Differs { .. } => 1,
+            Report::Broken { .. } | Report::Refused => 2,
+        }
     }
 }
 
 impl fmt::Display for Finding<'_> {
     fn fmt<W: fmt::Write>(&self, f: &mut fmt::Formatter<W>) -> fmt::Result {
-        let line = self.report.line;
-        match self.report.found {
-            Found::Agree if line == 1 => f.write_str("the one line agrees"),
-            Found::Agree => write!(f, "all {line} lines agree"),
-            Found::Differs => {
-                write!(f, "line {line}: ")?;
-                self.difference(f)
+        let room = self.room;
+        let session = self.session;
+        match self.report {
+            Report::Agree { lines: 1 } => f.write_str("the one line agrees"),
+            Report::Agree { lines } => write!(f, "all {lines} lines agree"),
+            Report::Differs {
+                line,
+                shown,
+                waiting,
+            } => {
+                let answer = answer_of(room, line, shown, waiting);
+                let difference = Difference {
+                    line,
+                    shown,
+                    answer,
+                    session,
+                };
+                write!(f, "{difference}")
             }
-            Found::Broken => match self.session.map(|session| line_at(session, line)) {
+            Report::Broken { line } => match session.map(|session| line_at(session, line)) {
                 None => write!(f, "line {line} is broken"),
                 Some([]) => write!(f, "line {line} is broken: it is empty"),
                 Some(_) => write!(
@@ -172,7 +192,7 @@ impl fmt::Display for Finding<'_> {
                     "line {line} is broken: it begins neither with > nor with <"
                 ),
             },
-            Found::Refused => f.write_str("has too many lines"),
+            Report::Refused => f.write_str("has too many lines"),
         }
     }
 }
