@@ -33,7 +33,7 @@ impl Refusal {
     }
 }
 
-// Gives the number of what `write` gave: 0, or the refusal's.
+// Gives the number of what `write` gave: 0, or the refusal's. `state::number_of` says it of another enum; a trait for the two would be more to read.
 pub fn number_of(written: Result<usize, Refusal>) -> u8
     ensures { result ≡ number_of written }
 {
