@@ -76,11 +76,9 @@ impl Channel {
     {
         match self {
             Channel::First => row,
-            Channel::Second => match row {
-                0..MONITOR => row + Settings::ROWS,
-                Settings::VOLTAGE..BRIGHTNESS => row + (Settings::ROWS - 1),
-                _ => row,
-            },
+            Channel::Second if row < MONITOR => row + Settings::ROWS,
+            Channel::Second if (MONITOR < row) & (row < BRIGHTNESS) => row + (Settings::ROWS - 1),
+            Channel::Second => row,
         }
     }
 }
