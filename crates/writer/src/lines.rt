@@ -282,8 +282,9 @@ impl Draft {
     }
 }
 
-// Writes the lines into the buffer, if it has room for all of them, and gives their length; a refusal leaves it as it was. Number 6 tests both
-// whole records, the settings of the other channel too, though they get no line: a record that breaks a limit anywhere is no box's.
+// Writes the lines into the buffer, if it has room for all of them, and gives their length; a refusal leaves it as it was.
+// Number 6 tests both whole records, the settings of the other channel too, though they get no line: a record that breaks a
+// limit anywhere is no box's.
 pub fn write(
     present: Settings,
     wanted: Settings,

@@ -1,8 +1,5 @@
 -- By the arms, one after the other.
-use native.Mathlib.Omega.{arith}
-use borrow.Author.Tests.{lt-ltb, le-ltb, ltb-true}
-use lib.Dec.{ltb}
-use Rattle.registers.proofs.Tests.{and_both}
+use borrow.Author.Tests.{lt-ltb, le-ltb}
 use Rattle.registers.specs.Text.{if◌then◌otherwise◌}
 use Rattle.interpreter.specs.Rows.{monitor, second_of}
 use Rattle.writer.specs.Lines.{slot_of}
