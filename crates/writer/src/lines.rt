@@ -76,11 +76,9 @@ impl Channel {
     {
         match self {
             Channel::First => row,
-            Channel::Second => match row {
-                0..MONITOR => row + Settings::ROWS,
-                Settings::VOLTAGE..BRIGHTNESS => row + (Settings::ROWS - 1),
-                _ => row,
-            },
+            Channel::Second if row < MONITOR => row + Settings::ROWS,
+            Channel::Second if (MONITOR < row) & (row < BRIGHTNESS) => row + (Settings::ROWS - 1),
+            Channel::Second => row,
         }
     }
 }
@@ -284,8 +282,9 @@ impl Draft {
     }
 }
 
-// Writes the lines into the buffer, if it has room for all of them, and gives their length; a refusal leaves it as it was. Number 6 tests both
-// whole records, the settings of the other channel too, though they get no line: a record that breaks a limit anywhere is no box's.
+// Writes the lines into the buffer, if it has room for all of them, and gives their length; a refusal leaves it as it was.
+// Number 6 tests both whole records, the settings of the other channel too, though they get no line: a record that breaks a
+// limit anywhere is no box's.
 pub fn write(
     present: Settings,
     wanted: Settings,

@@ -23,8 +23,9 @@ pub enum Report {
     Agree {
         lines: usize,
     },
-    // A line differs: `line` is the one that was sent, and `shown` the one at which it shows, the recorded answer, or what stands where one is
-    // missing, or one after the last. The first `waiting` bytes of the room are then the box's answer with its newline; none where it has none.
+    // A line differs: `line` is the one that was sent, and `shown` the one at which it shows: the recorded answer, or what
+    // stands where one is missing, or one after the last. The first `waiting` bytes of the room are then the box's answer with
+    // its newline; none where it has none.
     Differs {
         line: usize,
         shown: usize,

@@ -3,7 +3,7 @@ use mathlib.Core.Path.{◌≡◌, refl, sym, ◌∙◌, ap}
 use mathlib.Core.Bool.{Bool, true, false, not, ◌||◌, false≢true}
 use mathlib.Core.List.{List, [], ◌∷◌, ◌++◌, map}
 use mathlib.Core.Logic.{◌⊎◌, inl, inr}
-use Prim.Native.Nat.{ℕ, zero, suc, pred, ◌≤◌, ◌<◌}
+use Prim.Native.Nat.{ℕ, zero, suc, pred, ◌<◌}
 use denote.Bor.{Bor}
 use Prim.Native.String.{String}
 use native.Mathlib.Omega.{arith}
@@ -23,7 +23,7 @@ use Rattle.registers.proofs.Tests.{and_both, below_at}
 use Rattle.interpreter.proofs.Lists.{get_d_map, same-eq}
 use Rattle.interpreter.specs.Rows.{monitor}
 use Rattle.writer.specs.Lines.{header_for}
-use Rattle.writer.specs.LinesParts.{headers_to, Value, Worded}
+use Rattle.writer.specs.LinesParts.{headers_to, Worded}
 
 -- ---- headers
 

@@ -1,8 +1,7 @@
 -- Number 6 by the channel and by the code's test, else what is copied (lines/Whole).
 use mathlib.Core.Path.{◌≡◌, sym, ◌∙◌}
 use borrow.Author.Rules.{rules}
-use Rattle.std.specs.Prelude.{Ok, Err}
-use Rattle.writer.specs.LinesParts.{named}
+use Rattle.std.specs.Prelude.{Err}
 use Rattle.writer.proofs.lines.Whole.{tested, other-channel, unfit, whole}
 use Rattle.writer.proofs.lines.write.Goals as goal
 

@@ -1,5 +1,5 @@
 -- The rows' lines, and behind them the text's, if it differs.
-use mathlib.Core.Path.{◌≡◌, ◌∙◌, ap}
+use mathlib.Core.Path.{◌≡◌, ap}
 use native.Mathlib.Numerals.{add-one}
 use native.Mathlib.Omega.{arith}
 use lib.IntN.{pos}
@@ -9,7 +9,7 @@ use mir.Syntax.{w32}
 use mir.Val.{SFits}
 use mir.Facts.{to_z-of_z}
 use Rattle.registers.specs.Settings.{table_count}
-use Rattle.writer.specs.Lines.{slot_at, lines_to, line_at}
+use Rattle.writer.specs.Lines.{lines_to}
 use Rattle.writer.specs.LinesParts.{channel_number}
 use Rattle.writer.proofs.Slots.{slot-at-below}
 use Rattle.writer.proofs.lines.Laws.{slot-found, lines-short, lines-alone, lines-label}

@@ -1,9 +1,6 @@
 -- It is laid over the tail (lines/Drafts).
-use mathlib.Core.Path.{◌≡◌}
 use native.Mathlib.Omega.{arith}
 use borrow.Author.Rules.{rules}
-use lib.ListN.{length}
-use Rattle.registers.specs.Label.{most_text}
 use Rattle.writer.proofs.lines.Drafts.{laid-end, laid-view, laid-within}
 use Rattle.writer.proofs.lines.Laws.{quoted-short}
 use Rattle.writer.proofs.lines.Draft.push_quoted.Goals as goal
