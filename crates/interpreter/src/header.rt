@@ -44,7 +44,7 @@ fn read_tail(text: &[u8], at: usize, count: usize) -> Option<Names>
 }
 
 // Reads the names of the header that a text starts with and adds them to the path, or to none where a `:` leads. After a `*`
-// there is one name; others are joined by single colons.
+// there is one name; others are joined by single colons. The loop goes from where one name ends, which only its reading tells.
 fn read_names(table: &Table, path: &mut Path, text: &[u8]) -> Option<Names>
     ensures read { HeaderRead path.old text.now result path.new }
     ensures kept { path.new.used ≡ path.old.used }

@@ -45,7 +45,8 @@ pub enum Refusal {
     WrongStore,
 }
 
-// What a piece leaves: the number of newlines in it.
+// What a piece leaves: the number of newlines in it. It, `Taken` and `Reported` are no one generic struct, so that each names what it
+// tells.
 #[derive(Clone, Copy)]
 pub struct Fed {
     pub count: Result<usize, Refusal>,

@@ -159,7 +159,8 @@ impl Table {
         self.bytes[FIRST_CODE + b as usize] as u64
     }
 
-    // Looks up the first row that can have names with a mark, or ROWS: the second lookup of 02 (#113).
+    // Looks up the first row that can have names with a mark, the second lookup of 02 (#113): it is ROWS where none can, a number
+    // in the packed table, from which the search has no row to try.
     pub(crate) fn start_row(&self, mark: usize) -> usize
         requires { mark < mark_count }
         ensures { result ≡ start_of mark }
