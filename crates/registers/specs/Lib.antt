@@ -15,7 +15,6 @@ pub mod Rounding
 pub mod RoundingParts
 pub mod Label
 pub mod Settings
-pub mod SettingsParts
 pub mod Setup
 pub mod Group
 pub mod Status

@@ -1,10 +1,11 @@
 -- 02, #108: "Saved setups". A block of the lent store holds every setting of both channels (#111), the display's text
 -- among them (#109), and its own check.
-use Rattle.std.specs.Prelude.{Bool, ◌&&◌, List, [], ◌∷◌, ◌++◌, ℕ, zero, suc, ◌+◌, ◌-◌, ◌*◌, ◌/◌, ◌%◌, eqb, leb, length, take, drop, get_or, replicate, ℤ, pos, negsuc, neg_ℤ}
+use Rattle.std.specs.Prelude.{Bool, true, false, ◌&&◌, List, [], ◌∷◌, ◌++◌, ℕ, zero, suc, ◌+◌, ◌-◌, ◌*◌, ◌/◌, ◌%◌, eqb, leb, length, take, drop, get_or, replicate, ℤ, pos, negsuc, neg_ℤ, Result, Ok, Err}
 use Rattle.registers.specs.Text.{Text, if◌then◌otherwise◌}
 use Rattle.registers.specs.Label.{most_text, padded}
 use Rattle.registers.specs.Settings.{count, table_count, at_reset, value_at, possible_settings}
 use Rattle.registers.specs.declared.settings.Settings.{Settings}
+use Rattle.registers.specs.declared.setup.Unfit.{Unfit}
 
 -- "ten blocks of 512 bytes", of which the check is over "the first 508"
 abbrev pub places : ℕ
@@ -106,6 +107,15 @@ recallable b = checks b && possible_settings (settings_in b)
 -- the settings that a block is read as; "a block whose check fails" says nothing, so it is read as what *RST leaves
 unfoldable pub said_in : Text → Settings
 said_in b = if checks b then settings_in b otherwise at_reset
+
+-- what the reading of a block tells: whether *RCL takes it, and the settings that it is read as, taken or not
+abbrev pub takes : Result Settings Unfit → Bool
+takes (Ok s) = true
+takes (Err u) = false
+
+abbrev pub says : Result Settings Unfit → Settings
+says (Ok s) = s
+says (Err u) = u.said
 
 -- ---- the store
 

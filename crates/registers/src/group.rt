@@ -39,7 +39,7 @@ impl Group {
         let changed = self.condition ^ condition;
         let rises = changed & condition & self.ptr;
         let falls = changed & self.condition & self.ntr;
-        self.event = self.event | (rises | falls);
+        self.event |= rises | falls;
         self.condition = condition;
         self
     }
@@ -63,11 +63,9 @@ impl Group {
     pub(crate) fn possible(self) -> bool
         ensures { result ≡ possible_group self }
     {
-        (self.condition <= Group::WIDEST)
-            & (self.event <= Group::WIDEST)
-            & (self.enable <= Group::WIDEST)
-            & (self.ptr <= Group::WIDEST)
-            & (self.ntr <= Group::WIDEST)
+        [self.condition, self.event, self.enable, self.ptr, self.ntr]
+            .iter()
+            .all(|register| *register <= Group::WIDEST)
     }
 }
 
@@ -75,16 +73,12 @@ impl Group {
 pub(crate) fn all_read(groups: [Group; COUNT]) -> [Group; COUNT]
     ensures { result ≡ map event_read groups }
 {
-    [
-        groups[0].read_event(),
-        groups[1].read_event(),
-        groups[2].read_event(),
-    ]
+    groups.map(|group| group.read_event())
 }
 
 // Refusal 4 tests every group.
 pub(crate) fn all_possible(groups: [Group; COUNT]) -> bool
     ensures { result ≡ every possible_group groups }
 {
-    groups[0].possible() & groups[1].possible() & groups[2].possible()
+    groups.iter().all(|group| group.possible())
 }

@@ -1,4 +1,4 @@
-// The lower crate of the bench box: numbers as they are written and answered, the seventeen settings,
+// The lower crate of the bench box: numbers as they are written and answered, the settings of both channels,
 // and the status record with its registers and its error queue.
 //
 // No public function has a `requires`: each says, for any input and any record, what it answers.

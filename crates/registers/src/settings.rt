@@ -1,8 +1,9 @@
 // The settings by their slot: 0 to 16 the rows of 01's table and SYSTem:EXAM after it, 17 to 29 those of
 // channel 2 (02, #111). Bools are 0 and 1, words their place, numbers in steps, the negative peak limit signed
 // tenths.
-ghost use Rattle.std.specs.Prelude.{◌≡◌};
-ghost use Rattle.registers.specs.Settings.{value_at, at_reset, lowest, highest, within, conflict, possible_values, possible_settings, stored, text_stored, kind_of, quantity_of, sort_of, meant_values, accepted};
+ghost use Rattle.std.specs.Prelude.{◌≡◌, ◌&&◌, not, eqb};
+ghost use Rattle.std.specs.Int.Signed.{lt_z};
+ghost use Rattle.registers.specs.Settings.{value_at, at_reset, lowest, highest, within, conflict, possible_values, possible_settings, stored, text_stored, narrow, above, wide_range, twelve_volts, kind_of, quantity_of, sort_of, meant_values, accepted};
 
 use crate::label;
 use crate::label::TEXT;
@@ -46,15 +47,82 @@ pub enum Values {
     Whole,
 }
 
-// Each slot's kind of values: 0 for a bool, 1 for words, 2 for step 0.1, 3 for step 1.
-const KINDS: [u8; SLOTS] = [
-    0, 0, 0, 1, 2, 1, 2, 2, 1, 1, 3, 3, 2, 2, 3, 0, 0, 0, 0, 0, 2, 1, 2, 2, 1, 1, 3, 3, 2, 2,
+// What a row's values are, and what its numbers measure.
+#[derive(Clone, Copy)]
+struct Kind {
+    values: Values,
+    quantity: Quantity,
+}
+
+const SWITCH: Kind = Kind {
+    values: Values::Bool,
+    quantity: Quantity::Nothing,
+};
+
+const WORDS: Kind = Kind {
+    values: Values::Word,
+    quantity: Quantity::Nothing,
+};
+
+const VOLTS: Kind = Kind {
+    values: Values::Tenths,
+    quantity: Quantity::Volt,
+};
+
+const HERTZ: Kind = Kind {
+    values: Values::Tenths,
+    quantity: Quantity::Hertz,
+};
+
+const AMPERES: Kind = Kind {
+    values: Values::Tenths,
+    quantity: Quantity::Ampere,
+};
+
+const SECONDS: Kind = Kind {
+    values: Values::Whole,
+    quantity: Quantity::Second,
+};
+
+const NUMBER: Kind = Kind {
+    values: Values::Whole,
+    quantity: Quantity::Nothing,
+};
+
+// Each slot's kind.
+static KINDS: [Kind; SLOTS] = [
+    SWITCH, SWITCH, SWITCH, WORDS, VOLTS, WORDS, HERTZ, AMPERES, WORDS, WORDS, SECONDS, SECONDS,
+    AMPERES, AMPERES, NUMBER, SWITCH, SWITCH, SWITCH, SWITCH, SWITCH, VOLTS, WORDS, HERTZ, AMPERES,
+    WORDS, WORDS, SECONDS, SECONDS, AMPERES, AMPERES,
 ];
 
-// What each slot's numbers measure: 0 for nothing, 1 for volts, 2 for amperes, 3 for hertz, 4 for seconds.
-const QUANTITIES: [u8; SLOTS] = [
-    0, 0, 0, 0, 1, 0, 3, 2, 0, 0, 4, 4, 2, 2, 0, 0, 0, 0, 0, 0, 1, 0, 3, 2, 0, 0, 4, 4, 2, 2,
-];
+// A channel's voltage and its range, which two rules name together.
+#[derive(Clone, Copy)]
+struct Channel {
+    voltage: usize,
+    range: usize,
+}
+
+impl Channel {
+    const FIRST: Channel = Channel {
+        voltage: Settings::VOLTAGE,
+        range: Settings::RANGE,
+    };
+
+    const SECOND: Channel = Channel {
+        voltage: Settings::VOLTAGE_2,
+        range: Settings::RANGE_2,
+    };
+}
+
+// Gives a slot's kind. One past the last counts as a bool, here and in the readers below, so that each answers for any slot,
+// as specs/Settings does, and no caller needs an Option.
+fn kind_at(slot: usize) -> Kind
+    ensures values { meant_values result.values ≡ sort_of (kind_of slot) }
+    ensures quantity { result.quantity ≡ quantity_of slot }
+{
+    KINDS.get(slot).copied().unwrap_or(SWITCH)
+}
 
 impl Settings {
     // How many rows 01's table and 02 have, how many slots there are, and those that a rule names.
@@ -79,7 +147,8 @@ impl Settings {
     // 12.0 V in steps.
     pub const TWELVE_VOLTS: i32 = 120;
 
-    // Each slot's limits in steps; the voltage's highest is that of range R24V.
+    // Each slot's limits in steps; the voltage's highest is that of range R24V. They stand beside the kinds, as arrays of
+    // signed numbers, since the customer's form has associated limits and the negative peak limit in signed tenths.
     pub const LOWEST: [i32; SLOTS] = [
         0, 0, 0, 0, 0, 0, 400, 1, 0, 0, 1, 1, 5, -80, 0, 0, 0, 0, 0, 0, 0, 0, 400, 1, 0, 0, 1, 1,
         5, -80,
@@ -103,21 +172,11 @@ impl Settings {
         }
     }
 
-    // Tells what a slot's values are; one past the last counts as a bool.
+    // Tells what a slot's values are.
     pub fn values_of(slot: usize) -> Values
         ensures { meant_values result ≡ sort_of (kind_of slot) }
     {
-        if Settings::COUNT <= slot {
-            return Values::Bool;
-        }
-        let kinds = KINDS;
-        let kind = kinds[slot];
-        match kind {
-            0 => Values::Bool,
-            1 => Values::Word,
-            2 => Values::Tenths,
-            _ => Values::Whole,
-        }
+        kind_at(slot).values
     }
 
     // Tells what a slot's numbers measure, and so which suffixes they take; past the table they measure
@@ -125,128 +184,108 @@ impl Settings {
     pub fn quantity_of(slot: usize) -> Quantity
         ensures { result ≡ quantity_of slot }
     {
-        if Settings::COUNT <= slot {
-            return Quantity::Nothing;
-        }
-        let quantities = QUANTITIES;
-        let quantity = quantities[slot];
-        match quantity {
-            0 => Quantity::Nothing,
-            1 => Quantity::Volt,
-            2 => Quantity::Ampere,
-            3 => Quantity::Hertz,
-            _ => Quantity::Second,
-        }
+        kind_at(slot).quantity
     }
 
     // Gives the lowest value of a slot, which MINimum stands for.
     pub fn lowest(slot: usize) -> i32
         ensures { result ≡ lowest slot }
     {
-        if slot < Settings::COUNT {
-            let lows = Settings::LOWEST;
-            return lows[slot];
-        }
-        0
+        Settings::LOWEST.get(slot).copied().unwrap_or(0)
     }
 
     // Gives the highest value of a slot, which MAXimum stands for; a voltage's goes by its channel's range.
     pub fn highest(self, slot: usize) -> i32
         ensures { result ≡ highest self slot }
     {
-        let range = self.values[Settings::RANGE];
-        let other = self.values[Settings::RANGE_2];
-        if ((slot == Settings::VOLTAGE) & (range < 1))
-            | ((slot == Settings::VOLTAGE_2) & (other < 1))
-        {
+        if self.is_narrow(slot) {
             return Settings::TWELVE_VOLTS;
         }
-        if slot < Settings::COUNT {
-            let highs = Settings::HIGHEST;
-            return highs[slot];
-        }
-        1
+        Settings::HIGHEST.get(slot).copied().unwrap_or(1)
+    }
+
+    // Tells whether a slot is a voltage whose own channel's range is R12V.
+    fn is_narrow(self, slot: usize) -> bool
+        ensures { result ≡ narrow self slot }
+    {
+        self.is_narrow_in(slot, Channel::FIRST) || self.is_narrow_in(slot, Channel::SECOND)
+    }
+
+    fn is_narrow_in(self, slot: usize, channel: Channel) -> bool
+        ensures { result ≡ (eqb slot channel.voltage && not (wide_range self channel.range)) }
+    {
+        slot == channel.voltage && self.value(channel.range) < 1
     }
 
     // Gives the value of a slot, 0 past the table.
     pub fn value(self, slot: usize) -> i32
         ensures { result ≡ value_at self slot }
     {
-        let values = self.values;
-        if slot < Settings::COUNT {
-            return values[slot];
-        }
-        0
+        self.values.get(slot).copied().unwrap_or(0)
     }
 
     // Makes check 7's comparison, by which refusal 4 tests a row too.
     fn within(self, slot: usize, value: i32) -> bool
         ensures { result ≡ within self slot value }
     {
-        let low = Settings::lowest(slot);
-        let high = self.highest(slot);
-        (low <= value) & (value <= high)
+        (Settings::lowest(slot)..=self.highest(slot)).contains(&value)
     }
 
     // Exam mode lets no number pass that is off its slot's step (02, #107).
     pub fn accepts(self, side: Side) -> bool
         ensures { result ≡ accepted self side }
     {
-        let exam = self.values[Settings::EXAM];
-        match side {
-            Side::On => true,
-            Side::Below | Side::Above => exam < 1,
-        }
+        matches!(side, Side::On) || self.value(Settings::EXAM) < 1
+    }
+
+    // Tells whether a slot is a range while its own channel's voltage is above 12.0.
+    fn is_above(self, slot: usize) -> bool
+        ensures { result ≡ above self slot }
+    {
+        self.is_above_in(slot, Channel::FIRST) || self.is_above_in(slot, Channel::SECOND)
+    }
+
+    fn is_above_in(self, slot: usize, channel: Channel) -> bool
+        ensures { result ≡ (eqb slot channel.range && lt_z twelve_volts (value_at self channel.voltage)) }
+    {
+        slot == channel.range && Settings::TWELVE_VOLTS < self.value(channel.voltage)
     }
 
     // Check 8 refuses R12V while the channel's voltage is above 12.0.
     pub fn conflicts(self, slot: usize, value: i32) -> bool
         ensures { result ≡ conflict self slot value }
     {
-        let volts = self.values[Settings::VOLTAGE];
-        let other = self.values[Settings::VOLTAGE_2];
-        (value <= 0)
-            & (((slot == Settings::RANGE) & (Settings::TWELVE_VOLTS < volts))
-                | ((slot == Settings::RANGE_2) & (Settings::TWELVE_VOLTS < other)))
+        self.is_above(slot) && value <= 0
     }
 
     // Stores a slot's value where checks 7 and 8 let it pass, so that no caller can break the limits.
     pub fn store(mut self, slot: usize, value: i32) -> Settings
         ensures { result ≡ stored slot value self }
     {
-        if slot < Settings::COUNT {
-            if self.within(slot, value) {
-                if !self.conflicts(slot, value) {
-                    self.values[slot] = value;
-                }
-            }
+        if slot < Settings::COUNT && self.within(slot, value) && !self.conflicts(slot, value) {
+            self.values[slot] = value;
         }
         self
     }
 
     // Stores a text as the record holds it, where its limits let it pass, so that no caller can break them.
-    pub fn store_text(self, text: [u8; TEXT]) -> Settings
+    pub fn store_text(mut self, text: [u8; TEXT]) -> Settings
         ensures { result ≡ text_stored text self }
     {
-        if !label::possible(&text) {
-            return self;
+        if label::possible(&text) {
+            self.text = text;
         }
-        let values = self.values;
-        Settings { values, text }
+        self
     }
 
     // Refusal 4 lets no value pass that is outside its limits.
     fn values_possible(self) -> bool
         ensures { result ≡ possible_values self }
     {
-        let values = self.values;
-        let mut slot: usize = 0;
-        while slot < Settings::COUNT {
-            let value = values[slot];
-            if !self.within(slot, value) {
+        for slot in 0..Settings::COUNT {
+            if !self.within(slot, self.value(slot)) {
                 return false;
             }
-            slot += 1;
         }
         true
     }
@@ -255,7 +294,6 @@ impl Settings {
     pub fn possible(self) -> bool
         ensures { result ≡ possible_settings self }
     {
-        let text = self.text;
-        self.values_possible() & label::possible(&text)
+        self.values_possible() && label::possible(&self.text)
     }
 }

@@ -2,9 +2,8 @@
 ghost use Rattle.std.specs.Prelude.{◌≡◌, true, ℕ, ◌+◌, ◌*◌, ◌≤◌, ◌<◌, length, take, drop};
 ghost use Rattle.registers.specs.Label.{most_text};
 ghost use Rattle.registers.specs.Settings.{count};
-ghost use Rattle.registers.specs.Setup.{block_size, checked_size, weighted, low_first, checks, shifted, unshifted, block_of, value_in, read_in, settings_in, said_in, recallable};
+ghost use Rattle.registers.specs.Setup.{block_size, checked_size, weighted, low_first, checks, shifted, unshifted, block_of, value_in, read_in, settings_in, said_in, recallable, takes, says};
 
-use crate::answer;
 use crate::label::TEXT;
 use crate::settings::Settings;
 
@@ -20,43 +19,22 @@ const MARKED: usize = 2;
 
 const TEXT_AT: usize = 62;
 
-// What a block says: whether *RCL takes it, and its settings.
+// A block that *RCL does not take, and the settings that it is read as all the same.
 #[derive(Clone, Copy)]
-pub struct Recalled {
-    pub good: bool,
-    pub settings: Settings,
-}
-
-fn wide(x: u8) -> u32
-    ensures value { result ≡ x }
-    ensures upper_bound { result ≤ 255 }
-{
-    x as u32
+pub struct Unfit {
+    pub said: Settings,
 }
 
 // Sums the bytes of a text, each times its place, counted from 1.
 fn weigh(text: &[u8]) -> u32
     requires { length text.now ≤ checked_size }
-    ensures value { result ≡ weighted 1 text.now }
-    ensures upper_bound { result ≤ 129540 * checked_size }
+    ensures { result ≡ weighted 1 text.now }
 {
     let mut sum: u32 = 0;
-    let mut i: usize = 0;
-    while i < text.len() {
-        let weight = i as u32 + 1;
-        sum += weight * wide(text[i]);
-        i += 1;
+    for (i, byte) in text.iter().enumerate() {
+        sum += (i as u32 + 1) * u32::from(*byte);
     }
     sum
-}
-
-// Reads four bytes as a number, low byte first.
-fn four(text: &[u8]) -> u32
-    requires { length text.now ≡ 4 }
-    ensures { result ≡ low_first text.now }
-{
-    let low = wide(text[0]) + wide(text[1]) * 256;
-    low + wide(text[2]) * 65536 + wide(text[3]) * 16777216
 }
 
 // Tells whether a block's check holds.
@@ -66,52 +44,33 @@ fn holds(block: &[u8]) -> bool
     if block.len() != BLOCK {
         return false;
     }
-    weigh(&block[0..CHECKED]) == four(&block[CHECKED..BLOCK])
+    let Some((contents, sum)) = block.split_last_chunk::<4>() else {
+        return false;
+    };
+    weigh(contents) == u32::from_le_bytes(*sum)
 }
 
 // Gives a value as a block holds it, 256 more; what is below -256 is held as 0.
 fn shift(value: i32) -> u32
     ensures { result ≡ shifted value }
 {
-    if value < 0 {
-        let size = (0 - (value as i64)) as u32;
-        if size <= 256 {
-            return 256 - size;
-        }
-        return 0;
-    }
-    value as u32 + 256
+    u32::try_from(i64::from(value) + 256).unwrap_or(0)
 }
 
 // Gives the value that a block holds so.
-fn unshift(n: u32) -> i32
-    requires { n < 65536 }
+fn unshift(n: u16) -> i32
     ensures { result ≡ unshifted n }
 {
-    if 256 <= n {
-        return (n - 256) as i32;
-    }
-    0 - (256 - n) as i32
+    i32::from(n) - 256
 }
 
 // Reads the value of a row from its two bytes.
 fn value_in(block: &[u8], row: usize) -> i32
-    requires { (row < count) × (row * 2 + 1 < length block.now) }
-    ensures value { result ≡ value_in block.now row }
-    ensures by_index { (n : ℕ) × (n < 65536) × (result ≡ unshifted n) }
+    requires { row * 2 + 1 < length block.now }
+    ensures { result ≡ value_in block.now row }
 {
     let at = row * 2;
-    unshift(wide(block[at]) + wide(block[at + 1]) * 256)
-}
-
-// Reads the text from its place on, as the record of the settings holds it.
-fn text_in(block: &[u8], at: usize) -> [u8; TEXT]
-    requires { (at ≤ 2 * count) × (at + most_text ≤ length block.now) }
-    ensures { result ≡ take most_text (drop at block.now) }
-{
-    let mut text = [0u8; TEXT];
-    answer::text_at(&block[at..at + TEXT], &mut text, 0);
-    text
+    unshift(u16::from_le_bytes([block[at], block[at + 1]]))
 }
 
 // Reads so many values and the text behind them; the slots after them are as *RST leaves them.
@@ -120,12 +79,11 @@ fn read(body: &[u8], rows: usize) -> Settings
     ensures { result ≡ read_in rows body.now }
 {
     let mut settings = Settings::reset();
-    let mut row: usize = 0;
-    while row < rows {
+    for row in 0..rows {
         settings.values[row] = value_in(body, row);
-        row += 1;
     }
-    settings.text = text_in(body, rows * 2);
+    let at = rows * 2;
+    settings.text.copy_from_slice(&body[at..at + TEXT]);
     settings
 }
 
@@ -134,28 +92,27 @@ fn settings_in(block: &[u8]) -> Settings
     requires { length block.now ≡ block_size }
     ensures { result ≡ settings_in block.now }
 {
-    if (block[0] == MARK) & (block[1] == MARK) {
+    if block.starts_with(&[MARK; MARKED]) {
         return read(&block[MARKED..BLOCK], Settings::COUNT);
     }
     read(block, Settings::ROWS)
 }
 
-// Reads every setting of a block, and tells whether its check holds and each is within its limits. A block whose check fails is
+// Reads every setting of a block whose check holds and whose settings are within their limits. A block whose check fails is
 // read as what *RST leaves.
-pub fn recall(block: &[u8]) -> Recalled
-    ensures good_value { result.good ≡ recallable block.now }
-    ensures settings_value { result.settings ≡ said_in block.now }
+pub fn recall(block: &[u8]) -> Result<Settings, Unfit>
+    ensures good_value { takes result ≡ recallable block.now }
+    ensures settings_value { says result ≡ said_in block.now }
 {
     if !holds(block) {
-        return Recalled {
-            good: false,
-            settings: Settings::reset(),
-        };
+        let said = Settings::reset();
+        return Err(Unfit { said });
     }
-    let settings = settings_in(block);
-    Recalled {
-        good: settings.possible(),
-        settings,
+    let said = settings_in(block);
+    if said.possible() {
+        Ok(said)
+    } else {
+        Err(Unfit { said })
     }
 }
 
@@ -163,24 +120,17 @@ pub fn recall(block: &[u8]) -> Recalled
 pub fn block_of(settings: Settings) -> [u8; BLOCK]
     ensures { result ≡ block_of settings }
 {
-    let values = settings.values;
-    let text = settings.text;
     let mut block = [0u8; BLOCK];
     block[0] = MARK;
     block[1] = MARK;
-    let mut row: usize = 0;
-    while row < Settings::COUNT {
-        let n = shift(values[row]);
+    for (row, value) in settings.values.iter().enumerate() {
+        let [low, high, _, _] = shift(*value).to_le_bytes();
         let at = row * 2 + MARKED;
-        block[at] = (n % 256) as u8;
-        block[at + 1] = (n / 256 % 256) as u8;
-        row += 1;
+        block[at] = low;
+        block[at + 1] = high;
     }
-    answer::text_at(&text, &mut block, TEXT_AT);
-    let sum = weigh(&block[0..CHECKED]);
-    block[CHECKED] = (sum % 256) as u8;
-    block[CHECKED + 1] = (sum / 256 % 256) as u8;
-    block[CHECKED + 2] = (sum / 256 / 256 % 256) as u8;
-    block[CHECKED + 3] = (sum / 256 / 256 / 256 % 256) as u8;
+    block[TEXT_AT..TEXT_AT + TEXT].copy_from_slice(&settings.text);
+    let sum = weigh(&block[..CHECKED]);
+    block[CHECKED..].copy_from_slice(&sum.to_le_bytes());
     block
 }

@@ -4,12 +4,13 @@ ghost use Rattle.std.specs.Int.Bits.{bit_or};
 ghost use Rattle.registers.specs.Text.{first};
 ghost use Rattle.registers.specs.Error.{number_of};
 ghost use Rattle.registers.specs.Group.{group_count};
-ghost use Rattle.registers.specs.Status.{locked, place_of, group_in, set_read, set_bits, registers_of, trouble_of, with_registers, raised_in, cleared_in, events_in, oldest_read_in, reported_in, register_set, register_in, widest, status_byte, possible_status, at_start, weight_if};
+ghost use Rattle.registers.specs.Status.{locked, place_of, group_in, with_group, set_read, set_bits, registers_of, trouble_of, with_registers, raised_in, cleared_in, events_in, oldest_read_in, reported_in, register_set, register_in, widest, status_byte, possible_status, at_start, weight_if};
 
 use crate::error::Error;
 use crate::group::Group;
 use crate::{error, group, queue};
 
+// The customer's form: sixteen numbers and how many of them wait, and the three groups by value.
 #[derive(Clone, Copy)]
 pub struct Status {
     pub events: u16,
@@ -20,7 +21,7 @@ pub struct Status {
     pub errors: [u16; Status::MOST],
 }
 
-// The register sets STATus:OPERation, STATus:LOCK and STATus:WARNing.
+// The register sets STATus:OPERation, STATus:LOCK and STATus:WARNing, in the order of their groups.
 #[derive(Clone, Copy)]
 pub enum RegisterSet {
     Operation,
@@ -39,14 +40,14 @@ pub enum Register {
 }
 
 // Bit 6, the summary of the status byte, which *SRE never has.
-const SUMMARY: u16 = 64;
+const SUMMARY: u8 = 64;
 
 // Gives a bit's weight where the bit is on; a function, so that each sum of bits has a bound.
 fn bit_if(on: bool, weight: u8) -> u8
     ensures value { result ≡ weight_if on weight }
     ensures upper_bound { result ≤ weight }
 {
-    if on { weight } else { 0 }
+    u8::from(on) * weight
 }
 
 impl RegisterSet {
@@ -57,11 +58,7 @@ impl RegisterSet {
         ensures value { result ≡ place_of self }
         ensures upper_bound { result < group_count }
     {
-        match self {
-            RegisterSet::Operation => 0,
-            RegisterSet::Lock => 1,
-            RegisterSet::Warning => 2,
-        }
+        self as usize
     }
 }
 
@@ -71,11 +68,8 @@ impl Register {
         ensures { result ≡ widest self }
     {
         match self {
-            Register::Ese => Status::WIDEST,
-            Register::Sre => Status::WIDEST,
-            Register::Enable(_) => Group::WIDEST,
-            Register::Ntr(_) => Group::WIDEST,
-            Register::Ptr(_) => Group::WIDEST,
+            Register::Ese | Register::Sre => Status::WIDEST,
+            Register::Enable(_) | Register::Ntr(_) | Register::Ptr(_) => Group::WIDEST,
         }
     }
 }
@@ -110,13 +104,13 @@ impl Status {
     {
         let number = error.number();
         let at = self.queued;
-        self.events = self.events | error::event_bit(number);
+        self.events |= error::event_bit(number);
         if at < Status::MOST {
             self.errors[at] = number;
             self.queued = at + 1;
         } else {
             self.errors[queue::LAST] = Status::OVERFLOW;
-            self.events = self.events | error::event_bit(Status::OVERFLOW);
+            self.events |= error::event_bit(Status::OVERFLOW);
         }
         self
     }
@@ -125,9 +119,7 @@ impl Status {
     pub fn clear(mut self) -> Status
         ensures { result ≡ cleared_in self }
     {
-        let groups = self.groups;
-        let read = group::all_read(groups);
-        self.groups = read;
+        self.groups = group::all_read(self.groups);
         self.events = 0;
         self.queued = 0;
         self
@@ -137,7 +129,7 @@ impl Status {
     pub fn complete(mut self) -> Status
         ensures { result ≡ events_in (bit_or self.events 1) self }
     {
-        self.events = self.events | 1;
+        self.events |= 1;
         self
     }
 
@@ -153,9 +145,8 @@ impl Status {
     pub fn read_event(mut self, set: RegisterSet) -> Status
         ensures { result ≡ with_registers (set_read set (registers_of self)) self }
     {
-        let i = set.place();
         let group = self.group(set).read_event();
-        self.groups[i] = group;
+        self.put(set, group);
         self
     }
 
@@ -163,9 +154,14 @@ impl Status {
     pub fn group(self, set: RegisterSet) -> Group
         ensures { result ≡ group_in set (registers_of self) }
     {
-        let i = set.place();
-        let groups = self.groups;
-        groups[i]
+        self.groups[set.place()]
+    }
+
+    // Puts other registers in the place of a set's.
+    fn put(&mut self, set: RegisterSet, group: Group)
+        ensures { self.new ≡ with_registers (with_group set group (registers_of self.old)) self.old }
+    {
+        self.groups[set.place()] = group;
     }
 
     // The lock holds while a bit of its condition register is 1.
@@ -179,25 +175,20 @@ impl Status {
     pub fn oldest(self) -> u16
         ensures { result ≡ first (trouble_of self).queue }
     {
-        let errors = self.errors;
         if self.queued == 0 {
             return 0;
         }
-        errors[0]
+        self.errors[0]
     }
 
     // Removes the oldest error, once it is answered.
     pub fn read_oldest(mut self) -> Status
         ensures { result ≡ oldest_read_in self }
     {
-        let count = self.queued;
-        if count == 0 {
-            return self;
+        if self.queued > 0 {
+            self.errors = queue::shifted(self.errors);
+            self.queued -= 1;
         }
-        let errors = self.errors;
-        let left = queue::shifted(errors);
-        self.errors = left;
-        self.queued = count - 1;
         self
     }
 
@@ -205,12 +196,10 @@ impl Status {
     pub fn report(mut self, set: RegisterSet, condition: u16) -> Status
         ensures { result ≡ reported_in set condition self }
     {
-        if Group::WIDEST < condition {
-            return self;
+        if condition <= Group::WIDEST {
+            let group = self.group(set).report(condition);
+            self.put(set, group);
         }
-        let i = set.place();
-        let group = self.group(set).report(condition);
-        self.groups[i] = group;
         self
     }
 
@@ -235,30 +224,13 @@ impl Status {
             return self;
         }
         match register {
-            Register::Ese => {
-                self.ese = value;
-                return self;
-            }
-            Register::Sre => {
-                self.sre = value - (value & SUMMARY);
-                return self;
-            }
-            Register::Enable(set) => {
-                let i = set.place();
-                self.groups[i].enable = value;
-                return self;
-            }
-            Register::Ntr(set) => {
-                let i = set.place();
-                self.groups[i].ntr = value;
-                return self;
-            }
-            Register::Ptr(set) => {
-                let i = set.place();
-                self.groups[i].ptr = value;
-                return self;
-            }
+            Register::Ese => self.ese = value,
+            Register::Sre => self.sre = value & !u16::from(SUMMARY),
+            Register::Enable(set) => self.groups[set.place()].enable = value,
+            Register::Ntr(set) => self.groups[set.place()].ntr = value,
+            Register::Ptr(set) => self.groups[set.place()].ptr = value,
         }
+        self
     }
 
     // Adds up the sets' bits of the status byte: OPERation's is bit 7, LOCK's bit 0, WARNing's bit 1.
@@ -280,22 +252,22 @@ impl Status {
         let answer = bit_if(answers, 16);
         let queue = bit_if(self.queued != 0, 4);
         let summary = sets + standard + answer + queue;
-        summary + bit_if(summary as u16 & self.sre != 0, SUMMARY as u8)
+        summary + bit_if(u16::from(summary) & self.sre != 0, SUMMARY)
     }
 
     // Refusal 4 tests the queue's length first: only so many numbers are looked at.
     pub fn possible(self) -> bool
         ensures { result ≡ possible_status self }
     {
-        let count = self.queued;
-        if Status::MOST < count {
+        let waiting = self.queued;
+        if Status::MOST < waiting {
             return false;
         }
-        let enables = (self.ese <= Status::WIDEST) & (self.sre <= Status::WIDEST);
-        let registers = enables & (self.sre & SUMMARY == 0);
-        let errors = self.errors;
-        let groups = self.groups;
-        let trouble = (self.events <= Status::WIDEST) & queue::may_all_be_queued(errors, count);
-        registers & group::all_possible(groups) & trouble
+        let enables = (self.ese <= Status::WIDEST)
+            & (self.sre <= Status::WIDEST)
+            & (self.sre & u16::from(SUMMARY) == 0);
+        let trouble = (self.events <= Status::WIDEST)
+            & queue::may_all_be_queued(self.errors, waiting);
+        enables & group::all_possible(self.groups) & trouble
     }
 }

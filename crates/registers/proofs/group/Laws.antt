@@ -1,17 +1,14 @@
--- Laws of a register group: the transition rule, bit by bit, and no register ever above its width; and of the three groups as one list.
-use mathlib.Core.Path.{◌≡◌, refl, sym, ap}
-use mathlib.Core.Bool.{Bool, true, false, not, ◌&&◌, ◌||◌}
-use mathlib.Core.List.{List, [], ◌∷◌, map}
+-- Laws of a register group: the transition rule, bit by bit, and no register ever above its width.
+use mathlib.Core.Path.{◌≡◌, refl}
+use mathlib.Core.Bool.{Bool, true, not, ◌&&◌, ◌||◌}
 use Prim.Native.Nat.{ℕ, zero, suc, ◌-◌, ◌/◌, ◌%◌, ◌^◌, min, max, ◌≤◌, ◌<◌}
 use native.Mathlib.Omega.{arith}
 use native.Mathlib.Nat.{le_trans}
 use lib.Pow.{pow_pos}
 use lib.Dec.{eqb, leb}
-use lib.ListN.{length, get_or}
 use lib.Bits.{bit_and, bit_or, bit_xor, differ, or_lt, and_le_r, and_shr, or_shr, xor_shr, and_step, or_step, xor_step}
 use borrow.Author.Tests.{le-leb, leb-true}
-use Rattle.registers.specs.Text.{every}
-use Rattle.registers.specs.Group.{rises, falls, events_after, condition_is, event_read, possible_group, widest_group, group_count, no_group}
+use Rattle.registers.specs.Group.{rises, falls, events_after, condition_is, event_read, possible_group, widest_group}
 use Rattle.registers.specs.declared.group.Group.{Group}
 use Rattle.registers.proofs.Tests.{and_both}
 
@@ -142,31 +139,3 @@ module _ (g : Group) (w : Widths g) where
   pub read-widths : Widths (event_read g)
   unfolding event_read
   read-widths = record { condition = w.condition; event = omega arith; enable = w.enable; ptr = w.ptr; ntr = w.ntr }
-
--- ---- the three groups
-
--- the three by their places
-pub three : (l : List Group) → length l ≡ group_count → l ≡ get_or l 0 no_group ∷ get_or l 1 no_group ∷ get_or l 2 no_group ∷ []
-three [] e = absurd (omega arith)
-three (a ∷ []) e = absurd (omega arith)
-three (a ∷ b ∷ []) e = absurd (omega arith)
-three (a ∷ b ∷ c ∷ []) e = refl
-three (a ∷ b ∷ c ∷ d ∷ l) e = absurd (omega arith)
-
-pub three-read : (l : List Group) → length l ≡ group_count
-    → event_read (get_or l 0 no_group) ∷ event_read (get_or l 1 no_group) ∷ event_read (get_or l 2 no_group) ∷ [] ≡ map event_read l
-three-read l e = sym (ap (map event_read) (three l e))
-
-pub three-possible : (l : List Group) → length l ≡ group_count
-    → (possible_group (get_or l 0 no_group) && possible_group (get_or l 1 no_group) && possible_group (get_or l 2 no_group)) ≡ every possible_group l
-three-possible [] e = absurd (omega arith)
-three-possible (a ∷ []) e = absurd (omega arith)
-three-possible (a ∷ b ∷ []) e = absurd (omega arith)
-three-possible (a ∷ b ∷ c ∷ []) e = shape (possible_group a) (possible_group b) (possible_group c)
-  where
-    shape : (a b c : Bool) → (a && b && c) ≡ (a && (b && (c && true)))
-    shape true true true = refl
-    shape true true false = refl
-    shape true false c = refl
-    shape false b c = refl
-three-possible (a ∷ b ∷ c ∷ d ∷ l) e = absurd (omega arith)

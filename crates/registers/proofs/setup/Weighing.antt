@@ -9,19 +9,17 @@ use lib.Seq.{drop-cons}
 use mathlib.Core.Bool.{false}
 use lib.Dec.{eqb}
 use lib.ListN.{take}
-use lib.Seq.{take_all}
 use lib.ListN.{length-drop}
 use borrow.Author.Tests.{eq-eqb, ne_eqb}
 use Rattle.registers.specs.Setup.{block_size, weighted, low_first, checks}
 use Rattle.registers.proofs.setup.Laws.{term}
 
 pub record Weighing (l : List ℕ) (sum i : ℕ) : Type 0 where
-  pub within : i ≤ length l
   pub small : sum ≤ 129540 * i
   pub is : sum + weighted (suc i) (drop i l) ≡ weighted 1 l
 
 pub weigh-start : (l : List ℕ) → Weighing l 0 0
-weigh-start l = record { within = zero-le; small = zero-le; is = omega arith }
+weigh-start l = record { small = zero-le; is = omega arith }
 
 module _ (l : List ℕ) (sum i b : ℕ) (w : Weighing l sum i) where
   pub weigh-on : i < length l → length l ≤ 508 → b ≡ get_or l i 0 → b ≤ 255 → Weighing l (sum + (i + 1) * b) (i + 1)
@@ -30,7 +28,7 @@ module _ (l : List ℕ) (sum i b : ℕ) (w : Weighing l sum i) where
       let t : (i + 1) * b ≤ 129540 = term (i + 1) b (omega arith) k in
       let s = w.small in
       let m : sum + (suc i * get_or l i 0 + weighted (suc (suc i)) (drop (suc i) l)) ≡ weighted 1 l = rw (drop-cons l i 0 h) at w.is in
-      record { within = omega arith; small = omega arith; is = rw (e, add-one i) (omega (arith, m)) }
+      record { small = omega arith; is = rw (e, add-one i) (omega (arith, m)) }
 
   pub weigh-end : length l ≤ i → sum ≡ weighted 1 l
   unfolding weighted
@@ -49,9 +47,11 @@ pub short-fails : (b : List ℕ) → (length b ≡ block_size → ⊥) → false
 unfolding checks
 short-fails b h = rw (ne_eqb (length b) 512 h)
 
-pub check-is : (b : List ℕ) (x y : ℕ) → length b ≡ 512 → x ≡ weighted 1 (take (508 - 0) (drop 0 b)) → y ≡ low_first (take (512 - 508) (drop 508 b)) → eqb x y ≡ checks b
+pub check-is : (b contents sum : List ℕ) (x y : ℕ) → length b ≡ 512 → contents ≡ take (length b - 4) b → sum ≡ drop (length b - 4) b → x ≡ weighted 1 contents
+    → y ≡ get_or sum 0 0 + get_or sum 1 0 * 256 + get_or sum 2 0 * 65536 + get_or sum 3 0 * 16777216 → eqb x y ≡ checks b
 unfolding checks
-check-is b x y h e f =
-    let all : take 4 (drop 508 b) ≡ drop 508 b = take_all 4 (drop 508 b) (rw length-drop (omega arith)) in
-    let g : y ≡ low_first (drop 508 b) = f ∙ ap low_first all in
-    rw (eq-eqb (length b) 512 h, e, g)
+check-is b contents sum x y h c s e f =
+    let n : length b - 4 ≡ 508 = omega arith in
+    let last : sum ≡ drop 508 b = s ∙ ap (λ (k : ℕ). drop k b) n in
+    let four : length sum ≡ 4 = rw (last, length-drop) (omega arith) in
+    rw (eq-eqb (length b) 512 h, e, c, n, ← last, four_is sum four, f)

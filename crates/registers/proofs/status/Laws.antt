@@ -3,15 +3,13 @@
 use mathlib.Core.Path.{◌≡◌, refl}
 use mathlib.Core.Bool.{Bool, true, false, not, ◌&&◌}
 use mathlib.Core.List.{List, [], ◌∷◌, ◌++◌}
-use Prim.Native.Nat.{ℕ, zero, suc, ◌+◌, ◌-◌, ◌*◌, ◌^◌, ◌≤◌, ◌<◌}
+use Prim.Native.Nat.{ℕ, zero, suc, ◌+◌, ◌-◌, ◌^◌, ◌≤◌, ◌<◌}
 use native.Mathlib.Omega.{arith}
-use lib.Bits.{bit_or}
+use lib.Bits.{bit_or, bit_and}
 use lib.Dec.{leb, eqb}
 use lib.ListN.{length, take, drop, get_or, set}
-use mir.Syntax.{w64}
-use mir.Val.{Fits}
-use borrow.Author.Tests.{lt-ltb, le-ltb, le-leb, lt-leb, eq-eqb, ne_eqb}
-use Rattle.registers.specs.Text.{if◌then◌otherwise◌, first, every}
+use borrow.Author.Tests.{lt-ltb, le-ltb, le-leb, lt-leb, eq-eqb, ne_eqb, eqb-true}
+use Rattle.registers.specs.Text.{if◌then◌otherwise◌, first, every, below}
 use Rattle.registers.specs.Error.{event_bit, overflow}
 use Rattle.registers.specs.Queue.{may_be_queued, most, last_place}
 use Rattle.registers.specs.Group.{meet, widest_group}
@@ -20,16 +18,9 @@ use Rattle.registers.specs.declared.status.Register.{Register}
 use Rattle.registers.specs.declared.status.RegisterSet.{RegisterSet}
 use Rattle.registers.specs.declared.status.RegisterSet.TheVariants.{Operation, Lock, Warning}
 use Rattle.registers.specs.declared.status.Status.{Status}
-use Rattle.registers.proofs.Tests.{front-empty, front-within}
+use Rattle.registers.proofs.Tests.{front-empty, front-within, below_at}
 
 -- ---- an error raised, by the room in the queue
-
-module _ {n : ℕ} (h : n < most) where
-  pub place-fits : Fits w64 (n * 2)
-  place-fits = omega arith
-
-  pub next_fits : Fits w64 (n + 1)
-  next_fits = omega arith
 
 module _ (n : ℕ) (s : Status) where
   pub raised-more : s.queued < most
@@ -76,6 +67,21 @@ module _ (s : Status) (n : ℕ) where
   pub set-no : (x : Register) → widest x < n → register_set x n s ≡ s
   unfolding register_set if◌then◌otherwise◌
   set-no x h = rw (lt-leb n (widest x) h)
+
+-- by a width that is known
+module _ (s : Status) (n : ℕ) (x : Register) (w : ℕ) (e : w ≡ widest x) where
+  pub set-within : n ≤ w → register_set x n s ≡ with_registers (stored_in x n (registers_of s)) s
+  set-within h = set-yes s n x (rw e at h)
+
+  pub set-above : w < n → register_set x n s ≡ s
+  set-above h = set-no s n x (rw e at h)
+
+-- bit 6 taken out of a byte, by a mask and by a difference
+each-cleared : below 256 (λ n. eqb (bit_and n 65471) (n - bit_and n 64)) ≡ true
+each-cleared = refl
+
+pub bit6-cleared : (n : ℕ) → n < 256 → bit_and n (65535 - 64) ≡ n - bit_and n 64
+bit6-cleared n h = eqb-true _ _ (below_at 256 (λ k. eqb (bit_and k 65471) (k - bit_and k 64)) each-cleared n h)
 
 -- ---- the status byte
 

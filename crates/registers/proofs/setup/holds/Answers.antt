@@ -1,4 +1,3 @@
-use native.Mathlib.Omega.{arith}
 use Rattle.registers.proofs.setup.Weighing.{short-fails, check-is}
 use Rattle.registers.proofs.setup.holds.Goals as goal
 
@@ -6,4 +5,6 @@ pub returns-then-block-ne-BLOCK : goal.returns-then-block-ne-BLOCK
 returns-then-block-ne-BLOCK c = short-fails _ c.if-block-ne-BLOCK.true
 
 pub returns : goal.returns
-returns c = check-is _ _ _ (omega arith) c.weigh.ensures.value c.four.ensures
+returns c =
+    let split = c.in-Some.ensures.cases in
+    check-is _ c.in-Some.contents.now c.in-Some.sum.now _ _ c.if-block-ne-BLOCK.false split.0 split.1 c.weigh.ensures c.from_le_bytes.ensures

@@ -1,11 +1,16 @@
-use borrow.Author.Rules.{rules}
+use mathlib.Core.Path.{◌≡◌}
+use mathlib.Core.Bool.{Bool, true, false}
+use Prim.Native.Nat.{ℕ, ◌*◌}
+use native.Mathlib.Omega.{arith}
+use mir.Val.{bool_byte}
 use Rattle.registers.specs.Text.{if◌then◌otherwise◌}
+use Rattle.registers.specs.Status.{weight_if}
 use Rattle.registers.proofs.status.bit_if.Goals as goal
 
-pub returns-then-on : goal.returns-then-on
+times : (on : Bool) (weight : ℕ) → bool_byte on * weight ≡ weight_if on weight
 unfolding if◌then◌otherwise◌
-returns-then-on c = record { value = rw c.if-on.true; upper_bound = search rules }
+times true weight = omega arith
+times false weight = omega arith
 
-pub returns-else-on : goal.returns-else-on
-unfolding if◌then◌otherwise◌
-returns-else-on c = record { value = rw c.if-on.false; upper_bound = search rules }
+pub returns-clause-value : goal.returns-clause-value
+returns-clause-value c = rw c.from.ensures (times c.args.on c.args.weight)

@@ -1,29 +1,33 @@
-use mathlib.Core.Path.{◌≡◌, ◌∙◌}
-use mathlib.Core.Bool.{not}
-use mathlib.Core.Logic.{◌⊎◌, inl, inr}
-use lib.ListN.{get_or}
+use mathlib.Core.Path.{◌≡◌, refl, sym, ◌∙◌}
+use mathlib.Core.Bool.{not, false≢true}
 use lib.IntN.{pos}
 use mir.Syntax.{w32}
 use mir.Facts.{to_z-of_z}
-use Rattle.registers.specs.Settings.{exam, examined, accepted}
+use borrow.Author.Rules.{rules}
+use Rattle.registers.specs.Settings.{accepted, examined, exam, value_at}
 use Rattle.registers.specs.declared.rounding.Side.{Side}
-use Rattle.registers.specs.declared.rounding.Side.TheVariants.{Below, Above}
+use Rattle.registers.specs.declared.rounding.Side.TheVariants.{On, Below, Above}
 use Rattle.registers.specs.declared.settings.Settings.{Settings}
 use Rattle.registers.proofs.Tests.{lt_z-not}
+use Rattle.registers.proofs.settings.Settings.accepts.Goals.{in-On, in_default}
 use Rattle.registers.proofs.settings.Settings.accepts.Goals as goal
 
-off-step : (s : Settings) (x : Side) → (x ≡ Below) ⊎ (x ≡ Above) → not (examined s) ≡ accepted s x
+-- Off its step a number passes where exam mode is off.
+unmatched : (s : Settings) (x : Side) → (x ≡ On → ⊥) → not (examined s) ≡ accepted s x
 unfolding accepted
-off-step s x (inl e) = rw e
-off-step s x (inr e) = rw e
+unmatched s On other = absurd (other refl)
+unmatched s Below other = refl
+unmatched s Above other = refl
 
-pub returns-in-On : goal.returns-in-On
+pub returns-then-matches : goal.returns-then-matches
 unfolding accepted
-returns-in-On c = rw c.in-On.is
+returns-then-matches c = elim c.match-matches.branch [ in-On w ↦ rw (w.matches-is, w.in-On.is) | in_default w ↦ absurd (false≢true (sym w.matches-is ∙ c.if-matches.true)) ]
 
-pub returns-in-Below : goal.returns-in-Below
+pub returns-else-matches : goal.returns-else-matches
 unfolding examined
-returns-in-Below c =
-    let s = c.args.self in
-    rw (to_z-of_z {w = w32} {z = get_or s.values exam (pos 0)} (record { sfits = c.exam-1.given }))
-    (lt_z-not (get_or s.values exam (pos 0)) (pos 1) ∙ off-step s c.args.side c.in-Below.is)
+returns-else-matches c =
+    let back = to_z-of_z {w = w32} {z = c.value.result} (search rules) in
+    elim c.match-matches.branch [
+      | in-On w ↦ absurd (false≢true (sym c.if-matches.false ∙ w.matches-is))
+      | in_default w ↦ rw (back, c.value.ensures) (lt_z-not (value_at c.args.self exam) (pos 1) ∙ unmatched c.args.self c.args.side w.in_default.not-On)
+    ]

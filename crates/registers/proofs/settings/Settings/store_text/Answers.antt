@@ -1,13 +1,11 @@
-use mathlib.Core.Path.{sym, ◌∙◌}
-use borrow.Author.Tests.{not-true, not-false}
 use Rattle.registers.specs.Text.{if◌then◌otherwise◌}
 use Rattle.registers.specs.Settings.{text_stored}
 use Rattle.registers.proofs.settings.Settings.store_text.Goals as goal
 
-pub returns-then-not-possible : goal.returns-then-not-possible
+pub returns-then-possible : goal.returns-then-possible
 unfolding text_stored if◌then◌otherwise◌
-returns-then-not-possible c = rw (sym c.possible.ensures ∙ not-true _ c.if-not-possible.true-raw)
+returns-then-possible c = rw (← c.if-possible.ensures)
 
-pub returns : goal.returns
+pub returns-else-possible : goal.returns-else-possible
 unfolding text_stored if◌then◌otherwise◌
-returns c = rw (sym c.possible.ensures ∙ not-false _ c.if-not-possible.false-raw)
+returns-else-possible c = rw (← c.if-possible.ensures)

@@ -1,9 +1,10 @@
-use Rattle.registers.proofs.status.Laws.{oldest-none, oldest-some}
 use mathlib.Core.Path.{sym}
+use native.Mathlib.Omega.{arith}
+use Rattle.registers.proofs.status.Laws.{oldest-none, oldest-some}
 use Rattle.registers.proofs.status.Status.read_oldest.Goals as goal
 
-pub returns-then-count-eq0 : goal.returns-then-count-eq0
-returns-then-count-eq0 c = sym (oldest-none c.args.self c.if-count-eq0.true)
+pub returns-then-self-gt0 : goal.returns-then-self-gt0
+returns-then-self-gt0 c = rw c.shifted-self.ensures (sym (oldest-some c.args.self (λ e. omega arith)))
 
-pub returns : goal.returns
-returns c = rw c.shifted-left.ensures (sym (oldest-some c.args.self c.if-count-eq0.false))
+pub returns-else-self-gt0 : goal.returns-else-self-gt0
+returns-else-self-gt0 c = sym (oldest-none c.args.self (omega arith))

@@ -12,4 +12,4 @@ returns c =
     let s = c.args.self in
     let long : length s.errors ≡ most = search rules in
     let n = rw (← c.set_bits-sets.ensures.value, ← c.bit_if-standard.ensures.value, ← c.bit_if-answer.ensures.value, ← c.bit_if-queue.ensures.value) at (summary-is s c.args.answers long) in
-    rw c.bit_if.ensures.value (byte-is s c.args.answers long _ n)
+    rw (c.bit_if.ensures.value, c.from.ensures) (byte-is s c.args.answers long _ n)
