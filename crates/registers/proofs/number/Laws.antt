@@ -9,7 +9,7 @@ use native.Mathlib.Omega.{arith}
 use lib.Dec.{eqb}
 use lib.ListN.{length, length-append, drop}
 use mir.Val.{bool_byte}
-use borrow.Author.Tests.{ne_eqb}
+use borrow.Author.Tests.{eq-eqb, ne_eqb}
 use Rattle.registers.specs.Text.{Text, if◌then◌otherwise◌, digit, capital, small, first, rest, empty, start, after}
 use Rattle.registers.specs.Number.{numeral_from, numeral, sign, point, after_sign, fraction_of, after_fraction, exponent_of, after_exponent, lowering}
 use Rattle.registers.specs.NumberParts.{held, mantissa_of, DigitsRead, MantissaRead, ExponentRead}
@@ -101,6 +101,10 @@ module _ (t : Text) (at : ℕ) (w : Digits) (h : DigitsRead t at 0 w) where
 
 -- ---- the exponent
 
+zero-capital : eqb (capital 0) (code "E") ≡ false
+unfolding capital small if◌then◌otherwise◌
+zero-capital = refl
+
 module _ (t : Text) (at : ℕ) where
   pub exponent-none : at ≤ length t → exponent_of (drop at t) ≡ [] → ExponentRead t at (record { lowers = false; size = 0; end = at })
   unfolding lowering after_exponent if◌then◌otherwise◌ numeral_from
@@ -109,6 +113,13 @@ module _ (t : Text) (at : ℕ) where
   pub exponent-no : (capital (first (drop at t)) ≡ code "E" → ⊥) → exponent_of (drop at t) ≡ []
   unfolding exponent_of if◌then◌otherwise◌
   exponent-no ne = rw (ne_eqb (capital (first (drop at t))) (code "E") ne)
+
+  -- the digits begin after the E and the sign that may follow it
+  pub exponent-start : capital (first (drop at t)) ≡ code "E" → (b : ℕ) → b ≡ first (drop (at + 1) t)
+      → let s = at + 1 + bool_byte (sign b) in (drop s t ≡ after_sign (drop (at + 1) t)) × (s ≤ length t)
+  exponent-start e b eb =
+      let l = first-within (λ x. eqb (capital x) (code "E")) t at zero-capital (eq-eqb _ _ e) in
+      sign-end t (at + 1) b eb (omega arith)
 
   module _ (e : capital (first (drop at t)) ≡ code "E") (s : ℕ) (signed : drop s t ≡ after_sign (drop (at + 1) t))
       (d : Digits) (h : DigitsRead t s 0 d) where
@@ -139,7 +150,3 @@ module _ (t : Text) (at : ℕ) where
         full : (u : Text) → (length u ≡ 0 → ⊥) → empty u ≡ false
         full [] f = absurd (f refl)
         full (x ∷ u) f = refl
-
-pub zero-capital : eqb (capital 0) (code "E") ≡ false
-unfolding capital small if◌then◌otherwise◌
-zero-capital = refl
