@@ -14,6 +14,7 @@ use Rattle.registers.specs.Text.{Text, if◌then◌otherwise◌, digit, capital,
 use Rattle.registers.specs.Number.{numeral_from, numeral, sign, point, after_sign, fraction_of, after_fraction, exponent_of, after_exponent, lowering}
 use Rattle.registers.specs.NumberParts.{held, mantissa_of, DigitsRead, MantissaRead, ExponentRead}
 use Rattle.registers.specs.declared.number.Digits.{Digits}
+use Rattle.std.proofs.lemmas.List.{nil_from_length}
 use Rattle.std.specs.Prelude.{Result, Ok, Err}
 use Rattle.registers.specs.Error.{meant}
 use Rattle.registers.specs.declared.error.Error.{Error}
@@ -128,11 +129,7 @@ module _ (t : Text) (at : ℕ) where
     is-there = rw (e, rest_at t at, signed)
 
     pub exponent-bare : d.end ≡ s → exponent_of (drop at t) ≡ []
-    exponent-bare q = let n = h.end in is-there ∙ nothing (start digit (drop s t)) (omega arith)
-      where
-        nothing : (u : Text) → length u ≡ 0 → u ≡ []
-        nothing [] f = refl
-        nothing (x ∷ u) f = absurd (omega arith)
+    exponent-bare q = let n = h.end in is-there ∙ nil_from_length (start digit (drop s t)) (omega arith)
 
     pub exponent-some : (d.end ≡ s → ⊥) → (b : ℕ) → b ≡ first (drop (at + 1) t)
         → ExponentRead t at (record { lowers = eqb b (code "-"); size = d.value; end = d.end })

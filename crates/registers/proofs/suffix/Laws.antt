@@ -1,9 +1,9 @@
--- A suffix matches in any letter case: what std compares in small letters, 02's search compares in capitals. And what is left of a text
--- has a first byte or none.
+-- A suffix matches in any letter case: what std compares in small letters, 02's search compares in capitals. And a text from which a
+-- first byte is got has one.
 use mathlib.Core.Path.{◌≡◌, refl, sym, ap, ◌∙◌}
 use mathlib.Core.Bool.{Bool, true, false, false≢true}
 use mathlib.Core.List.{[], ◌∷◌, map}
-use Prim.Native.Nat.{ℕ, ◌≤◌, ◌<◌}
+use Prim.Native.Nat.{ℕ, ◌<◌}
 use native.Mathlib.Omega.{arith}
 use lib.ListN.{length, get_or}
 use borrow.Author.Tests.{eqb-true, eq-eqb}
@@ -51,11 +51,7 @@ module _ (t u : Text) where
           d.1 (sym (small-capital t) ∙ ap (map to_ascii_lowercase) (same-only _ _ e) ∙ small-capital u)
       go false e = refl
 
--- ---- whether a byte is left
-
-pub nothing-left : (t : Text) → length t ≤ 0 → t ≡ []
-nothing-left [] h = refl
-nothing-left (b ∷ t) h = absurd (omega arith)
+-- ---- a byte is left
 
 pub first-left : (t : Text) (b : ℕ) → (0 < length t) × ((d : ℕ) → b ≡ get_or t 0 d) → (first t ≡ b) × (empty t ≡ false)
 first-left [] b h = absurd (omega (arith, h.0))
