@@ -8,7 +8,6 @@ pub mod AnswerParts
 pub mod Error
 pub mod Queue
 pub mod Suffix
-pub mod SuffixParts
 pub mod Number
 pub mod NumberParts
 pub mod Rounding

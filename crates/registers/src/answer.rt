@@ -9,6 +9,7 @@ ghost use Rattle.registers.specs.Label.{quoted_text};
 pub(crate) fn put(tail: &mut [u8], at: usize, b: u8)
     ensures { tail.new ≡ set tail.old at b }
 {
+    // no `get_mut`: std doesn't say there what the slice's other bytes are
     if at < tail.len() {
         tail[at] = b;
     }
@@ -89,6 +90,7 @@ pub fn write_decimal(n: u32, tail: &mut [u8]) -> usize
 pub fn write_whole(value: i32, tail: &mut [u8]) -> usize
     ensures { Laid (signed_text decimal value) tail.old result tail.new }
 {
+    // `write_tenths` shares the sign: one function for both would have to be told which digits to write
     let at = sign_of(value, tail);
     decimal_at(value.unsigned_abs(), tail, at)
 }

@@ -9,7 +9,7 @@ use crate::{answer, text};
 pub const TEXT: usize = 32;
 
 // A string: whether its quotes are closed and nothing follows them, whether its bytes are accepted, how many they are, and they
-// themselves, as the record holds them.
+// themselves, as the record holds them. All four stand for any string, closed or not, as `LabelRead` promises: no Option says so.
 #[derive(Clone, Copy)]
 pub struct Label {
     pub closed: bool,

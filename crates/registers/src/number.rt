@@ -97,6 +97,7 @@ fn read_exponent(text: &[u8], at: usize) -> Exponent
     requires { at ≤ length text.now }
     ensures { ExponentRead text.now at result }
 {
+    // no Option: a missing exponent is the exponent 0, and ends where it would begin
     let none = Exponent {
         lowers: false,
         size: 0,

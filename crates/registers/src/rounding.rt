@@ -14,7 +14,8 @@ pub enum Side {
     Above,
 }
 
-// What check 7 says of a value: it in steps, or none outside the limits; and what was rounded off. The side is that of the rounded value, within the limits or not.
+// What check 7 says of a value: it in steps, or none outside the limits; and what was rounded off. The side is that of the
+// rounded value, within the limits or not.
 #[derive(Clone, Copy)]
 pub struct Rounded {
     pub fit: Option<i32>,

@@ -35,7 +35,7 @@ pub fn byte_at(text: &[u8], at: usize) -> u8
 }
 
 // Lends what stands from a place on: nothing past the end.
-pub fn rest(text: &[u8], at: usize) -> &[u8]
+pub(crate) fn rest(text: &[u8], at: usize) -> &[u8]
     ensures { result.now ≡ drop at text.now }
 {
     text.get(at..).unwrap_or(&[])

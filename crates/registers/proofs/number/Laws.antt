@@ -9,11 +9,12 @@ use native.Mathlib.Omega.{arith}
 use lib.Dec.{eqb}
 use lib.ListN.{length, length-append, drop}
 use mir.Val.{bool_byte}
-use borrow.Author.Tests.{ne_eqb}
+use borrow.Author.Tests.{eq-eqb, ne_eqb}
 use Rattle.registers.specs.Text.{Text, if◌then◌otherwise◌, digit, capital, small, first, rest, empty, start, after}
 use Rattle.registers.specs.Number.{numeral_from, numeral, sign, point, after_sign, fraction_of, after_fraction, exponent_of, after_exponent, lowering}
 use Rattle.registers.specs.NumberParts.{held, mantissa_of, DigitsRead, MantissaRead, ExponentRead}
 use Rattle.registers.specs.declared.number.Digits.{Digits}
+use Rattle.std.proofs.lemmas.List.{nil_from_length}
 use Rattle.std.specs.Prelude.{Result, Ok, Err}
 use Rattle.registers.specs.Error.{meant}
 use Rattle.registers.specs.declared.error.Error.{Error}
@@ -101,6 +102,10 @@ module _ (t : Text) (at : ℕ) (w : Digits) (h : DigitsRead t at 0 w) where
 
 -- ---- the exponent
 
+zero-capital : eqb (capital 0) (code "E") ≡ false
+unfolding capital small if◌then◌otherwise◌
+zero-capital = refl
+
 module _ (t : Text) (at : ℕ) where
   pub exponent-none : at ≤ length t → exponent_of (drop at t) ≡ [] → ExponentRead t at (record { lowers = false; size = 0; end = at })
   unfolding lowering after_exponent if◌then◌otherwise◌ numeral_from
@@ -110,6 +115,13 @@ module _ (t : Text) (at : ℕ) where
   unfolding exponent_of if◌then◌otherwise◌
   exponent-no ne = rw (ne_eqb (capital (first (drop at t))) (code "E") ne)
 
+  -- the digits begin after the E and the sign that may follow it
+  pub exponent-start : capital (first (drop at t)) ≡ code "E" → (b : ℕ) → b ≡ first (drop (at + 1) t)
+      → let s = at + 1 + bool_byte (sign b) in (drop s t ≡ after_sign (drop (at + 1) t)) × (s ≤ length t)
+  exponent-start e b eb =
+      let l = first-within (λ x. eqb (capital x) (code "E")) t at zero-capital (eq-eqb _ _ e) in
+      sign-end t (at + 1) b eb (omega arith)
+
   module _ (e : capital (first (drop at t)) ≡ code "E") (s : ℕ) (signed : drop s t ≡ after_sign (drop (at + 1) t))
       (d : Digits) (h : DigitsRead t s 0 d) where
     is-there : exponent_of (drop at t) ≡ start digit (drop s t)
@@ -117,11 +129,7 @@ module _ (t : Text) (at : ℕ) where
     is-there = rw (e, rest_at t at, signed)
 
     pub exponent-bare : d.end ≡ s → exponent_of (drop at t) ≡ []
-    exponent-bare q = let n = h.end in is-there ∙ nothing (start digit (drop s t)) (omega arith)
-      where
-        nothing : (u : Text) → length u ≡ 0 → u ≡ []
-        nothing [] f = refl
-        nothing (x ∷ u) f = absurd (omega arith)
+    exponent-bare q = let n = h.end in is-there ∙ nil_from_length (start digit (drop s t)) (omega arith)
 
     pub exponent-some : (d.end ≡ s → ⊥) → (b : ℕ) → b ≡ first (drop (at + 1) t)
         → ExponentRead t at (record { lowers = eqb b (code "-"); size = d.value; end = d.end })
@@ -139,7 +147,3 @@ module _ (t : Text) (at : ℕ) where
         full : (u : Text) → (length u ≡ 0 → ⊥) → empty u ≡ false
         full [] f = absurd (f refl)
         full (x ∷ u) f = refl
-
-pub zero-capital : eqb (capital 0) (code "E") ≡ false
-unfolding capital small if◌then◌otherwise◌
-zero-capital = refl

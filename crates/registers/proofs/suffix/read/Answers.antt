@@ -1,38 +1,25 @@
--- The first byte decides: a letter begins a suffix, any other byte is -121, and nothing at all multiplies by one. `told` says that
--- the code's test of the byte is the definition's.
-use mathlib.Core.Path.{◌≡◌, sym, ap, ◌∙◌}
-use lib.ListN.{length, drop}
-use borrow.Author.Tests.{lt-leb, le-leb}
-use Rattle.registers.specs.Text.{if◌then◌otherwise◌, letter, first}
+-- The first byte decides: a letter begins a suffix, any other byte is -121, and nothing at all multiplies by one.
+use mathlib.Core.Path.{sym}
+use native.Mathlib.Omega.{arith}
+use Rattle.std.proofs.lemmas.List.{nil_from_length}
+use Rattle.registers.specs.Text.{if◌then◌otherwise◌, letter, small}
 use Rattle.registers.specs.Check.{check, ◌>>◌}
 use Rattle.registers.specs.Suffix.{remains}
-use Rattle.registers.proofs.text.Laws.{first-within, empty-at}
-use Rattle.registers.proofs.suffix.Laws.{scale-is, zero-letter}
+use Rattle.registers.proofs.suffix.Laws.{first-left}
 use Rattle.registers.proofs.suffix.read.Goals as goal
 
-pub letters_at-requires : goal.letters_at-requires
-letters_at-requires c =
-    let told : let a = c.args in letter (first (drop a.at a.text.now)) ≡ c.is_letter.result = sym (c.is_letter.ensures ∙ ap letter c.byte_at.ensures) in
-    let a = c.args in
-    first-within letter a.text.now a.at zero-letter (told ∙ c.if-is_letter.true)
+pub returns-in-None : goal.returns-in-None
+unfolding remains letter small check ◌>>◌ if◌then◌otherwise◌
+returns-in-None c = rw (← c.rest-remainder.ensures, nil_from_length c.rest-remainder.result.now (omega (arith, c.in-None.ensures.item.3)))
 
-pub returns-then-is_letter : goal.returns-then-is_letter
-returns-then-is_letter c =
-    let told : let a = c.args in letter (first (drop a.at a.text.now)) ≡ c.is_letter.result = sym (c.is_letter.ensures ∙ ap letter c.byte_at.ensures) in
-    let a = c.args in
-    rw c.letters_at.ensures at c.scale_of.ensures
-    ∙ scale-is a.quantity (drop a.at a.text.now) (told ∙ c.if-is_letter.true)
+pub returns-in-Some : goal.returns-in-Some
+unfolding remains if◌then◌otherwise◌
+returns-in-Some c =
+    let s = first-left c.rest-remainder.result.now c.in-Some.b.now c.in-Some.ensures.item.3 in
+    rw (← c.rest-remainder.ensures, s.0, sym c.if-is_letter.ensures) c.scale_of.ensures
 
-pub returns-then-at-text : goal.returns-then-at-text
+pub returns-in-Some-2 : goal.returns-in-Some-2
 unfolding remains check ◌>>◌ if◌then◌otherwise◌
-returns-then-at-text c =
-    let told : let a = c.args in letter (first (drop a.at a.text.now)) ≡ c.is_letter.result = sym (c.is_letter.ensures ∙ ap letter c.byte_at.ensures) in
-    let a = c.args in
-    rw (told, c.if-is_letter.false, empty-at a.text.now a.at, lt-leb (length a.text.now) a.at c.if-at-text.true)
-
-pub returns : goal.returns
-unfolding remains check ◌>>◌ if◌then◌otherwise◌
-returns c =
-    let told : let a = c.args in letter (first (drop a.at a.text.now)) ≡ c.is_letter.result = sym (c.is_letter.ensures ∙ ap letter c.byte_at.ensures) in
-    let a = c.args in
-    rw (told, c.if-is_letter.false, empty-at a.text.now a.at, le-leb (length a.text.now) a.at c.if-at-text.false)
+returns-in-Some-2 c =
+    let s = first-left c.rest-remainder.result.now c.in-Some.b.now c.in-Some.ensures.item.3 in
+    rw (← c.rest-remainder.ensures, s.0, sym c.if-is_letter.ensures, s.1)

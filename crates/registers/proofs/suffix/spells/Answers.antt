@@ -1,7 +1,5 @@
-use mathlib.Core.Path.{refl}
-use Rattle.registers.specs.SuffixParts.{alike}
+use Rattle.registers.proofs.suffix.Laws.{spelt}
 use Rattle.registers.proofs.suffix.spells.Goals as goal
 
 pub returns : goal.returns
-unfolding alike
-returns c = refl
+returns c = let a = c.args in spelt a.text.now a.suffix.now c.eq_ignore_ascii_case.result c.eq_ignore_ascii_case.ensures.test
