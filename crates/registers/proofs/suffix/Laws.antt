@@ -1,31 +1,16 @@
 -- A suffix matches in any letter case: what std compares in small letters, 02's search compares in capitals. And a text from which a
 -- first byte is got has one.
 use mathlib.Core.Path.{◌≡◌, refl, sym, ap, ◌∙◌}
-use mathlib.Core.Bool.{Bool, true, false, false≢true}
+use mathlib.Core.Bool.{Bool, true, false}
 use mathlib.Core.List.{[], ◌∷◌, map}
 use Prim.Native.Nat.{ℕ, ◌<◌}
 use native.Mathlib.Omega.{arith}
 use lib.ListN.{length, get_or}
-use borrow.Author.Tests.{eqb-true, eq-eqb}
 use Rattle.std.specs.Char.{to_ascii_lowercase, to_ascii_uppercase}
 use Rattle.std.proofs.lemmas.Bool.Decides.{nat_tests}
 use Rattle.std.proofs.lemmas.Str.Ascii.{lowercase-uppercase}
 use Rattle.registers.specs.Text.{Text, capital, empty, first, same}
-use Rattle.registers.proofs.Tests.{and_both}
-use Rattle.registers.proofs.text.Laws.{capital-is}
-
--- the same bytes are one text
-same-itself : (t : Text) → same t t ≡ true
-unfolding same
-same-itself [] = refl
-same-itself (x ∷ t) = rw (eq-eqb x x refl, same-itself t)
-
-same-only : (t u : Text) → same t u ≡ true → t ≡ u
-unfolding same
-same-only [] [] e = refl
-same-only [] (y ∷ u) e = absurd (false≢true e)
-same-only (x ∷ t) [] e = absurd (false≢true e)
-same-only (x ∷ t) (y ∷ u) e = let p = and_both _ (same t u) e in rw (eqb-true x y p.0, same-only t u p.1)
+use Rattle.registers.proofs.text.Laws.{capital-is, same-eq, same_refl}
 
 -- what one case forgets, the other forgets too
 uppercase-lowercase : (b : ℕ) → to_ascii_uppercase (to_ascii_lowercase b) ≡ to_ascii_uppercase b
@@ -43,12 +28,12 @@ module _ (t u : Text) where
   pub spelt : (r : Bool) → (r ≡ true → map to_ascii_lowercase t ≡ map to_ascii_lowercase u)
       × (map to_ascii_lowercase t ≡ map to_ascii_lowercase u → r ≡ true) → r ≡ same (map capital t) (map capital u)
   spelt true d =
-      let e = sym (capital-small t) ∙ ap (map capital) (d.0 refl) ∙ capital-small u in sym (rw e (same-itself (map capital u)))
+      let e = sym (capital-small t) ∙ ap (map capital) (d.0 refl) ∙ capital-small u in sym (rw e (same_refl (map capital u) (map capital u) refl))
   spelt false d = go (same (map capital t) (map capital u)) refl
     where
       go : (b : Bool) → same (map capital t) (map capital u) ≡ b → false ≡ b
       go true e =
-          d.1 (sym (small-capital t) ∙ ap (map to_ascii_lowercase) (same-only _ _ e) ∙ small-capital u)
+          d.1 (sym (small-capital t) ∙ ap (map to_ascii_lowercase) (same-eq _ _ e) ∙ small-capital u)
       go false e = refl
 
 -- ---- a byte is left

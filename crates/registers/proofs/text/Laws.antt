@@ -11,7 +11,7 @@ use lib.Dec.{T, eqb, leb, ltb, leb→le, leb-zero, leb-suc-zero, leb-suc-suc}
 use lib.ListN.{length, get_or, take, drop, length-drop, drop_of_length-le, get_or-eq_default}
 use lib.Seq.{drop-cons, drop-drop}
 use mir.Facts.{and_yes}
-use borrow.Author.Tests.{ltb-true, ltb-false}
+use borrow.Author.Tests.{ltb-true, ltb-false, eqb-true, eq-eqb}
 use denote.Param.Members.{Mut}
 use denote.Ref.{Bor}
 use Rattle.std.proofs.iter.Yields.{fronts}
@@ -27,8 +27,8 @@ use Rattle.std.specs.declared.slice.Iter.{Iter}
 use Rattle.std.specs.Char.{to_ascii_uppercase}
 use Rattle.std.specs.List.{take_while}
 use Rattle.std.proofs.lemmas.List.Sums.{take_while-cons}
-use Rattle.registers.proofs.Tests.{lt_not}
-use Rattle.registers.specs.Text.{Text, if◌then◌otherwise◌, digit, small, capital, every, empty, first, rest, start, after, index_of, index_after}
+use Rattle.registers.proofs.Tests.{lt_not, and_both, and-true}
+use Rattle.registers.specs.Text.{Text, if◌then◌otherwise◌, digit, small, capital, every, empty, first, rest, start, after, index_of, index_after, same}
 
 -- ---- at a place
 
@@ -175,6 +175,23 @@ index-start b (x ∷ xs) = go (eqb x b) (index-start b xs)
         → length (if not e then x ∷ start (other b) xs otherwise []) ≡ index_after e (index_of b xs)
     go true ih = refl
     go false ih = ap suc ih
+
+-- ---- the same bytes
+
+pub same-eq : (x y : Text) → same x y ≡ true → x ≡ y
+unfolding same
+same-eq [] [] e = refl
+same-eq [] (y ∷ ys) e = absurd (false≢true e)
+same-eq (x ∷ xs) [] e = absurd (false≢true e)
+same-eq (x ∷ xs) (y ∷ ys) e = let p = and_both (eqb x y) (same xs ys) e in rw (eqb-true x y p.0, same-eq xs ys p.1)
+
+pub same_refl : (x y : Text) → x ≡ y → same x y ≡ true
+unfolding same
+same_refl x y e = rw e (go y)
+  where
+    go : (y : Text) → same y y ≡ true
+    go [] = refl
+    go (b ∷ bs) = and-true (eq-eqb b b refl) (go bs)
 
 -- ---- kinds of bytes
 
