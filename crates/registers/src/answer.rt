@@ -1,5 +1,6 @@
 // What answers are made of, each written over the start of a lent tail. A writer's result is the
-// length of its text; a tail that is shorter gets as much of the text as it holds.
+// length of its text; a tail that is shorter gets as much of the text as it holds: `Laid` promises both, which no Display does. A writer
+// within a tail has a place below `farthest`, so that no sum wraps; a type for such a place would be taken apart at each byte.
 ghost use Rattle.std.specs.Prelude.{◌≡◌, ◌≤◌, ◌<◌, set};
 ghost use Rattle.registers.specs.Answer.{decimal, tenths, signed_text, Laid};
 ghost use Rattle.registers.specs.AnswerParts.{farthest, LaidAt, sign_text};

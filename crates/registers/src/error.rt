@@ -59,7 +59,7 @@ pub(crate) fn event_bit(number: u16) -> u16
     }
 }
 
-// Gives the text of a number, without the quotes that it stands in; none for a number that has none.
+// Gives the text of a number, without the quotes that it stands in. Of a number that has none it is empty, as `error_text` answers it.
 fn message(number: u16) -> &'static [u8]
     ensures { result.now ≡ bytes (message_in messages number) }
 {

@@ -8,7 +8,7 @@ pub(crate) const MOST: usize = 16;
 
 pub(crate) const LAST: usize = MOST - 1;
 
-// The numbers that 01 and 02 put into the queue.
+// The numbers that 01 and 02 put into the queue: those of `Error`, and -350, which is none of its cases.
 const QUEUEABLE: [u16; 24] = [
     101, 102, 104, 108, 109, 113, 114, 121, 123, 124, 131, 138, 141, 150, 151, 221, 222, 223, 314,
     350, 363, 410, 420, 430,

@@ -31,7 +31,7 @@ use crate::suffix::Quantity;
 //   16  SYSTem:EXAM
 const SLOTS: usize = 30;
 
-// The display's text (02, #109) ends before its first zero.
+// Every value is a number, as limits, blocks and hand-made records know it. The display's text (02, #109) ends before its first zero.
 #[derive(Clone, Copy)]
 pub struct Settings {
     pub values: [i32; SLOTS],
@@ -89,7 +89,6 @@ const NUMBER: Kind = Kind {
     quantity: Quantity::Nothing,
 };
 
-// Each slot's kind.
 static KINDS: [Kind; SLOTS] = [
     SWITCH, SWITCH, SWITCH, WORDS, VOLTS, WORDS, HERTZ, AMPERES, WORDS, WORDS, SECONDS, SECONDS,
     AMPERES, AMPERES, NUMBER, SWITCH, SWITCH, SWITCH, SWITCH, SWITCH, VOLTS, WORDS, HERTZ, AMPERES,
@@ -238,7 +237,8 @@ impl Settings {
         matches!(side, Side::On) || self.value(Settings::EXAM) < 1
     }
 
-    // Tells whether a slot is a range while its own channel's voltage is above 12.0.
+    // Tells whether a slot is a range while its own channel's voltage is above 12.0. One function for this and `is_narrow` would be given
+    // both slots and the test.
     fn is_above(self, slot: usize) -> bool
         ensures { result ≡ above self slot }
     {

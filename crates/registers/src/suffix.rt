@@ -7,7 +7,8 @@ ghost use Rattle.registers.specs.Suffix.{suffixes, no_suffix, power_in, remains}
 use crate::error::Error;
 use crate::text;
 
-// What a row's numbers measure, which says what suffixes they take.
+// What a row's numbers measure, which says what suffixes they take. `Nothing` is a case like the others: its rows refuse a suffix by a
+// number of their own, -138.
 #[derive(Clone, Copy)]
 pub enum Quantity {
     Nothing,

@@ -1,4 +1,5 @@
-// Kinds of bytes, the byte at a place, and where white space ends or a byte stands next.
+// Kinds of bytes, the byte at a place, and where white space ends or a byte stands next. Where std has a kind, its function stays all
+// the same, as its statement speaks of 01's. A text and a place in it are two, for a caller goes on from the place that it is given.
 ghost use Rattle.std.specs.Prelude.{◌≡◌, ◌+◌, ◌≤◌, length, drop};
 ghost use Rattle.registers.specs.Text.{white, start, digit, letter, capital, first, index_of};
 
@@ -48,7 +49,8 @@ pub fn white_end(text: &[u8], at: usize) -> usize
     at + rest(text, at).iter().take_while(|b| is_white(**b)).count()
 }
 
-// Finds where a byte stands first from a place on; the text's end where it doesn't stand again.
+// Finds where a byte stands first from a place on; the text's end where it doesn't stand again, so
+// that the part up to it needs no case of its own.
 pub fn find(text: &[u8], at: usize, b: u8) -> usize
     ensures place { result ≡ at + index_of b (drop at text.now) }
     ensures within { at ≤ length text.now → result ≤ length text.now }
