@@ -130,7 +130,7 @@ fn path_of(name: &[u8]) -> io::Result<&str> {
     str::from_utf8(name).map_err(|_| io::Error::from(io::ErrorKind::InvalidFilename))
 }
 
-// Gives an argument, if there are as many.
+// Gives an argument, if there are as many. One that is longer than any name of a file is taken for an empty one, which names none either.
 fn argument<'a>(rt: &impl Env, i: usize, word: &'a mut [u8; NAME]) -> Option<&'a [u8]> {
     match rt.arg(i, word) {
         Ok(n) => Some(&word[..n]),

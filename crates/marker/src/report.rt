@@ -153,7 +153,7 @@ impl fmt::Display for Difference<'_> {
 }
 
 impl Finding<'_> {
-    // The status digit.
+    // Tells it in one digit, as the head of main.rt lists them.
     pub fn status(&self) -> u8 {
         match self.report {
             Report::Agree { .. } => 0,

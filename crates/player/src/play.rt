@@ -41,7 +41,7 @@ impl Bench {
     }
 
     // Plays a line of one letter; `p` alone is an empty piece. A power-up is lent no store, so the next
-    // event still is.
+    // event still is. Here and in `Event::read` the script's letters end: what follows knows events alone.
     fn play_letter(&mut self, letter: u8, report: &mut Report) -> Option<()> {
         match letter {
             b'u' => self.state = State::power_up(),

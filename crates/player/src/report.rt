@@ -17,19 +17,16 @@ pub(crate) struct Report {
 }
 
 impl Report {
-    // Makes an empty report.
     pub(crate) fn new() -> Report {
         Report {
             bytes: ArrayVec::new(),
         }
     }
 
-    // Gives what was written.
     pub(crate) fn written(&self) -> &[u8] {
         self.bytes.as_slice()
     }
 
-    // Drops what was written.
     pub(crate) fn clear(&mut self) {
         self.bytes.clear();
     }
