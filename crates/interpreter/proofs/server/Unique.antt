@@ -1,8 +1,9 @@
 -- Two results that meet the chunk server's statement are equal, and the two states are the same, places beyond a stored length apart.
 use mathlib.Core.Path.{◌≡◌, refl, sym, ap, ap₂, ◌∙◌}
-use mathlib.Core.Bool.{Bool, true, false}
+use mathlib.Core.Bool.{Bool, true, false, false≢true}
 use mathlib.Core.List.{◌++◌}
 use Prim.Native.Nat.{ℕ}
+use lib.Dec.{eqb}
 use lib.ListN.{length, take-append-drop}
 use lib.Seq.{length-take-le}
 use Rattle.registers.specs.Text.{Text}
@@ -10,6 +11,16 @@ use Rattle.interpreter.specs.Box.{Memory, right_size}
 use Rattle.interpreter.specs.State.{box_of, possible_state}
 use Rattle.interpreter.specs.Server.{Service, Serves}
 use Rattle.interpreter.specs.declared.state.State.{State}
+
+-- a chunk is never refused by number 1, so that its outcome is told by its number (`done-unique` of state/Unique)
+pub serves-other : (s t : State) (m n : Memory) (input output left : Text) (number read written : ℕ) → Serves s m input output number read written t n left
+    → number ≡ 1 → ⊥
+serves-other s t m n input output left number read written p h = on (right_size m) refl (possible_state s) refl
+  where
+    on : (a : Bool) → right_size m ≡ a → (b : Bool) → possible_state s ≡ b → ⊥
+    on true l true q = false≢true (ap (λ (k : ℕ). eqb k 1) (sym (p.possible l q).1 ∙ h))
+    on true l false q = false≢true (ap (λ (k : ℕ). eqb k 1) (sym (p.impossible l q).1 ∙ h))
+    on false l b q = false≢true (ap (λ (k : ℕ). eqb k 1) (sym (p.wrong l).1 ∙ h))
 
 module _ (s t t' : State) (m n n' : Memory) (input output left left' : Text) (number read written number' read' written' : ℕ) where
   abbrev Same : Type 0

@@ -1,5 +1,5 @@
--- The text in the settings' record. Refusal 4's test goes byte by byte (`Testing`); a text that is accepted is held as it is and passes the test;
--- and a record that passes it is its text with zeros after it.
+-- The text in the settings' record. Refusal 4's test is of two parts: the bytes before the first zero may stand, and from it on all are zeros. A
+-- text that is accepted is held as it is and passes the test; and a record that passes it is its text with zeros after it.
 use mathlib.Core.Path.{◌≡◌, refl, sym, ◌∙◌, ap}
 use mathlib.Core.Bool.{Bool, true, false, not, ◌&&◌, false≢true}
 use mathlib.Core.List.{[], ◌∷◌}
