@@ -53,9 +53,9 @@ pub(crate) fn count(text: &[u8]) -> Result<usize, Error>
     }
     let mut parts: usize = 1;
     let mut visible = false;
-    let mut mark: u8 = 0;
+    let mut mark = None;
     for &b in text {
-        if (mark == 0) & (b == b',') {
+        if mark.is_none() & (b == b',') {
             if !visible {
                 return Err(Error::Syntax);
             }
