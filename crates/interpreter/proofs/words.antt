@@ -2,4 +2,3 @@ pub mod Forms
 pub mod Letters
 pub mod Spelling
 pub mod Taken
-pub mod Shorts

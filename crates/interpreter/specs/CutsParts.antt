@@ -1,7 +1,19 @@
 -- What the search for a separator outside quotes says. Nothing of 01 is defined here: see Cuts.antt.
-use Rattle.std.specs.Prelude.{◌≡◌, [], ◌∷◌, ℕ, suc, ◌+◌, ◌≤◌, length, drop}
+use Rattle.std.specs.Prelude.{◌≡◌, [], ◌∷◌, ℕ, suc, ◌+◌, ◌≤◌, length, drop, Option, Some, None}
+use Prim.Native.Char.{code}
 use Rattle.registers.specs.Text.{Text, if◌then◌otherwise◌}
 use Rattle.interpreter.specs.Cuts.{quote_next, separates}
+use Rattle.interpreter.specs.declared.cuts.Quote.{Quote}
+use Rattle.interpreter.specs.declared.cuts.Quote.TheVariants.{Double, Single}
+
+-- the quote that is open, as Cuts writes it: by its byte, 0 where none is
+abbrev pub byte_of : Quote → ℕ
+byte_of Double = code "\""
+byte_of Single = code "'"
+
+abbrev pub open_mark : Option Quote → ℕ
+open_mark None = 0
+open_mark (Some q) = byte_of q
 
 -- the place of the first separator outside quotes, the length where there is none
 unfoldable pub place_open : ℕ → ℕ → Text → ℕ

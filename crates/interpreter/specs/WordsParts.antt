@@ -1,6 +1,6 @@
 -- How the code keeps the words of the parameters, as a table of bytes, and what the functions that compare, choose and write them say.
 -- Nothing of 01 is defined here: see Parameter.antt.
-use Rattle.std.specs.Prelude.{◌≡◌, Bool, ◌||◌, List, [], ◌∷◌, ◌++◌, map, ℕ, suc, ◌+◌, ◌-◌, ◌*◌, ◌≤◌, leb, eqb, length, get_or, take, drop, replicate}
+use Rattle.std.specs.Prelude.{◌≡◌, Bool, ◌||◌, List, [], ◌∷◌, ◌++◌, map, ℕ, suc, ◌+◌, ◌-◌, ◌*◌, ◌≤◌, eqb, length, get_or, take, drop, replicate}
 use Prim.Native.String.{String}
 use Rattle.registers.specs.Text.{Text, if◌then◌otherwise◌, bytes, same, capital}
 use Rattle.registers.specs.Words.{short_form, long_form}
@@ -41,20 +41,6 @@ word_table_of (w ∷ ws) = word_row w ++ word_table_of ws
 unfoldable pub word_table : Text
 word_table = word_table_of word_list
 
--- in the table of short forms a word has the length of its short form, its letters, and zeros
-abbrev pub short_size : ℕ
-short_size = 5
-
-unfoldable pub short_row : String → Text
-short_row w = length (short_form w) ∷ short_form w ++ replicate (short_size - 1 - length (short_form w)) 0
-
-unfoldable pub short_table_of : List String → Text
-short_table_of [] = []
-short_table_of (w ∷ ws) = short_row w ++ short_table_of ws
-
-unfoldable pub short_table : Text
-short_table = short_table_of word_list
-
 -- ---- a text and a word
 
 -- how many first bytes of a text, in capitals, are the letters
@@ -79,14 +65,6 @@ words_taken = map (λ (s : Setting). record { first = place_in word_list (get_or
 abbrev pub words_in : Words → List String
 words_in w = take w.count (drop w.first word_list)
 
--- the words before this one are those of the settings that take no numbers
-abbrev pub first_with_numbers : ℕ
-first_with_numbers = 6
-
-abbrev pub with_numbers : Words → Bool
-with_numbers w = leb first_with_numbers w.first
-
-pub record TakenOf (ws : List String) (numbers : Bool) (r : Words) : Type 0 where
+pub record TakenOf (ws : List String) (r : Words) : Type 0 where
   pub words : words_in r ≡ ws
-  pub also : with_numbers r ≡ numbers
   pub room : r.first + r.count ≤ word_count

@@ -85,8 +85,8 @@ fn class(suffix: &[u8]) -> u64
     }
 }
 
-// Reads the name that starts at a place, if one does: its stem, and from its first digit on its suffix. Its first letter comes last
-// into the number, and so stands lowest.
+// Reads the name that starts at a place, if one does: its stem, and from its first digit on its suffix, which most names have not. Its
+// first letter comes last into the number, and so stands lowest.
 pub(crate) fn read(table: &Table, text: &[u8], at: usize) -> Option<Name>
     ensures { NameRead text.now at result }
 {
@@ -95,10 +95,14 @@ pub(crate) fn read(table: &Table, text: &[u8], at: usize) -> Option<Name>
         return None;
     }
     let stem = read_stem(table, &text[at + 1..]);
+    let key = with_code(stem.key, table.code(lead));
     let end = at + 1 + stem.end;
+    if !text::is_digit(text::byte_at(text, end)) {
+        return Some(Name { key, end });
+    }
     let suffix = word_bytes(&text[end..]);
     Some(Name {
-        key: with_code(stem.key, table.code(lead)) + class(suffix) * SUFFIX_PLACE,
+        key: key + class(suffix) * SUFFIX_PLACE,
         end: end + suffix.len(),
     })
 }

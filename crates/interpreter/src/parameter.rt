@@ -9,7 +9,7 @@ ghost use Rattle.interpreter.specs.ParameterParts.{counted, meant_given, meant_w
 
 use crate::deed::{Change, Deed, Query, Role, Saving};
 use crate::table::Table;
-use crate::words::{FIRST_WITH_NUMBERS, Words};
+use crate::words::Words;
 use crate::{cuts, words};
 use registers::error::Error;
 use registers::number::Decimal;
@@ -53,9 +53,9 @@ pub(crate) fn count(text: &[u8]) -> Result<usize, Error>
     }
     let mut parts: usize = 1;
     let mut visible = false;
-    let mut mark: u8 = 0;
+    let mut mark = None;
     for &b in text {
-        if (mark == 0) & (b == b',') {
+        if mark.is_none() & (b == b',') {
             if !visible {
                 return Err(Error::Syntax);
             }
@@ -72,13 +72,20 @@ pub(crate) fn count(text: &[u8]) -> Result<usize, Error>
     Ok(parts)
 }
 
-// Tells what a setting takes; where its words begin in the table tells whether it takes numbers. No query takes one.
+// Tells whether a setting takes numbers: one whose values are words takes none.
+fn takes_numbers(row: usize) -> bool
+    ensures { result ≡ takes_numbers (kind_of row) }
+{
+    !matches!(Settings::values_of(row), Values::Word)
+}
+
+// Tells what a setting takes. No query takes a number.
 fn setting_takes(row: usize, asked: bool) -> Takes
     requires { row < count }
     ensures { TakesOf (words_of (kind_of row)) (takes_numbers (kind_of row) && not asked) (quantity_of row) result }
 {
     let words = words::of_setting(row);
-    let numbers = if (FIRST_WITH_NUMBERS <= words.first) & !asked {
+    let numbers = if takes_numbers(row) & !asked {
         Some(Settings::quantity_of(row))
     } else {
         None

@@ -3,7 +3,7 @@ ghost use Rattle.std.specs.Prelude.{◌≡◌};
 ghost use Rattle.registers.specs.Error.{meant};
 ghost use Rattle.interpreter.specs.ParameterParts.{label_to};
 
-use crate::cuts;
+use crate::cuts::Quote;
 use crate::deed::{Change, Deed, Query};
 use registers::error::Error;
 use registers::{label, text};
@@ -16,7 +16,7 @@ pub(crate) fn decide(asked: bool, text: &[u8]) -> Result<Deed, Error>
     if asked {
         return Ok(Deed::Query(Query::Label));
     }
-    if cuts::quote_next(0, text::byte_at(text, 0)) == 0 {
+    if Quote::read(text::byte_at(text, 0)).is_none() {
         return Err(Error::DataType);
     }
     let label = label::read(text);

@@ -3,10 +3,10 @@ ghost use Rattle.std.specs.Prelude.{◌≡◌, ◌<◌};
 ghost use Rattle.registers.specs.Answer.{Laid};
 ghost use Rattle.registers.specs.Settings.{count, kind_of};
 ghost use Rattle.registers.specs.Words.{short_form, long_form, matches};
-ghost use Rattle.interpreter.specs.Parameter.{words_of, takes_numbers};
-ghost use Rattle.interpreter.specs.WordsParts.{word_count, word_at, agreed, form_length, TakenOf, short_table};
+ghost use Rattle.interpreter.specs.Parameter.{words_of};
+ghost use Rattle.interpreter.specs.WordsParts.{word_count, word_at, agreed, form_length, TakenOf};
 
-use crate::table::{Table, WORDS};
+use crate::table::Table;
 use registers::settings::Settings;
 use registers::{answer, text};
 
@@ -35,12 +35,6 @@ const OF_SETTINGS: [Words; Settings::COUNT] = [
     BOUNDS, BOUNDS, BOUNDS, BOUNDS, SWITCH, SWITCH, SWITCH, SWITCH, SWITCH, BOUNDS, RANGES, BOUNDS,
     BOUNDS, MODES, MODES, BOUNDS, BOUNDS, BOUNDS, BOUNDS,
 ];
-
-// How many bytes a word has in the table of short forms.
-const SHORT_SIZE: usize = 5;
-
-// The words before this one are those of the settings that take no numbers.
-pub(crate) const FIRST_WITH_NUMBERS: usize = 6;
 
 // Tells whether a word's short or its long form has so many letters.
 fn has_length(table: &Table, word: usize, n: usize) -> bool
@@ -82,40 +76,33 @@ pub(crate) fn is_word(table: &Table, name: &[u8], word: usize) -> bool
 // Tells which words a setting takes.
 pub(crate) fn of_setting(row: usize) -> Words
     requires { row < count }
-    ensures { TakenOf (words_of (kind_of row)) (takes_numbers (kind_of row)) result }
+    ensures { TakenOf (words_of (kind_of row)) result }
 {
     OF_SETTINGS[row]
 }
 
-// Writes a word in its short form, as the table of short forms has it.
-fn write_from(forms: &[u8], word: usize, tail: &mut [u8]) -> usize
-    requires { (forms.now ≡ short_table) × (word < word_count) }
-    ensures { Laid (short_form (word_at word)) tail.old result tail.new }
+// Gives a word's short form, an empty one where there is no such word.
+fn short_form(word: usize) -> &'static [u8]
+    ensures { result.now ≡ short_form (word_at word) }
 {
-    let row = word * SHORT_SIZE;
-    let start = row + 1;
-    let end = start + forms[row] as usize;
-    answer::write_text(&forms[start..end], tail)
+    match word {
+        0 => b"CURR",
+        1 => b"SCUR",
+        2 => b"VOLT",
+        3 => b"R12V",
+        4 => b"R24V",
+        5 => b"CONT",
+        6 => b"OFF",
+        7 => b"ON",
+        8 => b"MIN",
+        9 => b"MAX",
+        _ => b"",
+    }
 }
 
-// Writes a word in its short form, and nothing where there is no such word. The short forms stand in a small table of their own,
-// so that no answer needs the one that is searched: how many letters a word has, its letters, and zeros.
+// Writes a word in its short form, and nothing where there is no such word.
 pub(crate) fn write_short(word: usize, tail: &mut [u8]) -> usize
     ensures { Laid (short_form (word_at word)) tail.old result tail.new }
 {
-    if WORDS <= word {
-        return 0;
-    }
-    let forms = b"\
-        \x04CURR\
-        \x04SCUR\
-        \x04VOLT\
-        \x04R12V\
-        \x04R24V\
-        \x04CONT\
-        \x03OFF\0\
-        \x02ON\0\0\
-        \x03MIN\0\
-        \x03MAX\0";
-    write_from(forms, word, tail)
+    answer::write_text(short_form(word), tail)
 }

@@ -1,15 +1,33 @@
 -- The search for a separator outside quotes: a byte that separates nothing is passed over, with the quote that is open after it.
 use mathlib.Core.Path.{◌≡◌, refl, sym}
-use mathlib.Core.Bool.{Bool, true, false, ◌||◌, false≢true}
+use mathlib.Core.Bool.{Bool, true, false, not, ◌&&◌, ◌||◌, false≢true}
 use Prim.Native.Nat.{ℕ, suc, ◌+◌, ◌≤◌, ◌<◌}
 use native.Mathlib.Omega.{arith}
 use native.Mathlib.Numerals.{add-one}
 use lib.Dec.{eqb}
 use lib.ListN.{length, get_or, drop, drop_of_length-le}
 use lib.Seq.{drop-cons}
+use Rattle.std.specs.Prelude.{Option, Some, None, is_some}
 use Rattle.registers.specs.Text.{Text, if◌then◌otherwise◌}
 use Rattle.interpreter.specs.Cuts.{is_quote, quote_next, separates}
-use Rattle.interpreter.specs.CutsParts.{place_open, OnWay}
+use Rattle.interpreter.specs.CutsParts.{byte_of, open_mark, place_open, OnWay}
+use Rattle.interpreter.specs.declared.cuts.Quote.{Quote}
+use Rattle.interpreter.specs.declared.cuts.Quote.TheVariants.{Double, Single}
+
+-- no quote has the byte 0
+pub is-open : (q : Quote) → eqb (byte_of q) 0 ≡ false
+is-open Double = refl
+is-open Single = refl
+
+-- how the code asks whether no quote is open, and whether a byte separates
+pub unopened : (mark : Option Quote) (none : Bool) → is_some mark ≡ not none → none ≡ eqb (open_mark mark) 0
+unopened None true e = refl
+unopened None false e = absurd (false≢true e)
+unopened (Some q) true e = absurd (false≢true (sym e))
+unopened (Some q) false e = sym (is-open q)
+
+pub separated : (mark : Option Quote) (s b : ℕ) (none : Bool) → is_some mark ≡ not none → separates s (open_mark mark) b ≡ (none && eqb b s)
+separated mark s b none e = rw (unopened mark none e)
 
 module _ (s : ℕ) (l : Text) (at i mark : ℕ) (w : OnWay s l at i mark) where
   module _ (h : i < length l) where

@@ -2,7 +2,7 @@
 -- stem's; a code of 0 ends it. The name's first byte, a letter, is added last, as the lowest place. A name is its stem and, from the first
 -- digit on, its suffix.
 use mathlib.Core.Path.{◌≡◌, refl, sym, ◌∙◌, ap}
-use mathlib.Core.Bool.{Bool, true, false, not, ◌&&◌}
+use mathlib.Core.Bool.{Bool, true, false, not, ◌&&◌, false≢true}
 use mathlib.Core.List.{[], ◌∷◌}
 use Prim.Native.Nat.{ℕ, suc, ◌+◌, ◌*◌, ◌≤◌, ◌<◌}
 use native.Mathlib.Omega.{arith}
@@ -148,6 +148,15 @@ after-stem (b ∷ u) = go (stem_byte b) refl (after-stem u)
     go true q ih = ih
     go false q ih = q
 
+no_word : (u : Text) → stem_byte (first u) ≡ false → digit (first u) ≡ false → start word_byte u ≡ []
+unfolding if◌then◌otherwise◌
+no_word [] s d = refl
+no_word (b ∷ u) s d = go (word_byte b) refl
+  where
+    go : (w : Bool) → word_byte b ≡ w → (if w then b ∷ start word_byte u otherwise []) ≡ []
+    go true q = absurd (false≢true (sym s ∙ stem-is b ∙ rw (q, d)))
+    go false q = refl
+
 -- ---- the whole name: a letter, the rest of its stem, and the suffix after that
 
 module _ (lead : ℕ) (t : Text) (e : letter lead ≡ true) where
@@ -163,6 +172,9 @@ module _ (lead : ℕ) (t : Text) (e : letter lead ≡ true) where
     after_is : drop r.end t ≡ after stem_byte (lead ∷ t)
     unfolding if◌then◌otherwise◌
     after_is = rw (letter-stem lead e) (end-drop stem_byte t 0 r.end (p.end ∙ sym (zero-add _)))
+
+    pub none-left : digit (first (drop r.end t)) ≡ false → start word_byte (drop r.end t) ≡ []
+    none-left d = rw after_is (no_word (after stem_byte (lead ∷ t)) (after-stem (lead ∷ t)) (rw after_is at d))
 
     pub stem-within : r.end ≤ length t
     stem-within = rw p.end (start-short stem_byte t)
@@ -207,3 +219,14 @@ module _ (t : Text) (at lead : ℕ) (is : lead ≡ first (drop at t)) (e : lette
           key = rw (kind, ← d, here) key;
           end = rw (long, ← d, here) (omega arith);
         }
+
+    -- no digit follows the stem
+    pub plain-name : digit (first (drop (at + 1 + r.end) t)) ≡ false → NameHere t at (record { key = with_code r.key (code_of lead); end = at + 1 + r.end })
+    unfolding class_of if◌then◌otherwise◌
+    plain-name d =
+        let n : start word_byte (drop (at + 1 + r.end) t) ≡ [] =
+        rw (← drop-drop r.end (at + 1) t) (none-left lead (drop (at + 1) t) e r p (rw (drop-drop r.end (at + 1) t) d)) in
+        let w = whole-name 0 0 (rw n) (rw n) in
+        let k : with_code r.key (code_of lead) ≡ with_code r.key (code_of lead) + 0 * suffix_place = omega arith in
+        let z : at + 1 + r.end ≡ at + 1 + r.end + 0 = omega arith in
+        record { lettered = w.lettered; key = k ∙ w.key; end = z ∙ w.end }

@@ -3,7 +3,7 @@
 use mathlib.Core.Path.{◌≡◌, refl, sym, ◌∙◌}
 use mathlib.Core.Bool.{Bool, true, false, ◌||◌, false≢true}
 use mathlib.Core.List.{List, []}
-use Prim.Native.Nat.{ℕ, ◌+◌, ◌<◌}
+use Prim.Native.Nat.{ℕ, ◌+◌, ◌≤◌, ◌<◌}
 use Prim.Native.String.{String}
 use native.Mathlib.Omega.{arith}
 use lib.Dec.{leb}
@@ -15,8 +15,8 @@ use borrow.Author.Tests.{le-ltb, leb-true, leb-false}
 use Rattle.registers.specs.Text.{if◌then◌otherwise◌, bytes, same}
 use Rattle.registers.specs.Words.{short_form}
 use Rattle.registers.specs.Settings.{count, table, setting_at, kind_of, word_text, slots}
-use Rattle.interpreter.specs.Parameter.{words_of, takes_numbers}
-use Rattle.interpreter.specs.WordsParts.{word_count, word_list, word_at, place_in, words_taken, words_in, with_numbers, TakenOf}
+use Rattle.interpreter.specs.Parameter.{words_of}
+use Rattle.interpreter.specs.WordsParts.{word_count, word_list, word_at, place_in, words_taken, words_in, TakenOf}
 use Rattle.interpreter.specs.declared.words.Words.{Words}
 use Rattle.interpreter.proofs.Lists.{listed, agree}
 
@@ -25,12 +25,11 @@ use Rattle.interpreter.proofs.Lists.{listed, agree}
 abbrev at_row : ℕ → Words
 at_row i = get_or words_taken i (record { first = 0; count = 0 })
 
-pub taken_of : (i : ℕ) → i < count → TakenOf (words_of (kind_of i)) (takes_numbers (kind_of i)) (at_row i)
+pub taken_of : (i : ℕ) → i < count → TakenOf (words_of (kind_of i)) (at_row i)
 unfolding listed words_taken place_in word_list setting_at slots table same bytes if◌then◌otherwise◌
 taken_of i h =
     record {
       words = agree count (λ k. words_in (at_row k)) (λ k. words_of (kind_of k)) refl i h;
-      also = agree count (λ k. with_numbers (at_row k)) (λ k. takes_numbers (kind_of k)) refl i h;
       room = leb-true ((at_row i).first + (at_row i).count) word_count
           (agree count (λ k. leb ((at_row k).first + (at_row k).count) word_count) (λ _. true) refl i h);
     }
@@ -40,6 +39,10 @@ taken_of i h =
 pub no_word : short_form "" ≡ []
 unfolding short_form bytes
 no_word = refl
+
+pub past_words : (n : ℕ) → word_count ≤ n → [] ≡ short_form (word_at n)
+unfolding word_at word_list
+past_words n h = rw (get_or-eq_default word_list "" {n = n} h) (sym no_word)
 
 -- the words that a setting takes stand together in the table
 module _ (s : Words) (ws : List String) (is : words_in s ≡ ws) where

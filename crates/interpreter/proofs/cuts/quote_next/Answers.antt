@@ -1,21 +1,14 @@
--- The byte decides by itself, and by the quote that is open.
+use mathlib.Core.Path.{sym, ◌∙◌}
 use borrow.Author.Tests.{eq-eqb, ne_eqb}
 use Rattle.registers.specs.Text.{if◌then◌otherwise◌}
 use Rattle.interpreter.specs.Cuts.{quote_next}
+use Rattle.interpreter.proofs.cuts.Search.{is-open}
 use Rattle.interpreter.proofs.cuts.quote_next.Goals as goal
 
-pub returns-then-b : goal.returns-then-b
+pub returns-in-Some : goal.returns-in-Some
 unfolding quote_next if◌then◌otherwise◌
-returns-then-b c = rw (eq-eqb _ _ c.if-mark-eq0.true, c.if-b.true)
+returns-in-Some c = rw (c.in-Some.is, is-open c.in-Some.quote, eq-eqb _ _ (c.if-b-byte.true ∙ c.byte.ensures))
 
-pub returns-then-mark-eq0 : goal.returns-then-mark-eq0
+pub returns-in-Some-2 : goal.returns-in-Some-2
 unfolding quote_next if◌then◌otherwise◌
-returns-then-mark-eq0 c = rw (eq-eqb _ _ c.if-mark-eq0.true, c.if-b.false)
-
-pub returns-then-b-mark : goal.returns-then-b-mark
-unfolding quote_next if◌then◌otherwise◌
-returns-then-b-mark c = rw (ne_eqb _ _ c.if-mark-eq0.false, eq-eqb _ _ c.if-b-mark.true)
-
-pub returns : goal.returns
-unfolding quote_next if◌then◌otherwise◌
-returns c = rw (ne_eqb _ _ c.if-mark-eq0.false, ne_eqb _ _ c.if-b-mark.false)
+returns-in-Some-2 c = rw (c.in-Some.is, is-open c.in-Some.quote, ne_eqb _ _ (λ e. c.if-b-byte.false (e ∙ sym c.byte.ensures)))

@@ -3,12 +3,12 @@ use mathlib.Core.Path.{sym, ap, ◌∙◌}
 use Prim.Native.Nat.{◌+◌}
 use lib.ListN.{length, drop, length-drop}
 use Rattle.registers.proofs.text.Laws.{start-short}
-use Rattle.registers.specs.Text.{letter, word_byte}
+use Rattle.registers.specs.Text.{letter, digit, word_byte}
 use Rattle.interpreter.specs.NameParts.{with_code, class_of}
 use Rattle.interpreter.proofs.Lists.{rest-is}
 use Rattle.interpreter.proofs.table.Codes.{code-small}
 use Rattle.interpreter.proofs.table.Keys.{class-most}
-use Rattle.interpreter.proofs.name.Laws.{key-few, name-within, ends-within, whole-name}
+use Rattle.interpreter.proofs.name.Laws.{key-few, name-within, ends-within, whole-name, plain-name}
 use native.Mathlib.Omega.{arith}
 use Rattle.interpreter.proofs.name.read.Goals as goal
 
@@ -63,8 +63,17 @@ slice_bounds-word_bytes-start c =
     let within = ends-within a.text.now a.at _ c.byte_at-lead.ensures (sym c.is_letter.ensures ∙ c.if-not-is_letter.false) c.read_stem-stem.result stem in
     within
 
-pub with_code-requires : goal.with_code-requires
-with_code-requires c = rw c.code.ensures (code-small _)
+pub with_code-key-requires : goal.with_code-key-requires
+with_code-key-requires c = rw c.code.ensures (code-small _)
+
+pub returns-then-not-is_digit : goal.returns-then-not-is_digit
+returns-then-not-is_digit c =
+    let a = c.args in
+    let w = name-within a.text.now a.at _ c.byte_at-lead.ensures (sym c.is_letter.ensures ∙ c.if-not-is_letter.false) in
+    let stem = rw (rest-is a.text.now (a.at + 1) (omega arith)) at c.read_stem-stem.ensures in
+    let key = c.with_code-key.ensures ∙ ap (with_code c.read_stem-stem.result.key) c.code.ensures in
+    let none = ap digit (sym c.byte_at.ensures) ∙ sym c.is_digit.ensures ∙ c.if-not-is_digit.true in
+    rw key (plain-name a.text.now a.at _ c.byte_at-lead.ensures (sym c.is_letter.ensures ∙ c.if-not-is_letter.false) c.read_stem-stem.result stem none)
 
 -- a suffix is at most 4
 pub overflow_mul-result : goal.overflow_mul-result
@@ -76,7 +85,7 @@ overflow_add-result c =
     let w = name-within a.text.now a.at _ c.byte_at-lead.ensures (sym c.is_letter.ensures ∙ c.if-not-is_letter.false) in
     let m = class-most c.word_bytes-suffix.result.now in
     let f = key-few c.read_stem-stem.result.key c.byte_at-lead.result in
-    omega (arith, m, f, c.class.ensures, c.with_code.ensures ∙ ap (with_code c.read_stem-stem.result.key) c.code.ensures)
+    omega (arith, m, f, c.class.ensures, c.with_code-key.ensures ∙ ap (with_code c.read_stem-stem.result.key) c.code.ensures)
 
 pub overflow_add-result-2 : goal.overflow_add-result-2
 overflow_add-result-2 c =
@@ -95,7 +104,7 @@ returns c =
     let w = name-within a.text.now a.at _ c.byte_at-lead.ensures (sym c.is_letter.ensures ∙ c.if-not-is_letter.false) in
     let stem = rw (rest-is a.text.now (a.at + 1) (omega arith)) at c.read_stem-stem.ensures in
     let within = ends-within a.text.now a.at _ c.byte_at-lead.ensures (sym c.is_letter.ensures ∙ c.if-not-is_letter.false) c.read_stem-stem.result stem in
-    let key = c.with_code.ensures ∙ ap (with_code c.read_stem-stem.result.key) c.code.ensures in
+    let key = c.with_code-key.ensures ∙ ap (with_code c.read_stem-stem.result.key) c.code.ensures in
     let suffix = rw (rest-is a.text.now (a.at + 1 + c.read_stem-stem.result.end) within) at c.word_bytes-suffix.ensures in
     rw key (whole-name a.text.now a.at _ c.byte_at-lead.ensures (sym c.is_letter.ensures ∙ c.if-not-is_letter.false) c.read_stem-stem.result stem c.class.result (length c.word_bytes-suffix.result.now)
     (c.class.ensures ∙ ap class_of suffix) (ap length suffix))
