@@ -1,6 +1,6 @@
 -- The marker's session as it comes in, byte by byte: how far it is marked, what a byte adds, and what is found at the end. Session.antt says what
 -- a session's verdict is; `MarksSession` below says that what is found is that verdict, however the session is cut.
-use Rattle.std.specs.Prelude.{◌≡◌, Bool, true, false, ◌&&◌, ◌||◌, ℕ, ◌+◌, ◌≤◌, ◌<◌, eqb, ltb, leb, length, take, drop, get_or}
+use Rattle.std.specs.Prelude.{◌≡◌, Bool, true, false, ◌&&◌, ℕ, ◌+◌, ◌≤◌, ◌<◌, eqb, ltb, leb, length, take, drop, get_or, Option, Some, None, unwrap_or}
 use mathlib.Core.List.{List, [], ◌∷◌, ◌++◌, flatten}
 use Prim.Native.Char.{code}
 use Rattle.registers.specs.Text.{Text, if◌then◌otherwise◌, empty}
@@ -8,6 +8,8 @@ use Rattle.interpreter.specs.Box.{Box, memory, blank, answer_is, store_size, mos
 use Rattle.interpreter.specs.Events.{received, happens}
 use Rattle.interpreter.specs.State.{box_of, possible_state, Started}
 use Rattle.writer.specs.Session.{Verdict, agree, differs, broken, verdict_on}
+use Rattle.writer.specs.declared.session.Stage.{Stage}
+use Rattle.writer.specs.declared.session.Stage.TheVariants.{Fresh, Sending, Finding, Differing, Stopped}
 use Rattle.writer.specs.declared.session.Report.{Report}
 use Rattle.writer.specs.declared.session.Report.TheVariants.{Agree, Differs, Broken, Refused}
 use Rattle.writer.specs.declared.session.Place.{Place}
@@ -20,37 +22,25 @@ pub record Progress : Type 0 where
   pub room : Text  -- its first bytes are the answer to the last line sent, until it is found in the record
   pub place : Place
 
--- the stages of a place; any other is a broken record's
-abbrev pub fresh : ℕ
-fresh = 0
+-- nothing has come
+abbrev pub at_start : Place
+at_start = record { stage = Fresh; number = 0; sent = None; waiting = 0 }
 
-abbrev pub sending : ℕ
-sending = 1
-
-abbrev pub finding : ℕ
-finding = 2
-
-abbrev pub differing : ℕ
-differing = 3
-
-abbrev pub stopped : ℕ
-stopped = 4
-
-abbrev pub begun_at : Place → ℕ → ℕ → Place
-begun_at q stage sent = record { stage = stage; number = q.number + 1; sent = sent; waiting = q.waiting; found = 0 }
+abbrev pub begun_at : Place → Stage → Option ℕ → Place
+begun_at q stage sent = record { stage = stage; number = q.number + 1; sent = sent; waiting = q.waiting }
 
 -- the first byte of a line: "`>` before each sent line and `<` before each answer"; "an answer on one side only differs"; "at an empty line or
 -- another first byte it reports a broken record"
 unfoldable pub line_begun : Place → ℕ → Place
 line_begun q x =
-    if eqb x (code "<") then begun_at q finding q.sent
+    if eqb x (code "<") then begun_at q (Finding 0) q.sent
     otherwise (if eqb x (code ">")
-    then (if eqb q.waiting 0 then begun_at q sending (q.number + 1) otherwise begun_at q differing q.sent)
-    otherwise begun_at q stopped q.sent)
+    then (if eqb q.waiting 0 then begun_at q Sending (Some (q.number + 1)) otherwise begun_at q Differing q.sent)
+    otherwise begun_at q Stopped q.sent)
 
 -- a part of a line that is sent: an answer of so many bytes waits, and the line has ended or goes on
 unfoldable pub place_sent : Place → ℕ → Bool → Place
-place_sent q n ended = record { stage = if ended then fresh otherwise q.stage; number = q.number; sent = q.sent; waiting = n; found = q.found }
+place_sent q n ended = record { stage = if ended then Fresh otherwise q.stage; number = q.number; sent = q.sent; waiting = n }
 
 -- the box receives it, and an answer that then waits is taken to the start of the room
 unfoldable pub part_sent : Progress → Text → Bool → Progress
@@ -59,45 +49,57 @@ part_sent p bytes ended =
     let a = b.core.answer in
     record { box = answer_is [] b; room = a ++ drop (length a) p.room; place = place_sent p.place (length a) ended }
 
-abbrev pub found_so : Place → ℕ → ℕ → ℕ → Place
-found_so q stage waiting n = record { stage = stage; number = q.number; sent = q.sent; waiting = waiting; found = n }
+abbrev pub found_so : Place → Stage → ℕ → Place
+found_so q stage waiting = record { stage = stage; number = q.number; sent = q.sent; waiting = waiting }
 
--- a byte of a recorded answer: the box's has it next; with the newline both end
-unfoldable pub place_found : Place → Text → ℕ → Place
-place_found q room x =
-    let n = q.found + 1 in
-    if ltb q.found q.waiting && eqb (get_or room q.found 0) x
-    then (if eqb x 10 then (if eqb n q.waiting then found_so q fresh 0 n otherwise found_so q differing q.waiting n) otherwise found_so q q.stage q.waiting n)
-    otherwise found_so q differing q.waiting q.found
+-- a byte of a recorded answer, of which so many were found: the box's has it next; with the newline both end
+unfoldable pub place_found : Place → ℕ → Text → ℕ → Place
+place_found q n room x =
+    if ltb n q.waiting && eqb (get_or room n 0) x
+    then (if eqb x 10 then (if eqb (n + 1) q.waiting then found_so q Fresh 0 otherwise found_so q Differing q.waiting)
+    otherwise found_so q (Finding (n + 1)) q.waiting)
+    otherwise found_so q Differing q.waiting
 
 abbrev pub placed : Progress → Place → Progress
 placed p q = record { box = p.box; room = p.room; place = q }
 
 -- a byte of the session, by the stage
-unfoldable pub byte_read : Progress → ℕ → Progress
-byte_read p x =
-    if eqb p.place.stage fresh then placed p (line_begun p.place x)
-    otherwise (if eqb p.place.stage sending then part_sent p (x ∷ []) (eqb x 10)
-    otherwise (if eqb p.place.stage finding then placed p (place_found p.place p.room x) otherwise p))
+unfoldable pub byte_at : Stage → Progress → ℕ → Progress
+byte_at Fresh p x = placed p (line_begun p.place x)
+byte_at Sending p x = part_sent p (x ∷ []) (eqb x 10)
+byte_at (Finding n) p x = placed p (place_found p.place n p.room x)
+byte_at Differing p x = p
+byte_at Stopped p x = p
+
+abbrev pub byte_read : Progress → ℕ → Progress
+byte_read p x = byte_at p.place.stage p x
 
 unfoldable pub fed : Progress → Text → Progress
 fed p [] = p
 fed p (x ∷ xs) = fed (byte_read p x) xs
 
+-- a line was begun and hasn't ended
+abbrev pub left_open : Stage → Bool
+left_open Fresh = false
+left_open Sending = true
+left_open (Finding n) = true
+left_open Differing = false
+left_open Stopped = false
+
 -- "a last line without newline counts" (READINGS)
 unfoldable pub closed : Progress → Progress
-closed p = if eqb p.place.stage sending || eqb p.place.stage finding then byte_read p 10 otherwise p
+closed p = if left_open p.place.stage then byte_read p 10 otherwise p
 
 -- ---- what is found
 
 -- at a place where no line is left open
-unfoldable pub report_at : Place → Report
-report_at q =
-    if eqb q.stage fresh
-    then (if eqb q.waiting 0 then Agree q.number otherwise Differs q.sent (q.number + 1) q.waiting)
-    otherwise (if eqb q.stage differing
-    then (if eqb q.sent 0 then Differs q.number q.number q.waiting otherwise Differs q.sent q.number q.waiting)
-    otherwise Broken q.number)
+unfoldable pub report_of : Stage → Place → Report
+report_of Fresh q = if eqb q.waiting 0 then Agree q.number otherwise Differs (unwrap_or q.sent 0) (q.number + 1) q.waiting
+report_of Differing q = Differs (unwrap_or q.sent q.number) q.number q.waiting
+report_of _ q = Broken q.number
+
+abbrev pub report_at : Place → Report
+report_at q = report_of q.stage q
 
 -- a report as a verdict: the box's answer stands at the start of the room. A marker that was refused marks nothing: line 0 is no line
 abbrev pub verdict_of : Report → Text → Verdict
@@ -130,7 +132,7 @@ pub record Lent (store room : Text) : Type 0 where
 
 pub record Begun (m : Marker) : Type 0 where
   pub started : Started m.state
-  pub place : m.place ≡ record { stage = fresh; number = 0; sent = 0; waiting = 0; found = 0 }
+  pub place : m.place ≡ at_start
   pub possible : possible_marker m ≡ true
 
 -- a piece was fed; a marker that can't be is handed back, and nothing that is lent changes

@@ -5,16 +5,14 @@
 //     let mut marker = session::begin();
 //     marker = session::feed(marker, &mut store, &mut room, piece);    // for each piece; the store starts as zeros
 //     let report = session::finish(marker, &mut store, &mut room);
-ghost use Rattle.std.specs.Prelude.{◌≡◌, true, ◌+◌, ◌≤◌, ◌<◌, ltb, length, drop};
-ghost use Rattle.registers.specs.Text.{index_of};
-ghost use Rattle.interpreter.specs.Box.{store_size, most_answer, Box};
+ghost use Rattle.std.specs.Prelude.{◌≡◌, ◌==◌, ◌≤◌, ◌<◌, length, drop, position};
+ghost use Rattle.interpreter.specs.Box.{store_size};
 ghost use Rattle.interpreter.specs.FlowParts.{first_line};
 ghost use Rattle.writer.specs.Marking.{line_begun, place_sent, place_found, possible_marker, Begun, Fed, Finished, report_at};
-ghost use Rattle.writer.specs.MarkingParts.{AnswerRead, Fits, FedAll};
+ghost use Rattle.writer.specs.MarkingParts.{Fits, FedAll};
 
 use interpreter::server;
 use interpreter::state::{ANSWER, STORE, State};
-use registers::text;
 
 // What is found; lines count from 1.
 #[derive(Clone, Copy, Debug, PartialEq, Eq)]
@@ -39,15 +37,25 @@ pub enum Report {
     Refused,
 }
 
-// Where the marker stands: the stage; how many lines have begun; the last that was sent, 0 before the first; how many bytes its
-// answer has in the room until it is found recorded; and how many of them a recorded answer has so far.
+// At the start of a line; behind `>`; behind `<`, where so many bytes of the answer that waits were found; and at rest, by a line that differs
+// or by a broken one.
+#[derive(Clone, Copy)]
+enum Stage {
+    Fresh,
+    Sending,
+    Finding { found: usize },
+    Differing,
+    Stopped,
+}
+
+// Where the marker stands: the stage; how many lines have begun; the last that was sent; and how many bytes its answer has in the
+// room until it is found recorded.
 #[derive(Clone, Copy)]
 pub struct Place {
-    stage: u8,
+    stage: Stage,
     number: usize,
-    sent: usize,
+    sent: Option<usize>,
     waiting: usize,
-    found: usize,
 }
 
 // The box after what was sent so far, each answer taken, and the place.
@@ -57,156 +65,154 @@ pub struct Marker {
     place: Place,
 }
 
-// The stages: at the start of a line; behind `>`; behind `<`, where all agreed so far; and stopped, by a line that differs or by a broken one.
-const FRESH: u8 = 0;
+// The most lines that may have begun before a piece: half of what a `usize` counts, so that those of any piece can be counted too.
+const MOST: usize = 1 << 63;
 
-const SENDING: u8 = 1;
-
-const FINDING: u8 = 2;
-
-const DIFFERS: u8 = 3;
-
-const BROKEN: u8 = 4;
-
-// The most lines that may have begun before a piece, so that they can be counted.
-const MOST: usize = 9223372036854775808;
-
-// How far a recorded answer was compared.
-#[derive(Clone, Copy)]
-struct Compared {
-    place: Place,
-    at: usize,
-}
-
-// Where a line ends, and whether its newline has come.
-#[derive(Clone, Copy)]
-struct Ending {
-    at: usize,
-    ended: bool,
-}
-
-// Takes in the first byte of a line. A line is sent only once the answer to the one before was found.
-fn begin_line(mut place: Place, byte: u8) -> Place
-    requires { place.number < usize.MAX }
-    ensures { result ≡ line_begun place byte }
-{
-    place.number += 1;
-    place.found = 0;
-    if byte == b'<' {
-        place.stage = FINDING;
-        return place;
+impl Place {
+    // Takes in the first byte of a line. A line is sent only once the answer to the one before was found.
+    fn begin_line(self, byte: u8) -> Place
+        requires { self.number < usize.MAX }
+        ensures { result ≡ line_begun self byte }
+    {
+        let number = self.number + 1;
+        let begun = Place { number, ..self };
+        match byte {
+            b'<' => Place {
+                stage: Stage::Finding { found: 0 },
+                ..begun
+            },
+            b'>' if self.waiting == 0 => Place {
+                stage: Stage::Sending,
+                sent: Some(number),
+                ..begun
+            },
+            b'>' => Place {
+                stage: Stage::Differing,
+                ..begun
+            },
+            _ => Place {
+                stage: Stage::Stopped,
+                ..begun
+            },
+        }
     }
-    if byte != b'>' {
-        place.stage = BROKEN;
-        return place;
-    }
-    if place.waiting != 0 {
-        place.stage = DIFFERS;
-        return place;
-    }
-    place.stage = SENDING;
-    place.sent = place.number;
-    place
-}
 
-// Takes in that a part of a line was sent: at its end its answer waits, if it has one.
-fn sent_part(mut place: Place, waiting: usize, ended: bool) -> Place
-    ensures { result ≡ place_sent place waiting ended }
-{
-    place.waiting = waiting;
-    if ended {
-        place.stage = FRESH;
+    // Takes in that a part of a line was sent: at its end its answer waits, if it has one.
+    fn send_part(self, waiting: usize, ended: bool) -> Place
+        ensures { result ≡ place_sent self waiting ended }
+    {
+        let stage = if ended { Stage::Fresh } else { self.stage };
+        Place {
+            stage,
+            waiting,
+            ..self
+        }
     }
-    place
-}
 
-// Takes in a byte of a recorded answer: the box's has to have it next, and to end where the line ends.
-fn find_byte(mut place: Place, room: &[u8], byte: u8) -> Place
-    requires { place.waiting ≤ length room.now }
-    ensures { result ≡ place_found place room.now byte }
-{
-    let found = place.found;
-    if found < place.waiting {
-        if room[found] == byte {
-            place.found = found + 1;
-            if byte != b'\n' {
-                return place;
-            }
-            if place.found == place.waiting {
-                place.stage = FRESH;
-                place.waiting = 0;
-                return place;
+    // Takes in a byte of a recorded answer, of which so many were found: the box's has to have it next, and to end where the line ends.
+    fn find_byte(self, found: usize, room: &[u8], byte: u8) -> Place
+        requires { self.waiting ≤ length room.now }
+        ensures { result ≡ place_found self found room.now byte }
+    {
+        let answer = &room[..self.waiting];
+        if answer.get(found).copied() != Some(byte) {
+            return Place {
+                stage: Stage::Differing,
+                ..self
+            };
+        }
+        let found = found + 1;
+        match byte {
+            b'\n' if found == self.waiting => Place {
+                stage: Stage::Fresh,
+                waiting: 0,
+                ..self
+            },
+            b'\n' => Place {
+                stage: Stage::Differing,
+                ..self
+            },
+            _ => Place {
+                stage: Stage::Finding { found },
+                ..self
+            },
+        }
+    }
+
+    // Reads what was found off a place where no line is left open.
+    fn report(self) -> Report
+        requires { self.number < usize.MAX }
+        ensures { result ≡ report_at self }
+    {
+        let Place {
+            stage,
+            number,
+            sent,
+            waiting,
+        } = self;
+        match stage {
+            Stage::Fresh if waiting == 0 => Report::Agree { lines: number },
+            Stage::Fresh => Report::Differs {
+                line: sent.unwrap_or(0),
+                shown: number + 1,
+                waiting,
+            },
+            Stage::Differing => Report::Differs {
+                line: sent.unwrap_or(number),
+                shown: number,
+                waiting,
+            },
+            Stage::Sending | Stage::Finding { .. } | Stage::Stopped => {
+                Report::Broken { line: number }
             }
         }
     }
-    place.stage = DIFFERS;
-    place
 }
 
-// Compares a recorded answer with the box's, from a place in the bytes to the answer's end, to the first difference or to the bytes' end.
-fn find(start: Place, room: &[u8], bytes: &[u8], from: usize) -> Compared
-    requires { (start.waiting ≤ length room.now) × (from < length bytes.now) × (start.stage ≡ 2) }
-    ensures { AnswerRead start room.now bytes.now from result }
+fn newline_in(bytes: &[u8]) -> Option<usize>
+    ensures { result ≡ position (λ b. b == 10) bytes.now }
 {
-    let mut place = start;
-    let mut at = from;
-    while (place.stage == FINDING) & (at < bytes.len()) {
-        place = find_byte(place, room, bytes[at]);
-        at += 1;
-    }
-    Compared { place, at }
+    bytes.iter().position(|b| *b == b'\n')
 }
 
-// Gives where the line ends that goes on at a place.
-fn line_end(bytes: &[u8], at: usize) -> Ending
-    requires { at < length bytes.now }
-    ensures { (result.at ≡ at + length (first_line (drop at bytes.now))) × (result.ended ≡ ltb (index_of 10 (drop at bytes.now)) (length (drop at bytes.now))) }
+// Cuts bytes behind their first newline; all of them are the part where they have none.
+fn cut_line(bytes: &[u8]) -> (&[u8], &[u8])
+    ensures { (result.0.now ≡ first_line bytes.now) × (result.1.now ≡ drop (length (first_line bytes.now)) bytes.now) }
 {
-    let end = text::find(bytes, at, b'\n');
-    if end < bytes.len() {
-        return Ending {
-            at: end + 1,
-            ended: true,
-        };
-    }
-    Ending {
-        at: end,
-        ended: false,
+    match newline_in(bytes) {
+        Some(at) => bytes.split_at(at + 1),
+        None => (bytes, &[]),
     }
 }
 
 // Takes in a piece, from stretch to stretch: the first byte of a line, what is sent up to its newline, what is recorded up to its.
-fn feed_all(marker: Marker, store: &mut [u8], room: &mut [u8], bytes: &[u8]) -> Marker
+fn feed_all(mut marker: Marker, store: &mut [u8], room: &mut [u8], bytes: &[u8]) -> Marker
     requires { Fits marker store.old room.old bytes.now }
     ensures { FedAll marker store.old room.old bytes.now result store.new room.new }
 {
-    let mut state = marker.state;
-    let mut place = marker.place;
-    let mut at: usize = 0;
-    while at < bytes.len() {
-        let stage = place.stage;
-        if stage == FRESH {
-            place = begin_line(place, bytes[at]);
-            at += 1;
-            continue;
+    let mut rest = bytes;
+    while let [first, behind @ ..] = rest {
+        match marker.place.stage {
+            Stage::Fresh => {
+                marker.place = marker.place.begin_line(*first);
+                rest = behind;
+            }
+            Stage::Sending => {
+                let (part, behind) = cut_line(rest);
+                let served = server::serve(marker.state, store, part, room);
+                marker.state = served.state;
+                let ended = part.ends_with(b"\n");
+                marker.place = marker.place.send_part(served.written, ended);
+                rest = behind;
+            }
+            Stage::Finding { found } => {
+                marker.place = marker.place.find_byte(found, room, *first);
+                rest = behind;
+            }
+            Stage::Differing | Stage::Stopped => return marker,
         }
-        if stage == SENDING {
-            let ending = line_end(bytes, at);
-            let end = ending.at;
-            let served = server::serve(state, store, &bytes[at..end], room);
-            state = served.state;
-            place = sent_part(place, served.written, ending.ended);
-            at = end;
-            continue;
-        }
-        if stage != FINDING {
-            return Marker { state, place };
-        }
-        let compared = find(place, room, bytes, at);
-        place = compared.place;
-        at = compared.at;
     }
-    Marker { state, place }
+    marker
 }
 
 // Tells whether a marker is one that `begin` and `feed` can have left: its box is possible and has no answer of its own, the room
@@ -215,11 +221,13 @@ fn possible(marker: Marker, store: &[u8]) -> bool
     requires { length store.now ≡ store_size }
     ensures { result ≡ possible_marker marker }
 {
-    let number = marker.place.number;
-    let waiting = marker.place.waiting;
-    let own = marker.state.waiting;
+    let Place {
+        number,
+        waiting,
+        ..
+    } = marker.place;
     let state = marker.state;
-    state.look(store).is_ok() & (own == 0) & (waiting <= ANSWER) & (number < MOST)
+    state.look(store).is_ok() & (state.waiting == 0) & (waiting <= ANSWER) & (number < MOST)
 }
 
 // Makes the marker of a session of which nothing has come.
@@ -229,11 +237,10 @@ pub fn begin() -> Marker
     Marker {
         state: State::power_up(),
         place: Place {
-            stage: FRESH,
+            stage: Stage::Fresh,
             number: 0,
-            sent: 0,
+            sent: None,
             waiting: 0,
-            found: 0,
         },
     }
 }
@@ -254,41 +261,6 @@ pub fn feed(
     feed_all(marker, store, room, bytes)
 }
 
-// Reads what was found off a place where no line is left open.
-fn report_at(place: Place) -> Report
-    requires { place.number < usize.MAX }
-    ensures { result ≡ report_at place }
-{
-    let number = place.number;
-    let waiting = place.waiting;
-    if place.stage == FRESH {
-        if waiting == 0 {
-            return Report::Agree { lines: number };
-        }
-        let line = place.sent;
-        return Report::Differs {
-            line,
-            shown: number + 1,
-            waiting,
-        };
-    }
-    if place.stage != DIFFERS {
-        return Report::Broken { line: number };
-    }
-    if place.sent == 0 {
-        return Report::Differs {
-            line: number,
-            shown: number,
-            waiting,
-        };
-    }
-    Report::Differs {
-        line: place.sent,
-        shown: number,
-        waiting,
-    }
-}
-
 // Ends the session: a last line without its newline counts as one with it.
 pub fn finish(marker: Marker, store: &mut [u8; STORE], room: &mut [u8; ANSWER]) -> Report
     ensures { Finished marker store.old room.old result store.new room.new }
@@ -296,12 +268,10 @@ pub fn finish(marker: Marker, store: &mut [u8; STORE], room: &mut [u8; ANSWER]) 
     if !possible(marker, store) {
         return Report::Refused;
     }
-    let stage = marker.place.stage;
-    if (stage != SENDING) & (stage != FINDING) {
-        let place = marker.place;
-        return report_at(place);
+    match marker.place.stage {
+        Stage::Sending | Stage::Finding { .. } => {
+            feed_all(marker, store, room, b"\n").place.report()
+        }
+        Stage::Fresh | Stage::Differing | Stage::Stopped => marker.place.report(),
     }
-    let ended = feed_all(marker, store, room, b"\n");
-    let place = ended.place;
-    report_at(place)
 }

@@ -8,7 +8,7 @@ use lib.ListN.{length, length-append, length-replicate}
 use Rattle.registers.specs.Text.{Text}
 use Rattle.interpreter.specs.Box.{Box, Memory, memory, blank, power_up, store_size}
 use Rattle.interpreter.specs.State.{box_of}
-use Rattle.writer.specs.Marking.{Progress, fed, closed, report_at, verdict_of, progress_of, possible_marker, most_lines, Lent, Begun, Fed, Finished, Feeds, none, more, MarksSession}
+use Rattle.writer.specs.Marking.{Progress, at_start, fed, closed, report_at, verdict_of, progress_of, possible_marker, most_lines, Lent, Begun, Fed, Finished, Feeds, none, more, MarksSession}
 use Rattle.writer.specs.declared.session.Place.{Place}
 use Rattle.writer.specs.declared.session.Marker.{Marker}
 use Rattle.writer.specs.declared.session.Report.{Report}
@@ -47,7 +47,7 @@ quiet-start = refl
 
 -- "from power-up", with a store of zeros
 begun-progress : (m : Marker) (store room : Text) → Begun m → store ≡ blank.store
-    → progress_of m store room ≡ record { box = power_up blank; room = room; place = record { stage = 0; number = 0; sent = 0; waiting = 0; found = 0 } }
+    → progress_of m store room ≡ record { box = power_up blank; room = room; place = at_start }
 begun-progress m store room h zeros =
     ap₂ (λ (b : Box) (q : Place). record { box = b; room = room; place = q }) (ap (λ (t : Text). box_of m.state (memory t)) zeros ∙ h.started.first blank) h.place
 
@@ -57,7 +57,7 @@ marks-session m n store room store₁ room₁ store₂ room₂ pieces r h zeros 
     let z : m.place.number ≡ 0 = ap (λ (q : Place). q.number) h.place in
     let w = feeds-all fs lent h.possible (omega arith) in
     let e = end.possible w.lent w.possible in
-    let is : progress_of n store₁ room₁ ≡ fed (record { box = power_up blank; room = room; place = record { stage = 0; number = 0; sent = 0; waiting = 0; found = 0 } }) (flatten pieces) =
+    let is : progress_of n store₁ room₁ ≡ fed (record { box = power_up blank; room = room; place = at_start }) (flatten pieces) =
     w.is ∙ ap (λ (p : Progress). fed p (flatten pieces)) (begun-progress m store room h zeros) in
     ap₂ (λ (x : Report) (t : Text). verdict_of x t) e.0 e.1
     ∙ ap (λ (p : Progress). verdict_of (report_at (closed p).place) (closed p).room) is

@@ -1,87 +1,30 @@
-use mathlib.Core.Path.{sym, ◌∙◌}
-use Prim.Native.Nat.{◌^◌, ◌<◌}
+-- One way for each stage (session/Feeding).
+use mathlib.Core.Path.{ap}
+use mathlib.Core.Logic.{inl, inr}
 use native.Mathlib.Omega.{arith}
-use lib.ListN.{length}
-use Rattle.writer.proofs.session.Feeding.{feed-begun, feed-end, feed-stop, feed-fresh, feed-found, end_after, end-within, feed-sent}
+use Rattle.writer.proofs.session.Bytes.{at_rest}
+use Rattle.writer.proofs.session.Feeding.{sound-waits, feed-end, feed-stop, feed-fresh, feed-found, feed-sent, first-less}
 use Rattle.writer.proofs.session.feed_all.Goals as goal
 
-pub loop-at-init : goal.loop-at-init
-loop-at-init c = feed-begun _ _ _ _ c.requires
+pub loop-rest-preserved-in-Fresh : goal.loop-rest-preserved-in-Fresh
+loop-rest-preserved-in-Fresh c = rw c.begin_line-marker.ensures (feed-fresh c.loop-rest.invariant c.in-len1-up.len_at_least c.in-Fresh.is)
 
-pub bounds-bytes-at : goal.bounds-bytes-at
-bounds-bytes-at c = c.loop-at-test.true
+pub loop-rest-smaller-in-Sending : goal.loop-rest-smaller-in-Sending
+loop-rest-smaller-in-Sending c = rw c.cut_line.ensures.1 (first-less c.loop-rest.invariant c.in-len1-up.len_at_least)
 
-pub begin_line-place-requires : goal.begin_line-place-requires
-begin_line-place-requires c =
-    let small : length c.args.bytes.now < 2 ^ 63 = omega arith in
-    let f = c.loop-at.invariant.few in
-    let h = c.loop-at-test.true in
-    let k = small in
-    let m = c.requires.few in
-    omega arith
+pub loop-rest-preserved-in-Sending : goal.loop-rest-preserved-in-Sending
+loop-rest-preserved-in-Sending c =
+    rw (c.send_part-marker.ensures, c.cut_line.ensures.1)
+    (feed-sent c.loop-rest.invariant c.in-len1-up.len_at_least c.in-Sending.is c.cut_line.ensures.0 c.serve-served.ensures c.serve-served.auto.output c.ends_with-ended.ensures.value)
 
-pub overflow_add-at : goal.overflow_add-at
-overflow_add-at c =
-    let small : length c.args.bytes.now < 2 ^ 63 = omega arith in
-    let h = c.loop-at-test.true in let k = small in omega arith
+pub find_byte-marker-requires : goal.find_byte-marker-requires
+find_byte-marker-requires c = let w = sound-waits _ c.loop-rest.invariant.sound in let l = c.loop-rest.invariant.lent.wide in omega arith
 
-pub loop-at-smaller-then-stage-eq-FRESH : goal.loop-at-smaller-then-stage-eq-FRESH
-loop-at-smaller-then-stage-eq-FRESH c = let h = c.loop-at-test.true in omega arith
+pub loop-rest-preserved : goal.loop-rest-preserved
+loop-rest-preserved c = rw c.find_byte-marker.ensures (feed-found c.loop-rest.invariant c.in-len1-up.len_at_least c.in-Finding.is)
 
-pub loop-at-preserved-then-stage-eq-FRESH : goal.loop-at-preserved-then-stage-eq-FRESH
-loop-at-preserved-then-stage-eq-FRESH c = rw c.begin_line-place.ensures (feed-fresh _ _ _ _ _ _ _ _ _ c.loop-at.invariant c.loop-at-test.true c.if-stage-eq-FRESH.true)
-
-pub line_end-ending-requires : goal.line_end-ending-requires
-line_end-ending-requires c = c.loop-at-test.true
-
-pub slice_bounds-serve-count : goal.slice_bounds-serve-count
-slice_bounds-serve-count c = let h = end_after _ _ _ c.loop-at-test.true c.line_end-ending.ensures.0 in omega arith
-
-pub loop-at-smaller-then-stage-eq-SENDING : goal.loop-at-smaller-then-stage-eq-SENDING
-loop-at-smaller-then-stage-eq-SENDING c =
-    let t = c.loop-at-test.true in
-    let e = c.line_end-ending.ensures.0 in let h = end_after _ _ _ t e in
-    let k = end-within _ _ _ t e in
-    omega arith
-
-pub loop-at-preserved-then-stage-eq-SENDING : goal.loop-at-preserved-then-stage-eq-SENDING
-loop-at-preserved-then-stage-eq-SENDING c =
-    rw (c.sent_part-place.ensures, c.line_end-ending.ensures.1)
-    (feed-sent _ _ _ _ _ _ _ _ _ c.loop-at.invariant c.loop-at-test.true c.if-stage-eq-SENDING.true _ c.line_end-ending.ensures.0
-    _ _ _ _ _ _ c.serve-served.ensures c.serve-served.auto.output)
-
-pub shape_of-store-then-stage-ne-FINDING : goal.shape_of-store-then-stage-ne-FINDING
-shape_of-store-then-stage-ne-FINDING c = c.loop-at.invariant.lent.sized ∙ sym c.requires.lent.sized
-
-pub shape_of-room-then-stage-ne-FINDING : goal.shape_of-room-then-stage-ne-FINDING
-shape_of-room-then-stage-ne-FINDING c = c.loop-at.invariant.lent.wide ∙ sym c.requires.lent.wide
-
-pub returns-then-stage-ne-FINDING : goal.returns-then-stage-ne-FINDING
-returns-then-stage-ne-FINDING c = feed-stop _ _ _ _ _ _ _ _ _ c.loop-at.invariant c.if-stage-eq-FRESH.false c.if-stage-eq-SENDING.false c.if-stage-ne-FINDING.true
-
-pub find-compared-requires : goal.find-compared-requires
-find-compared-requires c =
-    let g = c.loop-at.invariant in let w = c.loop-at.invariant.waits in
-    let l = c.loop-at.invariant.lent.wide in
-    (omega arith, c.loop-at-test.true, c.if-stage-ne-FINDING.false)
-
-pub loop-at-smaller : goal.loop-at-smaller
-loop-at-smaller c =
-    let w = c.find-compared.ensures in let s = c.find-compared.ensures.some in
-    let h = c.find-compared.ensures.within in
-    omega arith
-
-pub loop-at-preserved : goal.loop-at-preserved
-loop-at-preserved c = feed-found _ _ _ _ _ _ _ _ _ c.loop-at.invariant c.if-stage-ne-FINDING.false c.find-compared.ensures
-
-pub shape_of-store : goal.shape_of-store
-shape_of-store c = c.loop-at.invariant.lent.sized ∙ sym c.requires.lent.sized
-
-pub shape_of-room : goal.shape_of-room
-shape_of-room c = c.loop-at.invariant.lent.wide ∙ sym c.requires.lent.wide
+pub returns-in-Differing : goal.returns-in-Differing
+returns-in-Differing c = feed-stop c.loop-rest.invariant (elim c.in-Differing.is [ inl e ↦ ap at_rest e | inr e ↦ ap at_rest e ])
 
 pub returns : goal.returns
-returns c = feed-end _ _ _ _ _ _ _ _ _ c.loop-at.invariant c.loop-at-test.false
-
-pub slice_bounds-serve-end : goal.slice_bounds-serve-end
-slice_bounds-serve-end c = end-within _ _ _ c.loop-at-test.true c.line_end-ending.ensures.0
+returns c = feed-end _ c.loop-rest.invariant c.in_default.len_below
