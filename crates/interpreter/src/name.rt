@@ -71,8 +71,8 @@ fn word_bytes(text: &[u8]) -> &[u8]
     text
 }
 
-// Tells which suffix it is: 0 for none, 1, 2, 3 for other digits, 4 for what is no number. A number, since it is packed beside the
-// name's in the one that is compared.
+// Tells which suffix it is: 0 for none, 1, 2, 3 for other digits, 4 for what is no number. A number, since it is packed beside
+// the name's in the one that is compared.
 fn class(suffix: &[u8]) -> u64
     ensures { result ≡ class_of suffix.now }
 {
@@ -85,8 +85,8 @@ fn class(suffix: &[u8]) -> u64
     }
 }
 
-// Reads the name that starts at a place, if one does: its stem, and from its first digit on its suffix, which most names have not. Its
-// first letter comes last into the number, and so stands lowest.
+// Reads the name that starts at a place, if one does: its stem, and from its first digit on its suffix, which most have not.
+// Its first letter comes last into the number, and so stands lowest.
 pub(crate) fn read(table: &Table, text: &[u8], at: usize) -> Option<Name>
     ensures { NameRead text.now at result }
 {

@@ -8,8 +8,8 @@ use crate::deed::{Change, Deed, Query};
 use registers::error::Error;
 use registers::{label, text};
 
-// Decides on the display's text: a query asks for it, and a string sets it. The text itself is not kept here: it is read again where
-// it is stored.
+// Decides on the display's text: a query asks for it, and a string sets it. The text itself is not kept here: it is read again
+// where it is stored.
 pub(crate) fn decide(asked: bool, text: &[u8]) -> Result<Deed, Error>
     ensures { meant result ≡ label_to asked text.now }
 {

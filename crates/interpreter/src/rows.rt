@@ -103,7 +103,9 @@ pub(crate) fn find(table: &Table, names: &[u64], star: bool, asked: bool) -> Opt
     None
 }
 
-// Tells which suffix a header has, the first of its names' that is one: 0 for none, 1, 2, 3 for other digits.
+// Tells which suffix a header has, the first of its names' that is one: 0 for none, 1, 2, 3 for other digits. A number, as the
+// names hold it: an enum would need a reading beside `class_of`, which tells what is no number from other digits, and no row
+// takes either.
 pub(crate) fn suffix(names: &[u64]) -> u64
     ensures { result ≡ class_in names.now }
 {

@@ -63,8 +63,8 @@ fn agreed_letters(table: &Table, text: &[u8], word: usize) -> usize
     text.len()
 }
 
-// Tells whether a text spells a word, in its short or its long form. The short form is a start of the long one, so one walk over the letters
-// decides both: all bytes of the text were letters of the word, and one of the two forms has that many.
+// Tells whether a text spells a word, in its short or its long form. The short form is a start of the long one, so one walk over
+// the letters decides both: all bytes of the text were letters of the word, and one of the two forms has that many.
 pub(crate) fn is_word(table: &Table, name: &[u8], word: usize) -> bool
     requires { word < word_count }
     ensures { result ≡ matches (word_at word) name.now }
