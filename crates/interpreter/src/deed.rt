@@ -88,7 +88,8 @@ pub enum Role {
     Label,
 }
 
-// What each row of 'Registers and queue' is for, the register sets last.
+// What each row of 'Registers and queue' is for, the register sets last. A static: what a const names was made anew at each header, which
+// cost a tenth more instructions. So each set's five rows are written out.
 static OTHER_ROLES: [Role; ROWS - Settings::ROWS] = [
     Role::Only(Deed::Query(Query::Identity)),
     Role::Only(Deed::Query(Query::SelfTest)),

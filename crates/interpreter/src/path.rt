@@ -5,7 +5,8 @@ ghost use Rattle.interpreter.specs.NameParts.{most_names};
 // How many names are held: no row has more than five nodes, so a header with more names has no row, and nothing is lost.
 pub(crate) const MOST_NAMES: usize = 7;
 
-// The first names are those of the path; the places after them are for the header that is read.
+// The first names are those of the path; the places after them are for the header that is read. An array and a length, as nothing is
+// allocated.
 #[derive(Drop)]
 pub(crate) struct Path {
     pub(crate) names: [u64; MOST_NAMES],

@@ -55,7 +55,7 @@ fn take_node(table: &Table, names: &[u64], at: usize, node: u8) -> Option<usize>
     leave_out(node, at)
 }
 
-// Gives a header's form as the bit that its row has for it.
+// Gives a header's form as the bit that its row has for it in the table (`row_cell`).
 fn form_bit(star: bool, asked: bool) -> u8
     ensures { result ≡ form_bit star asked }
 {

@@ -10,7 +10,7 @@ use crate::sizes::{ANSWER, LINE, STORE};
 use crate::state::{Refusal, State};
 use crate::table::Table;
 
-// How far a chunk was served: bytes read of the input, and written of the output.
+// How far a chunk was served: bytes read of the input, and written of the output; both 0 of a refused chunk, as `Serves` says of each.
 #[derive(Clone, Copy)]
 pub struct Served {
     pub outcome: Result<(), Refusal>,

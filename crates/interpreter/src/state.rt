@@ -68,7 +68,7 @@ pub struct Reported {
 }
 
 impl Refusal {
-    // Gives its number in 01's table.
+    // Gives its number in 01's table. By a match, as one case holds a length.
     pub fn number(self) -> u8
         ensures { result ≡ refusal_number self }
     {
@@ -121,7 +121,7 @@ impl State {
         })
     }
 
-    // Puts the small part back beside the arrays.
+    // Puts the small part back beside the arrays: field by field, so that no array is copied.
     pub(crate) fn keep(&mut self, flow: Flow)
         ensures { self.new ≡ state_of flow self.old.line self.old.answer }
     {

@@ -125,7 +125,8 @@ pub(crate) struct Table {
 }
 
 impl Table {
-    // Reads a byte of a parameter's word: the lengths of its two forms, then its letters.
+    // Reads a byte of a parameter's word: the lengths of its two forms, then its letters. Words, rows and nodes are bare numbers below
+    // their counts, here and where they are looked up: types for them would be taken apart at each cell.
     pub(crate) fn word_cell(&self, word: usize, i: usize) -> u8
         requires { (word < word_count) × (i < word_size) }
         ensures { result ≡ word_cell word i }
@@ -168,7 +169,6 @@ impl Table {
         self.bytes[FIRST_START + mark] as usize
     }
 
-    // Makes the table.
     pub(crate) fn commands() -> Table {
         Table {
             bytes: *b"\

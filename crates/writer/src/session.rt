@@ -33,7 +33,7 @@ pub enum Report {
     Broken {
         line: usize,
     },
-    // The marker is none that `begin` and `feed` left.
+    // The marker is none that `begin` and `feed` left. A case beside the others, for a report is all that a program tells.
     Refused,
 }
 
