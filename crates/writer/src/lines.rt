@@ -241,7 +241,8 @@ impl Draft {
         self.push(b"\n");
     }
 
-    // Appends the line of a slot, if it differs.
+    // Appends the line of a slot, if it differs. Only this function and `of` take both settings: a struct for the pair would
+    // be no plainer.
     fn push_row(&mut self, present: Settings, wanted: Settings, slot: usize)
         requires { (slot < count) × (possible_settings wanted ≡ true) × (length self.old + most_one_line ≤ ROOM) }
         ensures { self.new ≡ self.old ++ line_at present wanted slot }

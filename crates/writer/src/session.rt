@@ -37,8 +37,8 @@ pub enum Report {
     Refused,
 }
 
-// At the start of a line; behind `>`; behind `<`, where so many bytes of the answer that waits were found; and at rest, by a line that differs
-// or by a broken one.
+// At the start of a line; behind `>`; behind `<`, where so many bytes of the answer that waits were found; and stopped for
+// good, by a line that differs or by a broken one.
 #[derive(Clone, Copy)]
 enum Stage {
     Fresh,
@@ -65,7 +65,8 @@ pub struct Marker {
     place: Place,
 }
 
-// The most lines that may have begun before a piece: half of what a `usize` counts, so that those of any piece can be counted too.
+// The most lines that may have begun before a piece: half of what a `usize` counts, so that those of any piece can be
+// counted too.
 const MOST: usize = 1 << 63;
 
 impl Place {
@@ -109,7 +110,8 @@ impl Place {
         }
     }
 
-    // Takes in a byte of a recorded answer, of which so many were found: the box's has to have it next, and to end where the line ends.
+    // Takes in a byte of a recorded answer, of which so many were found: the box's has to have it next, and to end where the
+    // line ends.
     fn find_byte(self, found: usize, room: &[u8], byte: u8) -> Place
         requires { self.waiting ≤ length room.now }
         ensures { result ≡ place_found self found room.now byte }
@@ -152,6 +154,7 @@ impl Place {
         } = self;
         match stage {
             Stage::Fresh if waiting == 0 => Report::Agree { lines: number },
+            // an answer waits, so a line was sent
             Stage::Fresh => Report::Differs {
                 line: sent.unwrap_or(0),
                 shown: number + 1,
@@ -185,7 +188,7 @@ fn cut_line(bytes: &[u8]) -> (&[u8], &[u8])
     }
 }
 
-// Takes in a piece, from stretch to stretch: the first byte of a line, what is sent up to its newline, what is recorded up to its.
+// Takes in a piece: the first byte of a line, what is sent up to its newline, or a byte of what is recorded in each turn.
 fn feed_all(mut marker: Marker, store: &mut [u8], room: &mut [u8], bytes: &[u8]) -> Marker
     requires { Fits marker store.old room.old bytes.now }
     ensures { FedAll marker store.old room.old bytes.now result store.new room.new }

@@ -23,7 +23,7 @@ use Rattle.interpreter.specs.Line.{held, byte, piece}
 use Rattle.interpreter.specs.Events.{happens}
 use Rattle.interpreter.specs.FlowParts.{first_line}
 use Rattle.interpreter.proofs.Choices.{if-elim}
-use Rattle.writer.specs.Marking.{Progress, line_begun, place_sent, part_sent, place_found, begun_at, found_so, placed, byte_at, byte_read, fed}
+use Rattle.writer.specs.Marking.{Progress, line_begun, place_sent, part_sent, place_found, begun_at, found_so, placed, byte_at, byte_read, fed, left_open, closed}
 use Rattle.writer.specs.declared.session.Stage.{Stage}
 use Rattle.writer.specs.declared.session.Stage.TheVariants.{Fresh, Sending, Finding, Differing, Stopped}
 use Rattle.writer.specs.declared.session.Place.{Place}
@@ -77,6 +77,16 @@ pub fed-rest : (p : Progress) (xs : Text) → at_rest p.place.stage ≡ true →
 unfolding fed
 fed-rest p [] e = refl
 fed-rest p (x ∷ xs) e = ap (λ (q : Progress). fed q xs) (byte-rest p.place.stage p x e) ∙ fed-rest p xs e
+
+-- a newline closes a line that is left open
+module _ (p : Progress) where
+  pub closed-open : left_open p.place.stage ≡ true → closed p ≡ byte_read p 10
+  unfolding closed if◌then◌otherwise◌
+  closed-open e = rw e
+
+  pub closed-no : left_open p.place.stage ≡ false → closed p ≡ p
+  unfolding closed if◌then◌otherwise◌
+  closed-no e = rw e
 
 -- ---- what is sent
 

@@ -8,7 +8,7 @@ use native.Mathlib.Omega.{arith}
 use lib.Dec.{eqb, ltb, leb}
 use lib.ListN.{length, take, drop, get_or, length-take, length-drop, take-append-drop}
 use borrow.Author.Tests.{leb-true, le-leb, lt-ltb, ltb-true}
-use Rattle.registers.specs.Text.{Text, if◌then◌otherwise◌, empty}
+use Rattle.registers.specs.Text.{Text, empty}
 use Rattle.registers.proofs.Tests.{and_both, and-true, front-empty}
 use Rattle.interpreter.specs.Box.{Box, memory, blank, right_size, power_up, store_size, most_answer}
 use Rattle.interpreter.specs.Events.{look, Result, result_of, Happened, happens}
@@ -30,7 +30,7 @@ use Rattle.writer.specs.declared.session.Place.{Place}
 use Rattle.writer.specs.declared.session.Marker.{Marker}
 use Rattle.writer.specs.declared.session.Report.{Report}
 use Rattle.writer.specs.declared.session.Report.TheVariants.{Refused}
-use Rattle.writer.proofs.session.Bytes.{fed-append, fed-first, byte-fresh, byte-finding, at_rest, fed-rest, fed-sent, ends, ends-part, first-front, first_some, first-within}
+use Rattle.writer.proofs.session.Bytes.{fed-append, fed-first, byte-fresh, byte-finding, at_rest, fed-rest, fed-sent, ends, ends-part, first-front, first_some, first-within, closed-open, closed-no}
 use Rattle.writer.proofs.session.Serving.{part-possible, part-silent, part-stored, part-written, part-sent}
 
 -- ---- a sound marker
@@ -264,16 +264,6 @@ module _ (m : Marker) (store room bytes : Text) {t : Bool} (is : t ≡ possible_
 
 -- ---- the end of a session
 
--- what is still open after the bytes: a newline closes it
-module _ (p : Progress) where
-  closing : left_open p.place.stage ≡ true → closed p ≡ fed p (10 ∷ [])
-  unfolding closed fed if◌then◌otherwise◌
-  closing e = rw e
-
-  closed-as : left_open p.place.stage ≡ false → closed p ≡ p
-  unfolding closed if◌then◌otherwise◌
-  closed-as e = rw e
-
 pub counted : (m : Marker) {t : Bool} → t ≡ possible_marker m → not t ≡ false → m.place.number < most_lines
 counted m {t} is e = possible-few m (sym is ∙ not-false t e)
 
@@ -285,7 +275,7 @@ module _ (m : Marker) (store room : Text) {t : Bool} (is : t ≡ possible_marker
   module _ (e : not t ≡ false) where
     pub finish-plain : left_open m.place.stage ≡ false → r ≡ report_at m.place → Finished m store room r store room
     finish-plain shut f =
-        let c = closed-as (progress_of m store room) shut in
+        let c = closed-no (progress_of m store room) shut in
         record {
           possible = λ _ _. (f ∙ ap (λ (p : Progress). report_at p.place) (sym c), ap (λ (p : Progress). p.room) (sym c), ap (λ (p : Progress). p.box.core.memory) (sym c));
           impossible = λ _ p. absurd (false≢true (sym p ∙ sym is ∙ not-false t e));
@@ -293,8 +283,9 @@ module _ (m : Marker) (store room : Text) {t : Bool} (is : t ≡ possible_marker
 
     pub finish-open : left_open m.place.stage ≡ true → {n : Marker} {store' room' : Text}
         → FedAll m store room (10 ∷ []) n store' room' → r ≡ report_at n.place → Finished m store room r store' room'
+    unfolding fed
     finish-open some {n} {store'} {room'} w f =
-        let c : progress_of n store' room' ≡ closed (progress_of m store room) = w.is ∙ sym (closing (progress_of m store room) some) in
+        let c : progress_of n store' room' ≡ closed (progress_of m store room) = w.is ∙ sym (closed-open (progress_of m store room) some) in
         record {
           possible = λ _ _. (f ∙ ap (λ (p : Progress). report_at p.place) c, ap (λ (p : Progress). p.room) c, ap (λ (p : Progress). p.box.core.memory) c);
           impossible = λ _ p. absurd (false≢true (sym p ∙ sym is ∙ not-false t e));

@@ -23,7 +23,7 @@ use Rattle.writer.specs.declared.session.Stage.{Stage}
 use Rattle.writer.specs.declared.session.Stage.TheVariants.{Fresh, Sending, Finding, Differing, Stopped}
 use Rattle.writer.specs.Marking.{Progress, at_start, begun_at, found_so, line_begun, place_sent, part_sent, place_found, placed, byte_read, fed, closed, left_open, report_of, report_at, verdict_of}
 use Rattle.writer.specs.declared.session.Place.{Place}
-use Rattle.writer.proofs.session.Bytes.{byte-fresh, byte-sending, byte-finding, at_rest, fed-rest, part-byte, plain-answer, begun-answer, begun-broken, begun-early, begun-sent, found-next, found_all, found-long, found-other, goes_on}
+use Rattle.writer.proofs.session.Bytes.{byte-fresh, byte-sending, byte-finding, at_rest, fed-rest, closed-open, closed-no, part-byte, plain-answer, begun-answer, begun-broken, begun-early, begun-sent, found-next, found_all, found-long, found-other, goes_on}
 
 -- ---- the bytes up to the next newline, and the lines after it
 
@@ -112,17 +112,6 @@ record Bridge (t : Text) : Type 0 where
   fresh : FreshSays t
   sending : SendingSays t
   finding : FindingSays t
-
--- ---- where a line is left open, and where none is
-
-module _ (p : Progress) where
-  closed-open : left_open p.place.stage ≡ true → closed p ≡ byte_read p 10
-  unfolding closed if◌then◌otherwise◌
-  closed-open e = rw e
-
-  closed-no : left_open p.place.stage ≡ false → closed p ≡ p
-  unfolding closed if◌then◌otherwise◌
-  closed-no e = rw e
 
 -- ---- where it has stopped
 
