@@ -15,7 +15,7 @@ use registers::settings::Settings;
 use registers::status::Status;
 
 // Tells whether a deed passes the lock, which lets the settings change only by switching an output off, and then
-// check 8. Both refuse by -221, so one answer serves for the two.
+// check 8. Both refuse by -221, so one answer serves for the two. Reset, text and place are arms of their own, as each is tried by an edit.
 pub(crate) fn is_permitted(present: Present, deed: Deed) -> bool
     ensures { permitted deed (core_in present.settings present.status) ≡ check 221 result }
 {

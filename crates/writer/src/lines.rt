@@ -22,7 +22,7 @@ pub enum Refusal {
 }
 
 impl Refusal {
-    // Gives the refusal's number in 02.
+    // Gives the refusal's number in 02. By a match, as one case holds a length.
     pub fn number(self) -> u8
         ensures { result ≡ refusal_number self }
     {
@@ -70,7 +70,8 @@ const MONITOR: usize = 3;
 const BRIGHTNESS: usize = 14;
 
 impl Channel {
-    // Gives a row's slot on the channel; a single setting has the same on both.
+    // Gives a row's slot on the channel; a single setting has the same on both. The interpreter has the same rows of suffixes, and the words
+    // below, in rooms that are not seen from here (02, #114).
     fn slot_of(self, row: usize) -> usize
         ensures { result ≡ slot_of (channel_number self) row }
     {
@@ -164,7 +165,7 @@ fn word_of(slot: usize, value: i32) -> &'static [u8]
 // The room for all lines.
 const ROOM: usize = 1024;
 
-// Lines, as far as they are written. A contract sees their text.
+// Lines, as far as they are written. A contract sees their text. An array and a length, as nothing is allocated.
 #[derive(Drop)]
 struct Draft {
     bytes: [u8; ROOM],
