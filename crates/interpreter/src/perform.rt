@@ -71,7 +71,8 @@ fn status_after(status: Status, deed: Deed) -> Status
     }
 }
 
-// Gives what a deed leaves, all but the answer, which is the reply's affair.
+// Gives what a deed leaves, all but the answer, which is the reply's affair. That a deed may be carried out is a fact of the deed, the
+// settings and the string together: a type for the deed and its string alone would leave the rest of it to say here.
 pub(crate) fn after(present: Present, deed: Deed, string: &[u8]) -> Present
     requires { Allowed present.settings deed × (conflicting deed present.settings ≡ false) × (present.status.queued ≤ most) × AllowedText deed (text_in string.now) }
     ensures { After deed (text_in string.now) present result }
