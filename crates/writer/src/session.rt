@@ -172,6 +172,7 @@ impl Place {
     }
 }
 
+// Gives where bytes have their first newline.
 fn newline_in(bytes: &[u8]) -> Option<usize>
     ensures { result ≡ position (λ b. b == 10) bytes.now }
 {

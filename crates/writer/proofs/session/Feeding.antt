@@ -29,7 +29,6 @@ use Rattle.writer.specs.declared.session.Stage.TheVariants.{Fresh, Sending, Find
 use Rattle.writer.specs.declared.session.Place.{Place}
 use Rattle.writer.specs.declared.session.Marker.{Marker}
 use Rattle.writer.specs.declared.session.Report.{Report}
-use Rattle.writer.specs.declared.session.Report.TheVariants.{Refused}
 use Rattle.writer.proofs.session.Bytes.{fed-append, fed-first, byte-fresh, byte-finding, at_rest, fed-rest, fed-sent, ends, ends-part, first-front, first_some, first-within, closed-open, closed-no}
 use Rattle.writer.proofs.session.Serving.{part-possible, part-silent, part-stored, part-written, part-sent}
 
@@ -137,9 +136,6 @@ pub record Feeding (m : Marker) (store₀ room₀ bytes store room : Text) (r : 
   pub sound : sound_marker r ≡ true
   pub lent : Lent store room
   pub few : r.place.number + length rest ≤ m.place.number + length bytes
-
-pub feed-begun : (m : Marker) (store room bytes : Text) → Fits m store room bytes → Feeding m store room bytes store room m bytes
-feed-begun m store room bytes h = record { left = refl; sound = h.sound; lent = h.lent; few = le_refl _ }
 
 module _ {m : Marker} {store₀ room₀ bytes store room : Text} {r : Marker} where
   pub feed-end : (rest : Text) → Feeding m store₀ room₀ bytes store room r rest → length rest < 1 → FedAll m store₀ room₀ bytes r store room
@@ -268,10 +264,6 @@ pub counted : (m : Marker) {t : Bool} → t ≡ possible_marker m → not t ≡ 
 counted m {t} is e = possible-few m (sym is ∙ not-false t e)
 
 module _ (m : Marker) (store room : Text) {t : Bool} (is : t ≡ possible_marker m) {r : Report} where
-  pub finish-refused : not t ≡ true → r ≡ Refused → Finished m store room r store room
-  finish-refused e f =
-      record { possible = λ _ p. absurd (false≢true (sym (not-true t e) ∙ is ∙ p)); impossible = λ _ _. (f, refl, refl) }
-
   module _ (e : not t ≡ false) where
     pub finish-plain : left_open m.place.stage ≡ false → r ≡ report_at m.place → Finished m store room r store room
     finish-plain shut f =

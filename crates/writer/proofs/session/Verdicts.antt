@@ -212,10 +212,6 @@ unfolding same
 same_none [] = refl
 same_none (x ∷ l) = sym (ne_eqb (length (x ∷ l)) 0 (λ z. omega arith))
 
-none-same : (x : ℕ) (ys : Text) → same [] (x ∷ ys) ≡ false
-unfolding same
-none-same x ys = refl
-
 -- what is left of the answer to find
 module _ (room : Text) (q : Place) (n : ℕ) (holds : q.waiting ≤ length room) where
   abbrev to-find : Text

@@ -1,10 +1,7 @@
 -- A marker that can't be is handed back; another takes the piece in (session/Feeding).
-use Rattle.writer.proofs.session.Feeding.{fit-from, fed-refused, fed-done}
+use Rattle.writer.proofs.session.Feeding.{fit-from, fed-done}
 use borrow.Author.Rules.{rules}
 use Rattle.writer.proofs.session.feed.Goals as goal
-
-pub returns-then-not-possible : goal.returns-then-not-possible
-returns-then-not-possible c = fed-refused _ _ _ _ c.possible.ensures c.if-not-possible.true-raw
 
 pub feed_all-requires : goal.feed_all-requires
 feed_all-requires c = fit-from _ _ _ _ c.possible.ensures c.if-not-possible.false-raw (record { sized = search rules; wide = search rules })
