@@ -72,7 +72,7 @@ impl Bench {
         input: &[u8],
         output: &mut [u8; CHUNK],
     ) -> Result<(), Closed>
-        ensures { HeardPart self.old input.now result self.new }
+        ensures { HeardPart self.old.state (memory self.old.store) input.now result self.new.state (memory self.new.store) }
     {
         let mut rest = input;
         while !rest.is_empty() {
@@ -106,7 +106,7 @@ impl Bench {
         got: io::Result<usize>,
         output: &mut [u8; CHUNK],
     ) -> Result<(), Closed>
-        ensures { HeardRead self.old input.now got result self.new }
+        ensures { HeardRead self.old.state (memory self.old.store) input.now got result self.new.state (memory self.new.store) }
     {
         let n = Bench::count(got, input);
         if n == 0 {
@@ -118,7 +118,7 @@ impl Bench {
     // Serves from power-up until the bench is closed. A proved loop has to end: this one does after more reads
     // than any run makes.
     fn run(rt: &(impl Input + Print), store: [u8; STORE]) -> Bench
-        ensures { HeardSince (memory store) result }
+        ensures { HeardSince (memory store) result.state (memory result.store) }
     {
         let mut input = [0u8; CHUNK];
         let mut output = [0u8; CHUNK];

@@ -5,4 +5,4 @@ use Rattle.bench24.specs.Heard.{HeardSince}
 use Rattle.bench24.proofs.Bench.run.Given as goal
 
 abbrev pub invariant-loop : goal.invariant-loop
-invariant-loop g l = HeardSince (memory l.fn.store) l.bench
+invariant-loop g l = HeardSince (memory l.fn.store) l.bench.state (memory l.bench.store)

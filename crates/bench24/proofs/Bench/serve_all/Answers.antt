@@ -3,7 +3,7 @@ use Rattle.bench24.proofs.Hearing.{hear-begun, read-within, shorter, wrote-answe
 use Rattle.bench24.proofs.Bench.serve_all.Goals as goal
 
 pub loop-rest-init : goal.loop-rest-init
-loop-rest-init g c = hear-begun c.args.self.now c.args.input.now
+loop-rest-init g c = hear-begun _ _ c.args.input.now
 
 pub write_answers-wrote-requires : goal.write_answers-wrote-requires
 write_answers-wrote-requires g c = wrote-answers c.loop-rest.self _ _ _ _ _ _ _ _ c.serve-served.ensures (search rules)
@@ -23,8 +23,8 @@ pub loop-rest-smaller : goal.loop-rest-smaller
 loop-rest-smaller g c = shorter c.loop-rest.self _ _ _ _ _ _ _ _ c.serve-served.ensures (search rules) (search rules) (search rules)
 
 pub loop-rest-preserved : goal.loop-rest-preserved
-loop-rest-preserved g c = hear-on _ _ c.loop-rest.self _ _ _ _ _ _ _ c.loop-rest.invariant c.serve-served.ensures (search rules)
+loop-rest-preserved g c = hear-on _ _ _ c.loop-rest.self _ _ _ _ _ _ _ _ c.loop-rest.invariant c.serve-served.ensures (search rules)
 
 pub returns-in_default : goal.returns-in_default
 returns-in_default g c =
-    hear-stop _ _ c.loop-rest.self _ _ _ _ _ _ _ c.loop-rest.invariant c.serve-served.ensures (search rules) (search rules) (search rules)
+    hear-stop _ _ _ c.loop-rest.self _ _ _ _ _ _ _ _ c.loop-rest.invariant c.serve-served.ensures (search rules) (search rules) (search rules)

@@ -4,4 +4,4 @@ use Rattle.bench24.proofs.Hearing.{none-heard}
 use Rattle.bench24.proofs.Bench.serve_read.Goals as goal
 
 pub returns-then-n-eq0 : goal.returns-then-n-eq0
-returns-then-n-eq0 g c = none-heard _ _ _ (sym c.count-n.ensures.value ∙ c.if-n-eq0.true)
+returns-then-n-eq0 g c = none-heard _ _ _ _ c.args.self.now.possible (sym c.count-n.ensures.value ∙ c.if-n-eq0.true)
