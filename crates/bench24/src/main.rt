@@ -64,8 +64,8 @@ impl Bench {
         rt.write_all(answers)
     }
 
-    // Serves what was read, a full output at a time. A write that fails closes the bench. How far a turn gets only `serve` tells, so
-    // the loop takes that off the rest.
+    // Serves what was read, a full output at a time. A write that fails closes the bench. How far a turn gets only `serve`
+    // tells, so the loop takes that off the rest.
     fn serve_all(
         &mut self,
         rt: &impl Print,

@@ -272,7 +272,7 @@ pub(crate) fn decide_register(register: Register, asked: bool, text: &[u8]) -> R
     }))
 }
 
-// Makes checks 5 to 7 on *SAV and *RCL, whose number is a place of the store.
+// Makes checks 5 to 7 on *SAV and *RCL, whose number is a place of the store. What it shares with a register is `read_whole`.
 pub(crate) fn decide_place(saving: Saving, asked: bool, text: &[u8]) -> Result<Deed, Error>
     ensures { meant result ≡ saving_to saving asked text.now }
 {

@@ -10,7 +10,7 @@ use crate::table::Table;
 use registers::settings::Settings;
 use registers::{answer, text};
 
-// Words that stand together in the table: where they begin, and how many there are.
+// Words that stand together in the table: where they begin, and how many there are. No Range, as std's is not copied.
 #[derive(Clone, Copy)]
 pub(crate) struct Words {
     pub(crate) first: usize,

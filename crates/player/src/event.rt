@@ -22,7 +22,7 @@ pub(crate) enum Event<'a> {
     Look,
 }
 
-// Gives the set whose condition an event of this letter reports.
+// Gives the set whose condition an event of this letter reports. No TryFrom: the letters are the script's alone.
 fn set_of(letter: u8) -> Option<RegisterSet> {
     match letter {
         b'c' => Some(RegisterSet::Operation),

@@ -165,7 +165,8 @@ fn word_of(slot: usize, value: i32) -> &'static [u8]
 // The room for all lines.
 const ROOM: usize = 1024;
 
-// Lines, as far as they are written. A contract sees their text. An array and a length, as nothing is allocated.
+// Lines, as far as they are written. A contract sees their text. An array and a length, as nothing is allocated; each push asks for its
+// room, since how much is left goes by the lines before it.
 #[derive(Drop)]
 struct Draft {
     bytes: [u8; ROOM],
