@@ -1,4 +1,7 @@
 // What a line of the report says of a session, behind its name: each part of it is a value, with its words.
+ghost use Rattle.std.specs.Prelude.{◌≡◌};
+ghost use Rattle.marker.specs.Status.{digit_of};
+
 use interpreter::state::ANSWER;
 use std::fmt;
 use writer::session::Report;
@@ -154,7 +157,9 @@ impl fmt::Display for Difference<'_> {
 
 impl Finding<'_> {
     // Tells it in one digit, as the head of main.rt lists them.
-    pub fn status(&self) -> u8 {
+    pub fn status(&self) -> u8
+        ensures { result ≡ digit_of self.now.report }
+    {
         match self.report {
             Report::Agree { .. } => 0,
             Report::Differs { .. } => 1,
