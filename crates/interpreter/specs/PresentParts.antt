@@ -46,5 +46,6 @@ pub record RefusedWith (e : Error) (p r : Present) : Type 0 where
 
 -- an answer is discarded, if one waits
 pub record Discarded (p r : Present) : Type 0 where
+  pub queued : p.status.queued ≤ most → r.status.queued ≤ most
   pub gone : r.answered ≡ 0
   pub box : (out : Text) (m : Memory) → 0 < length out → box_in r [] m ≡ interrupted (box_at p out m)

@@ -6,7 +6,7 @@ ghost use Rattle.interpreter.specs.Box.{Memory, memory, most_line, most_answer};
 ghost use Rattle.interpreter.specs.Line.{newlines};
 
 use crate::line;
-use crate::present::Present;
+use crate::present::{Present, Running};
 use crate::sizes::{ANSWER, LINE, STORE};
 use crate::table::Table;
 use registers::text;
@@ -30,17 +30,16 @@ impl Flow {
     ghost use Rattle.interpreter.specs.FlowParts.{first_line, Untold, FlowFed};
 
     // Forgets the waiting answer, which was taken.
-    pub(crate) fn without_answer(mut self) -> Flow
-        ensures { Untold self result }
+    pub(crate) fn forget_answer(&mut self)
+        ensures { Untold self.old self.new }
     {
         self.present.answered = 0;
-        self
     }
 
     // Adds bytes without a newline to the line, as many as it has room for; "further bytes are dropped".
-    fn hold(mut self, line: &mut [u8; LINE], part: &[u8]) -> Flow
-        requires { (self.read + length part.now < 2 ^ 63) × (newlines part.now ≡ 0) }
-        ensures { (out : Text) (m : Memory) → FlowFed self line.old out m part.now result line.new out m }
+    fn hold(&mut self, line: &mut [u8; LINE], part: &[u8])
+        requires { (self.old.read + length part.now < 2 ^ 63) × (newlines part.now ≡ 0) }
+        ensures { (out : Text) (m : Memory) → FlowFed self.old line.old out m part.now self.new line.new out m }
     {
         let at = self.filled;
         let n = part.len().min(LINE - at);
@@ -48,51 +47,48 @@ impl Flow {
         self.filled = at + n;
         self.overlong = self.overlong | (n < part.len());
         self.read += part.len();
-        self
     }
 
     // Ends a line: a waiting answer is first discarded, then the line that was held is run.
     fn newline(
-        self,
+        &mut self,
         table: &Table,
         line: &[u8; LINE],
         out: &mut [u8; ANSWER],
         store: &mut [u8; STORE],
-    ) -> Flow
-        requires { self.read < 2 ^ 63 }
-        ensures { FlowFed self line.now out.old (memory store.old) (10 ∷ []) result line.now out.new (memory store.new) }
+    )
+        requires { self.old.read < 2 ^ 63 }
+        ensures { FlowFed self.old line.now out.old (memory store.old) (10 ∷ []) self.new line.now out.new (memory store.new) }
     {
-        let running = self.present.discard();
+        let running = Running {
+            present: self.present.discard(),
+        };
         let held = &line[..self.filled];
-        let next = line::run_line(table, running, held, self.overlong, out, store);
-        Flow {
-            present: next,
-            filled: 0,
-            overlong: false,
-            read: self.read + 1,
-            count: self.count + 1,
-        }
+        self.present = line::run_line(table, running, held, self.overlong, out, store);
+        self.filled = 0;
+        self.overlong = false;
+        self.read += 1;
+        self.count += 1;
     }
 
     // Takes in the next line, its bytes with their newline, or all there are where none ends it.
     pub(crate) fn feed_line(
-        self,
+        &mut self,
         table: &Table,
         line: &mut [u8; LINE],
         out: &mut [u8; ANSWER],
         store: &mut [u8; STORE],
         bytes: &[u8],
-    ) -> Flow
-        requires { self.read ≤ length bytes.now }
-        ensures { FlowFed self line.old out.old (memory store.old) (first_line (drop self.read bytes.now)) result line.new out.new (memory store.new) }
+    )
+        requires { self.old.read ≤ length bytes.now }
+        ensures { FlowFed self.old line.old out.old (memory store.old) (first_line (drop self.old.read bytes.now)) self.new line.new out.new (memory store.new) }
     {
         let at = self.read;
         let end = text::find(bytes, at, b'\n');
-        let held = self.hold(line, &bytes[at..end]);
+        self.hold(line, &bytes[at..end]);
         if end < bytes.len() {
-            return held.newline(table, line, out, store);
+            self.newline(table, line, out, store);
         }
-        held
     }
 
     // Takes bytes in, line by line. The table is made once for all of them. The loop goes by the count of bytes read, which `serve`
@@ -109,7 +105,7 @@ impl Flow {
     {
         let table = Table::commands();
         while self.read < bytes.len() {
-            self = self.feed_line(&table, line, out, store, bytes);
+            self.feed_line(&table, line, out, store, bytes);
         }
         self
     }

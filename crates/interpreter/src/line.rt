@@ -10,7 +10,7 @@ ghost use Rattle.interpreter.specs.PresentParts.{core_in};
 ghost use Rattle.interpreter.specs.ReplyParts.{ordinary};
 ghost use Rattle.interpreter.specs.HeaderParts.{IsPath, Held};
 ghost use Rattle.interpreter.specs.UnitParts.{Allowed, AllowedText};
-ghost use Rattle.interpreter.specs.LineParts.{CarriedOut, UnitRan, UnitsRan, LineRan};
+ghost use Rattle.interpreter.specs.LineParts.{CarriedOut, UnitRan, GoesOn, UnitsRan, LineRan};
 
 use crate::deed::{Deed, Saving};
 use crate::path::Path;
@@ -23,13 +23,13 @@ use registers::{setup, text};
 
 // Carries out *SAV or *RCL, which the lock let pass: the settings go to their block of the store, or come from it.
 fn set_up(
-    running: Running,
+    running: &mut Running,
     saving: Saving,
     place: usize,
     store: &mut [u8; STORE],
-) -> Result<Running, Error>
-    requires { (permitted (Deed.Saving saving place) (core_in running.present.settings running.present.status) ≡ passed tt) × (place < places) }
-    ensures { (t out : Text) → CarriedOut (Deed.Saving saving place) t running.present out (memory store.old) result out (memory store.new) }
+) -> Result<(), Error>
+    requires { (permitted (Deed.Saving saving place) (core_in running.old.present.settings running.old.present.status) ≡ passed tt) × (place < places) }
+    ensures { (t out : Text) → CarriedOut (Deed.Saving saving place) t running.old.present out (memory store.old) result running.new.present out (memory store.new) }
 {
     let at = place * setup::BLOCK;
     let end = at + setup::BLOCK;
@@ -37,48 +37,45 @@ fn set_up(
         Saving::Save => {
             let block = setup::block_of(running.present.settings);
             store[at..end].copy_from_slice(&block);
-            Ok(running)
+            Ok(())
         }
         Saving::Recall => match setup::recall(&store[at..end]) {
-            Ok(settings) => Ok(Running {
-                present: Present {
-                    settings,
-                    ..running.present
-                },
-            }),
+            Ok(settings) => {
+                running.present.settings = settings;
+                Ok(())
+            }
             Err(_) => Err(Error::SaveRecallMemoryLost),
         },
     }
 }
 
 // Carries out any other unit that the lock and check 8 let pass: what it does, and check 9. Where check 9 refuses, "the query isn't
-// performed", and what it would have left is forgotten. The string is the unit's parameter, if it has one.
+// performed". The string is the unit's parameter, if it has one.
 fn do_deed(
-    running: Running,
+    running: &mut Running,
     deed: Deed,
     string: &[u8],
     out: &mut [u8; ANSWER],
-) -> Result<Running, Error>
-    requires { (permitted deed (core_in running.present.settings running.present.status) ≡ passed tt) × Allowed running.present.settings deed × AllowedText deed (text_in string.now) × (ordinary deed ≡ true) }
-    ensures { (m : Memory) → CarriedOut deed (text_in string.now) running.present out.old m result out.new m }
+) -> Result<(), Error>
+    requires { (permitted deed (core_in running.old.present.settings running.old.present.status) ≡ passed tt) × Allowed running.old.present.settings deed × AllowedText deed (text_in string.now) × (ordinary deed ≡ true) }
+    ensures { (m : Memory) → CarriedOut deed (text_in string.now) running.old.present out.old m result running.new.present out.new m }
 {
-    let next = perform::after(running.present, deed, string);
     let answered = reply::answer(running.present, deed, out)?;
-    Ok(Running {
-        present: Present { answered, ..next },
-    })
+    running.present = perform::after(running.present, deed, string);
+    running.present.answered = answered;
+    Ok(())
 }
 
 // Carries out a unit that was read, after those before it: the lock and check 8, and what it does.
 fn carry_out(
-    running: Running,
+    running: &mut Running,
     deed: Deed,
     string: &[u8],
     out: &mut [u8; ANSWER],
     store: &mut [u8; STORE],
-) -> Result<Running, Error>
-    requires { Allowed running.present.settings deed × AllowedText deed (text_in string.now) }
-    ensures { CarriedOut deed (text_in string.now) running.present out.old (memory store.old) result out.new (memory store.new) }
+) -> Result<(), Error>
+    requires { Allowed running.old.present.settings deed × AllowedText deed (text_in string.now) }
+    ensures { CarriedOut deed (text_in string.now) running.old.present out.old (memory store.old) result running.new.present out.new (memory store.new) }
 {
     if !perform::is_permitted(running.present, deed) {
         return Err(Error::SettingsConflict);
@@ -89,20 +86,34 @@ fn carry_out(
     }
 }
 
-// Runs one unit after those before it: checks 1 to 7, and what it then does.
+// Runs one unit after those before it: checks 1 to 7, and what it then does. What a unit changes is changed in place, and a refused one
+// leaves it.
 fn run_unit(
     table: &Table,
-    running: Running,
+    running: &mut Running,
     path: &mut Path,
     unit: &[u8],
     out: &mut [u8; ANSWER],
     store: &mut [u8; STORE],
-) -> Result<Running, Error>
+) -> Result<(), Error>
     requires { Held path.old }
-    ensures { (names : List Text) → IsPath names path.old → UnitRan running.present names unit.now out.old (memory store.old) result path.new out.new (memory store.new) }
+    ensures { (names : List Text) → IsPath names path.old → UnitRan running.old.present names unit.now out.old (memory store.old) result running.new.present path.new out.new (memory store.new) }
 {
     let reading = unit::read(table, running.present.settings, path, unit)?;
     carry_out(running, reading.deed, reading.given, out, store)
+}
+
+// Tells whether the line goes on after a unit: after one that was refused "the rest of the line is dropped".
+fn goes_on(running: &mut Running, ran: Result<(), Error>) -> bool
+    ensures { GoesOn ran running.old.present result running.new.present }
+{
+    match ran {
+        Ok(()) => true,
+        Err(error) => {
+            running.present = running.present.refuse(error);
+            false
+        }
+    }
 }
 
 // Runs the units of a line, which is cut at every `;` outside quotes, up to the first that is refused. The path lives as long as
@@ -121,15 +132,9 @@ fn run_units(
     let mut at: usize = 0;
     loop {
         let end = cuts::part_end(line, at, b';');
-        match run_unit(table, running, &mut path, &line[at..end], out, store) {
-            Ok(next) => running = next,
-            Err(error) => {
-                return Running {
-                    present: running.present.refuse(error),
-                };
-            }
-        }
-        if line.len() <= end {
+        let ran = run_unit(table, &mut running, &mut path, &line[at..end], out, store);
+        let more = goes_on(&mut running, ran) & (end < line.len());
+        if !more {
             return running;
         }
         at = end + 1;
@@ -155,14 +160,12 @@ pub(crate) fn run_line(
     if text::white_end(line, 0) == line.len() {
         return running.present;
     }
-    let ran = run_units(table, running, line, out, store).present;
+    let mut ran = run_units(table, running, line, out, store).present;
     let answered = ran.answered;
     if answered == 0 {
         return ran;
     }
     out[answered] = b'\n';
-    Present {
-        answered: answered + 1,
-        ..ran
-    }
+    ran.answered = answered + 1;
+    ran
 }

@@ -47,30 +47,25 @@ impl Present {
     pub(crate) fn refuse(self, error: Error) -> Present
         ensures { RefusedWith error self result }
     {
-        let raised = self.raise(error);
+        let mut left = self.raise(error);
         match error {
-            Error::QueryDeadlocked => Present {
-                answered: 0,
-                ..raised
-            },
-            _ => raised,
+            Error::QueryDeadlocked => {
+                left.answered = 0;
+                left
+            }
+            _ => left,
         }
     }
 
     // Empties the buffer for the answers of a new line: "a waiting answer is first discarded with -410".
-    pub(crate) fn discard(self) -> Running
-        requires { self.status.queued ≤ most }
-        ensures { Discarded self result.present }
+    pub(crate) fn discard(self) -> Present
+        ensures { Discarded self result }
     {
         if self.answered == 0 {
-            return Running { present: self };
+            return self;
         }
-        let raised = self.raise(Error::QueryInterrupted);
-        Running {
-            present: Present {
-                answered: 0,
-                ..raised
-            },
-        }
+        let mut left = self.raise(Error::QueryInterrupted);
+        left.answered = 0;
+        left
     }
 }

@@ -42,12 +42,12 @@ fn lines(
     let table = Table::commands();
     let mut written: usize = 0;
     while (flow.read < input.len()) & (ANSWER <= output.len() - written) {
-        let fed = flow.feed_line(&table, line, out, store, input);
-        let waiting = fed.present.answered;
+        flow.feed_line(&table, line, out, store, input);
+        let waiting = flow.present.answered;
         let end = written + waiting;
         output[written..end].copy_from_slice(&out[..waiting]);
         written = end;
-        flow = fed.without_answer();
+        flow.forget_answer();
     }
     Progress { flow, written }
 }

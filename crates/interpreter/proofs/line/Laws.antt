@@ -21,7 +21,6 @@ use Rattle.interpreter.specs.LineParts.{carried, CarriedOut, UnitRan}
 use Rattle.std.specs.Prelude.{Result, Ok, Err}
 use Rattle.interpreter.specs.declared.deed.Deed.{Deed}
 use Rattle.interpreter.specs.declared.present.Present.{Present}
-use Rattle.interpreter.specs.declared.present.Running.{Running}
 use Rattle.interpreter.specs.declared.path.Path.{Path}
 use Rattle.interpreter.proofs.Checks.{first-check}
 use Rattle.interpreter.proofs.unit.Allowed.{read-allowed, text-allowed}
@@ -37,14 +36,14 @@ module _ (p : Present) (d : Deed) (t out : Text) (m : Memory) where
   unfolding permitted
   seen q = q
 
-  pub deed-barred : (e : Error) → permitted d (core_in p.settings p.status) ≡ refused (number_of e) → CarriedOut d t p out m (Err e) out m
+  pub deed-barred : (e : Error) → permitted d (core_in p.settings p.status) ≡ refused (number_of e) → CarriedOut d t p out m (Err e) p out m
   unfolding ◌>>◌
-  deed-barred e l = (rw (seen l), refl)
+  deed-barred e l = (rw (seen l), refl, refl)
 
   module _ (l : permitted d (core_in p.settings p.status) ≡ passed tt) (left : Text) where
-    pub deed-unanswered : (e : Error) → Answered d t p out (Err e) left → CarriedOut d t p out m (Err e) left m
+    pub deed-unanswered : (e : Error) → Answered d t p out (Err e) left → CarriedOut d t p out m (Err e) p left m
     unfolding ◌>>◌
-    deed-unanswered e says = let a = says m in (rw (seen l, a.0), a.1)
+    deed-unanswered e says = let a = says m in (rw (seen l, a.0), a.1, refl)
 
     pub deed-done : Allowed p.settings d → (next : Present) → After d t p next → (end : ℕ) → Answered d t p out (Ok end) left
         → carried d t b ≡ passed (box_at (record { settings = next.settings; status = next.status; answered = end }) left m)
@@ -64,8 +63,8 @@ module _ (path : List Text) (b : Box) (u : Text) where
   attempt-carried r e = rw e (sym (first-check (permitted r.deed b.core) (perform r.deed r.text b) (λ c. passed (record { path = r.path; box = c }))))
 
 module _ (p : Present) (path : List Text) (unit : Text) (way : Path) where
-  pub unit-refused : (e : Error) → UnitRead p.settings path unit (Err e) way → (out : Text) (m : Memory) → UnitRan p path unit out m (Err e) way out m
-  unit-refused e read out m = (attempt-read path (box_at p out m) unit (number_of e) read, refl)
+  pub unit-refused : (e : Error) → UnitRead p.settings path unit (Err e) way → (out : Text) (m : Memory) → UnitRan p path unit out m (Err e) p way out m
+  unit-refused e read out m = (attempt-read path (box_at p out m) unit (number_of e) read, refl, refl)
 
   module _ (a : Reading) (read : Accepted p.settings path unit a way) where
     -- the text that its parameter gives
@@ -78,7 +77,7 @@ module _ (p : Present) (path : List Text) (unit : Text) (way : Path) where
     pub unit-said : AllowedText a.deed said
     unit-said = text-allowed p.settings path unit read.is
 
-    pub unit-carried : (r : Result Running Error) (out left : Text) (m m' : Memory) → CarriedOut a.deed said p out m r left m' → UnitRan p path unit out m r way left m'
+    pub unit-carried : (r : Result (Unit {0}) Error) (q : Present) (out left : Text) (m m' : Memory) → CarriedOut a.deed said p out m r q left m' → UnitRan p path unit out m r q way left m'
     unfolding ◌>>=◌
-    unit-carried (Ok r) out left m m' c = (read.left, attempt-carried path (box_at p out m) unit _ read.is ∙ rw c, read.holds)
-    unit-carried (Err e) out left m m' c = (attempt-carried path (box_at p out m) unit _ read.is ∙ rw c.0, c.1)
+    unit-carried (Ok x) q out left m m' c = (read.left, attempt-carried path (box_at p out m) unit _ read.is ∙ rw c, read.holds)
+    unit-carried (Err e) q out left m m' c = (attempt-carried path (box_at p out m) unit _ read.is ∙ rw c.0, c.1, c.2)

@@ -54,6 +54,6 @@ module _ (p : Present) (place : ℕ) (store : Text) (t out : Text) where
     recalled s taken is =
         rw (seen p (Saving Recall place) t out (memory store) l, sym taken, is ∙ said-recalled (block_at place store) (sym taken))
 
-    pub lost : false ≡ recallable (block_at place store) → CarriedOut (Saving Recall place) t p out (memory store) (Err SaveRecallMemoryLost) out (memory store)
+    pub lost : false ≡ recallable (block_at place store) → CarriedOut (Saving Recall place) t p out (memory store) (Err SaveRecallMemoryLost) p out (memory store)
     unfolding perform set_up ◌>>=◌ ◌>>◌ check
-    lost unfit = (rw (seen p (Saving Recall place) t out (memory store) l, sym unfit), refl)
+    lost unfit = (rw (seen p (Saving Recall place) t out (memory store) l, sym unfit), refl, refl)

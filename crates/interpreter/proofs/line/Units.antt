@@ -1,7 +1,7 @@
 -- The loop over a line's units. Its invariant, `Going`: the units left at place `at`, run at the box as it stands, do what all units do from the
 -- start. A turn runs the unit up to the next `;`, which is the first of those left (`first-unit`); a refused one ends the line.
 use mathlib.Core.Path.{◌≡◌, refl, sym, ◌∙◌}
-use mathlib.Core.Bool.{Bool, true, false}
+use mathlib.Core.Bool.{Bool, true, false, ◌&&◌, false≢true}
 use mathlib.Core.List.{List, [], ◌∷◌}
 use Prim.Native.Char.{code}
 use Prim.Native.Nat.{ℕ, suc, ◌+◌, ◌-◌, ◌≤◌, ◌<◌, zero-le}
@@ -10,19 +10,20 @@ use native.Mathlib.Numerals.{add-one}
 use lib.Dec.{ltb, leb-suc-suc}
 use lib.ListN.{length, take, drop, length-drop}
 use lib.Seq.{drop-drop}
-use borrow.Author.Tests.{lt-ltb, le-ltb}
+use borrow.Author.Tests.{lt-ltb, le-ltb, ltb-true, ltb-false}
 use Rattle.registers.specs.Text.{Text, if◌then◌otherwise◌}
-use Rattle.std.specs.Prelude.{Ok, Err}
+use Rattle.std.specs.Prelude.{Result, Ok, Err}
 use Rattle.registers.specs.Error.{number_of}
 use Rattle.registers.specs.declared.error.Error.{Error}
 use Rattle.registers.specs.Check.{refused, passed}
+use Rattle.registers.proofs.Tests.{and_both}
 use Rattle.interpreter.specs.Cuts.{quote_next, separates, cut_open}
 use Rattle.interpreter.specs.CutsParts.{place_open}
 use Rattle.interpreter.specs.Box.{memory, Box}
 use Rattle.interpreter.specs.Line.{Obeyed, attempt, refuse, run_units}
 use Rattle.interpreter.specs.HeaderParts.{IsPath}
 use Rattle.interpreter.specs.PresentParts.{box_in, box_at, RefusedWith}
-use Rattle.interpreter.specs.LineParts.{UnitRan}
+use Rattle.interpreter.specs.LineParts.{UnitRan, GoesOn}
 use Rattle.interpreter.specs.declared.present.Present.{Present}
 use Rattle.interpreter.specs.declared.present.Running.{Running}
 use Rattle.interpreter.specs.declared.path.Path.{Path}
@@ -100,17 +101,17 @@ module _ (b : Box) (line : Text) (way : Path) (out store : Text) (d : Running) (
   first = rw n (first-unit 0 here)
 
   -- the unit was refused
-  pub going_stopped : (e : Error) → UnitRan d.present g.path (take (end - at) here) out (memory store) (Err e) more left (memory kept)
-      → (q : Present) → RefusedWith e d.present q → box_at q left (memory kept) ≡ run_units (cut_open (code ";") 0 line) [] b
-  going_stopped e w q r =
-      r.box left (memory kept) ∙ w.1 ∙ sym (run-stop (take (end - at) here) (others 0 here) g.path before (number_of e) w.0) ∙ (rw first at g.left)
+  going_stopped : (s : Running) (e : Error) → UnitRan d.present g.path (take (end - at) here) out (memory store) (Err e) s.present more left (memory kept)
+      → (q : Present) → RefusedWith e s.present q → box_at q left (memory kept) ≡ run_units (cut_open (code ";") 0 line) [] b
+  going_stopped s e w q r =
+      r.box left (memory kept) ∙ (rw w.2 w.1) ∙ sym (run-stop (take (end - at) here) (others 0 here) g.path before (number_of e) w.0) ∙ (rw first at g.left)
 
   -- the unit was obeyed
-  module _ (r : Running) (w : UnitRan d.present g.path (take (end - at) here) out (memory store) (Ok r) more left (memory kept)) where
+  module _ (r : Running) (w : UnitRan d.present g.path (take (end - at) here) out (memory store) (Ok tt) r.present more left (memory kept)) where
     passes : run_units (others 0 here) w.0 (box_at r.present left (memory kept)) ≡ run_units (cut_open (code ";") 0 line) [] b
     passes = sym (run_on (take (end - at) here) (others 0 here) g.path before _ w.1) ∙ (rw first at g.left)
 
-    pub going_on : end < length line → Going b line more left kept r (end + 1)
+    going_on : end < length line → Going b line more left kept r (end + 1)
     going_on h =
         let m = n in
         let f = length-drop at line in
@@ -118,8 +119,22 @@ module _ (b : Box) (line : Text) (way : Path) (out store : Text) (d : Running) (
         let rest : others 0 here ≡ cut_open (code ";") 0 (drop (end + 1) line) = rw (others-more here (omega arith), drop-drop (place_open (code ";") 0 here + 1) at line, next) in
         record { within = omega arith; path = w.0; holds = w.2; left = rw rest at passes }
 
-    pub going_end : length line ≤ end → box_at r.present left (memory kept) ≡ run_units (cut_open (code ";") 0 line) [] b
+    going_end : length line ≤ end → box_at r.present left (memory kept) ≡ run_units (cut_open (code ";") 0 line) [] b
     going_end h =
         let m = n in
         let f = length-drop at line in
         sym (run_none _ _) ∙ (rw (others-none here (omega arith)) at passes)
+
+  -- what is left of the line's units, as the code asks whether it goes on
+  abbrev Ran : Result (Unit {0}) Error → Running → Type 0
+  Ran ran s = UnitRan d.present g.path (take (end - at) here) out (memory store) ran s.present more left (memory kept)
+
+  pub going_stop : (s q : Running) (ran : Result (Unit {0}) Error) → Ran ran s → (goes : Bool) → GoesOn ran s.present goes q.present
+      → (goes && ltb end (length line)) ≡ false → box_at q.present left (memory kept) ≡ run_units (cut_open (code ";") 0 line) [] b
+  going_stop s q (Ok x) w goes on e = going_end q (rw (← on.1) at w) (ltb-false end (length line) (rw on.0 at e))
+  going_stop s q (Err x) w goes on e = going_stopped s x w q.present on.1
+
+  pub going_next : (s q : Running) (ran : Result (Unit {0}) Error) → Ran ran s → (goes : Bool) → GoesOn ran s.present goes q.present
+      → (goes && ltb end (length line)) ≡ true → Going b line more left kept q (end + 1)
+  going_next s q (Ok x) w goes on e = going_on q (rw (← on.1) at w) (ltb-true end (length line) (and_both goes (ltb end (length line)) e).1)
+  going_next s q (Err x) w goes on e = absurd (false≢true (rw on.0 at e))

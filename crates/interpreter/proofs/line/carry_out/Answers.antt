@@ -11,7 +11,7 @@ use Rattle.interpreter.proofs.line.carry_out.Goals as goal
 pub returns-then-not-is_permitted : goal.returns-then-not-is_permitted
 returns-then-not-is_permitted c =
     let a = c.args in
-    deed-barred a.running.present a.deed (text_in a.string.now) a.out.now (memory a.store.now) SettingsConflict
+    deed-barred a.running.now.present a.deed (text_in a.string.now) a.out.now (memory a.store.now) SettingsConflict
     (barred _ _ c.is_permitted.result c.is_permitted.ensures c.if-not-is_permitted.true-raw)
 
 pub set_up-requires : goal.set_up-requires

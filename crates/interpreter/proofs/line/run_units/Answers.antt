@@ -1,43 +1,37 @@
 use native.Mathlib.Omega.{arith}
-use Rattle.interpreter.proofs.line.Units.{going_start, going_stopped, going_on, going_end}
+use lib.ListN.{length}
+use borrow.Author.Tests.{ltb-true}
+use Rattle.registers.proofs.Tests.{and_both}
+use Rattle.interpreter.proofs.line.Units.{going_start, going_stop, going_next}
 use Rattle.interpreter.proofs.line.run_units.Goals as goal
 
-pub loop-next-init : goal.loop-next-init
-loop-next-init c =
+pub loop-path-init : goal.loop-path-init
+loop-path-init c =
     let a = c.args in
     going_start a.running a.line.now c.root-path.result a.out.now a.store.now c.root-path.ensures c.requires
 
 pub part_end-end-requires : goal.part_end-end-requires
-part_end-end-requires c = c.loop-next.invariant.within
+part_end-end-requires c = c.loop-path.invariant.within
 
 pub slice_bounds-run_unit-count : goal.slice_bounds-run_unit-count
 slice_bounds-run_unit-count c = omega (arith, c.part_end-end.ensures.0)
 
-pub run_unit-requires : goal.run_unit-requires
-run_unit-requires c = let g = c.loop-next.invariant in (g.path, g.holds)
+pub run_unit-ran-requires : goal.run_unit-ran-requires
+run_unit-ran-requires c = let g = c.loop-path.invariant in (g.path, g.holds)
 
-pub invariant_of-result : goal.invariant_of-result
-invariant_of-result c =
-    let less = c.refuse.ensures.room in
-    let room = c.loop-next.running.room_left in
-    record { queue_fits = c.refuse.ensures.queued c.loop-next.running.queue_fits; room_left = omega arith }
+pub returns-then-not-more : goal.returns-then-not-more
+returns-then-not-more c =
+    let g = c.loop-path.invariant in
+    going_stop _ _ _ _ _ _ _ g c.part_end-end.result c.part_end-end.ensures.0 c.part_end-end.ensures.1 c.run_unit-ran.new.path _ _ c.run_unit-ran.new.running c.goes_on.new.running _
+    (c.run_unit-ran.ensures g.path g.holds) _ c.goes_on.ensures c.if-not-more.true
 
-pub returns-in-Err : goal.returns-in-Err
-returns-in-Err c =
-    let g = c.loop-next.invariant in
-    going_stopped _ _ _ _ _ _ _ g c.part_end-end.result c.part_end-end.ensures.0 c.part_end-end.ensures.1 c.run_unit.new.path _ _ c.in-Err.error
-    (c.in-Err.ensures g.path g.holds) c.refuse.result c.refuse.ensures
+pub loop-path-smaller : goal.loop-path-smaller
+loop-path-smaller c =
+    let more = ltb-true c.part_end-end.result (length c.args.line.now) (and_both _ _ c.if-not-more.false).1 in
+    omega (arith, c.part_end-end.ensures.0)
 
-pub returns-then-line-end : goal.returns-then-line-end
-returns-then-line-end c =
-    let g = c.loop-next.invariant in
-    going_end _ _ _ _ _ _ _ g c.part_end-end.result c.part_end-end.ensures.0 c.part_end-end.ensures.1 c.run_unit.new.path _ _ c.in-Ok.next
-    (c.in-Ok.ensures g.path g.holds) c.if-line-end.true
-
-pub loop-next-smaller : goal.loop-next-smaller
-loop-next-smaller c = omega (arith, c.part_end-end.ensures.0)
-
-pub loop-next-preserved : goal.loop-next-preserved
-loop-next-preserved c =
-    let g = c.loop-next.invariant in
-    going_on _ _ _ _ _ _ _ g c.part_end-end.result c.part_end-end.ensures.0 c.part_end-end.ensures.1 c.run_unit.new.path _ _ c.in-Ok.next (c.in-Ok.ensures g.path g.holds) c.if-line-end.false
+pub loop-path-preserved : goal.loop-path-preserved
+loop-path-preserved c =
+    let g = c.loop-path.invariant in
+    going_next _ _ _ _ _ _ _ g c.part_end-end.result c.part_end-end.ensures.0 c.part_end-end.ensures.1 c.run_unit-ran.new.path _ _ c.run_unit-ran.new.running c.goes_on.new.running _
+    (c.run_unit-ran.ensures g.path g.holds) _ c.goes_on.ensures c.if-not-more.false

@@ -8,8 +8,8 @@ use Rattle.interpreter.specs.PresentParts.{box_in}
 use Rattle.interpreter.proofs.line.Units.{Going}
 use Rattle.interpreter.proofs.line.run_units.Given as goal
 
-abbrev pub invariant-loop-next : goal.invariant-loop-next
-invariant-loop-next l = Going (box_in l.initial.running.present [] (memory l.initial.store)) l.line l.path l.out l.store l.running l.at
+abbrev pub invariant-loop-path : goal.invariant-loop-path
+invariant-loop-path l = Going (box_in l.initial.running.present [] (memory l.initial.store)) l.line l.path l.out l.store l.running l.at
 
-abbrev pub decreases-loop-next : goal.decreases-loop-next
-decreases-loop-next l = length l.line - l.at
+abbrev pub decreases-loop-path : goal.decreases-loop-path
+decreases-loop-path l = length l.line - l.at

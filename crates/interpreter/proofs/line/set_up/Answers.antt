@@ -8,8 +8,8 @@ returns-in-Save c =
     let a = c.args in
     let told = c.in-Save.is in
     λ t out. rw told
-    (saved a.running.present a.place a.store.now t out (rw told at c.requires.0) _
-    (rw (c.copy_from_slice.ensures.after, c.block_of-block.ensures) (block-laid a.place a.running.present.settings a.store.now)))
+    (saved a.running.now.present a.place a.store.now t out (rw told at c.requires.0) _
+    (rw (c.copy_from_slice.ensures.after, c.block_of-block.ensures) (block-laid a.place a.running.now.present.settings a.store.now)))
 
 pub returns-in-Ok : goal.returns-in-Ok
 returns-in-Ok c =
@@ -17,7 +17,7 @@ returns-in-Ok c =
     let told = c.in-Recall.is in
     let read = block_read a.place _ _ a.store.now refl refl in
     λ t out. rw told
-    (recalled a.running.present a.place a.store.now t out (rw told at c.requires.0) c.in-Ok.settings (rw read at c.in-Ok.ensures.good_value)
+    (recalled a.running.now.present a.place a.store.now t out (rw told at c.requires.0) c.in-Ok.settings (rw read at c.in-Ok.ensures.good_value)
     (rw read at c.in-Ok.ensures.settings_value))
 
 pub returns-in-Err : goal.returns-in-Err
@@ -25,4 +25,4 @@ returns-in-Err c =
     let a = c.args in
     let told = c.in-Recall.is in
     λ t out. rw told
-    (lost a.running.present a.place a.store.now t out (rw told at c.requires.0) (rw (block_read a.place _ _ a.store.now refl refl) at c.in-Err.ensures.good_value))
+    (lost a.running.now.present a.place a.store.now t out (rw told at c.requires.0) (rw (block_read a.place _ _ a.store.now refl refl) at c.in-Err.ensures.good_value))

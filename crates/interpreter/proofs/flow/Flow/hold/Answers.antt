@@ -11,5 +11,5 @@ pub returns : goal.returns
 returns c =
     let a = c.args in
     let long : length a.line.now ≡ most_line = search rules in
-    held-fed a.self a.line.now a.part.now long c.requires.1 c.min-n.result _ _ c.min-n.ensures refl refl refl refl refl
-    (pasted a.line.now a.self.filled a.part.now c.min-n.result _ c.copy_from_slice.ensures.after)
+    held-fed a.self.now a.line.now a.part.now long c.requires.1 c.min-n.result _ _ c.min-n.ensures refl refl refl refl refl
+    (pasted a.line.now a.self.now.filled a.part.now c.min-n.result _ c.copy_from_slice.ensures.after)

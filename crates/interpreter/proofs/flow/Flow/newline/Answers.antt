@@ -11,18 +11,18 @@ use Rattle.interpreter.specs.Line.{byte, piece, newlines}
 use Rattle.interpreter.proofs.line.Newline.{ended}
 use Rattle.interpreter.proofs.flow.Flow.newline.Goals as goal
 
-pub run_line-next-requires : goal.run_line-next-requires
-run_line-next-requires c = c.discard-running.ensures.gone
+pub run_line-self-requires : goal.run_line-self-requires
+run_line-self-requires c = c.discard.ensures.gone
 
 pub returns : goal.returns
 unfolding piece byte newlines if◌then◌otherwise◌
 returns c =
     let a = c.args in
-    let f = a.self in
+    let f = a.self.now in
     let outs : length a.out.now ≡ most_answer = search rules in
     let room : 0 < length a.out.now = omega arith in
-    let w = c.run_line-next.ensures in record {
-      box = rw (← ended f.present a.out.now (memory a.store.now) c.discard-running.result.present c.discard-running.ensures room (take f.filled a.line.now) f.overlong) c.run_line-next.ensures.box;
+    let w = c.run_line-self.ensures in record {
+      box = rw (← ended f.present a.out.now (memory a.store.now) _ c.discard.ensures room (take f.filled a.line.now) f.overlong) c.run_line-self.ensures.box;
       read = refl;
       count = refl;
     }
