@@ -1,9 +1,14 @@
 // Overwrites a number of the raw record, or its text, so that states can be tried that the box never
 // comes to.
+ghost use Rattle.std.specs.Prelude.{◌≡◌, ℕ, ◌<◌, Some, IfSome};
+ghost use Rattle.std.specs.Fmt.{decimal};
+ghost use Rattle.registers.specs.Settings.{count};
+
 use crate::script;
 use interpreter::state::State;
 use registers::group::Group;
 use registers::label::TEXT;
+use registers::settings::Settings;
 use registers::status::{RegisterSet, Status};
 
 // What a script can name of the record.
@@ -37,12 +42,20 @@ enum Register {
     Ntr,
 }
 
-// Reads a place of an array, written without leading zeros.
-fn place(text: &[u8]) -> Option<usize> {
-    match text {
-        [b'0', _, ..] => None,
-        _ => script::number(text),
+// As many places as the longer of the record's two arrays has.
+const PLACES: usize = Settings::COUNT;
+
+// Reads a place of an array, written without leading zeros. There is none past the longer one's end.
+fn place(text: &[u8]) -> Option<usize>
+    ensures below { IfSome result (λ n. n < count) }
+    ensures spelt { IfSome result (λ n. text.now ≡ decimal n) }
+    ensures each { (n : ℕ) → n < count → text.now ≡ decimal n → result ≡ Some n }
+{
+    if text.len() > 1 && text[0] == b'0' {
+        return None;
     }
+    let n = script::number(text)?;
+    (n < PLACES).then_some(n)
 }
 
 // Finds a register of a set by its name.

@@ -112,39 +112,46 @@ impl Player {
         rt.write_all(self.report.written())
     }
 
-    // Takes in bytes of the script: a newline ends a line, and bytes past a line's room are dropped.
+    // Takes in bytes of the script: a newline ends a line, and bytes past a line's room are dropped. Where
+    // a report can't be written, the lines after it are played all the same, and the first error is given.
     fn take_in(&mut self, rt: &impl Print, bytes: &[u8]) -> io::Result<()> {
+        let mut outcome = Ok(());
         for b in bytes {
             if *b == b'\n' {
-                self.end_line(rt)?;
+                outcome = outcome.and(self.end_line(rt));
             } else {
                 let _ = self.line.try_push(*b);
             }
         }
-        Ok(())
+        outcome
     }
 
-    // Plays to the script's end, or to where it can't be read. The last line may lack its newline. A
-    // proved loop has to end, so it counts its turns, up to a number that no run reaches.
+    // Plays to the script's end, or to where it can't be read; where a report can't be written, what was
+    // read is played, and no more is read. The last line may lack its newline. A proved loop has to end,
+    // so it counts its turns, up to a number that no run reaches.
     fn play_all(&mut self, rt: &impl Print, input: &mut impl Read) -> io::Result<()> {
         let mut chunk = [0; CHUNK];
+        let mut outcome = Ok(());
         for _ in 0..u64::MAX {
             let n = input.read(&mut chunk).unwrap_or(0);
             if n == 0 {
                 break;
             }
-            self.take_in(rt, &chunk[..n])?;
+            outcome = self.take_in(rt, &chunk[..n]);
+            if outcome.is_err() {
+                break;
+            }
         }
         if self.line.is_empty() {
-            return Ok(());
+            return outcome;
         }
-        self.end_line(rt)
+        outcome.and(self.end_line(rt))
     }
 }
 
 fn main(rt: HostRuntime) {
     let mut player = Player::new();
     let mut input = rt.stdin();
-    // the run ends where a report can't be written, and that is no failure of the box
+    // the run ends early where a report can't be written, and that is no failure of the box
     let _ = player.play_all(&rt, &mut input);
 }

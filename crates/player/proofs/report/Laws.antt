@@ -1,49 +1,70 @@
--- What `{b:02X}` writes of a byte: its two hex digits, in capitals.
-use Rattle.std.proofs.Common.{◌≡◌, ℕ, Bool, true, false, ◌&&◌, ◌^◌, ◌+◌, ◌-◌, ◌<◌, ◌/◌, ◌%◌, List, [], ◌∷◌, ◌++◌, length, take, get_or, flat_map, Some, refl, sym, ap, ◌∙◌, eqb, eqb-true}
+-- What `Hex` writes: two digits to a byte, all of them ASCII, of the whole parts first and then of the bytes after them.
+use Rattle.std.proofs.Common.{◌≡◌, ℕ, zero, suc, ◌+◌, ◌*◌, ◌<◌, ◌/◌, ◌%◌, ◌==◌, Bool, true, false, nat_lt, List, [], ◌∷◌, ◌++◌, length, map, take, drop, get_or, flat_map, refl, sym, ap, ◌∙◌, arith, ltb-true, drop-drop, append_assoc}
 use Rattle.std.specs.declared.fmt.Formatter.{Formatter}
-use Rattle.std.specs.Fmt.{HasWritten, format_spec, padded_integral, digits, radix_digits, digits_output, styled_digits_output, char_count}
+use Rattle.std.specs.Str.{IsAscii, IsUtf8}
+use Rattle.std.specs.Simd.{first_chunks}
+use Rattle.std.specs.Fmt.{HasWritten}
+use Rattle.std.proofs.Math.Nat.{zero-mul}
 use Rattle.std.proofs.Output.{has_written_append, has_written_of_eq}
-use Rattle.std.proofs.lemmas.List.{take_more, flat_map_more}
-use Rattle.registers.specs.Text.{if◌then◌otherwise◌, below}
-use Rattle.registers.proofs.Tests.{below_at, and_both}
-use Rattle.player.specs.ReportParts.{hex_digit, hex_byte}
+use Rattle.std.proofs.lemmas.List.{take_more, flat_map_more, take-append-drop}
+use Rattle.std.proofs.lemmas.Str.{IsAscii-append, IsUtf8-from_ascii}
+use Rattle.std.proofs.lemmas.Str.Ascii.{IsAscii-nil}
+use Rattle.std.proofs.lemmas.Grind.{flat_map-append}
+use Rattle.std.proofs.lemmas.List.Folds.{flat_map-map}
+use Rattle.registers.specs.Text.{Text, if◌then◌otherwise◌}
+use Rattle.player.specs.ReportParts.{hex_digit, hex_byte, in_hex}
 
--- the list is those two
-is_pair : List ℕ → ℕ → ℕ → Bool
-is_pair (a ∷ b ∷ []) x y = eqb a x && eqb b y
-is_pair _ x y = false
+-- ---- digits as a text
 
-pair-is : (l : List ℕ) (x y : ℕ) → is_pair l x y ≡ true → l ≡ x ∷ y ∷ []
-unfolding is_pair
-pair-is [] x y e = absurd cc
-pair-is (a ∷ []) x y e = absurd cc
-pair-is (a ∷ b ∷ []) x y e =
-    let both = and_both (eqb a x) (eqb b y) e in
-    rw (eqb-true a x both.0, eqb-true b y both.1)
-pair-is (a ∷ b ∷ c ∷ l) x y e = absurd cc
+digit-ascii : (n : ℕ) → n < 16 → hex_digit n < 128
+unfolding if◌then◌otherwise◌
+digit-ascii n h = go (nat_lt n 10) refl
+  where
+    go : (l : Bool) → nat_lt n 10 ≡ l → hex_digit n < 128
+    go true l = let low = ltb-true n 10 l in rw l (omega arith)
+    go false l = rw l (omega arith)
 
-padded : ℕ → List ℕ
-padded b = padded_integral (format_spec 32 0 4 2 (2 ^ 64 - 1)) false [] (digits 16 true b)
+byte-ascii : (b : ℕ) → b < 256 → IsAscii (hex_byte b)
+byte-ascii b h zero = digit-ascii (b / 16) (omega arith)
+byte-ascii b h (suc zero) = digit-ascii (b % 16) (omega arith)
+byte-ascii b h (suc (suc i)) = omega arith
 
--- each of the 256
-two_digits : ℕ → Bool
-two_digits b = is_pair (padded b) (hex_digit (b / 16)) (hex_digit (b % 16))
+bytes-ascii : (bs : Text) → ((i : ℕ) → get_or bs i 0 < 256) → IsAscii (flat_map hex_byte bs)
+bytes-ascii [] h = IsAscii-nil
+bytes-ascii (b ∷ bs) h = IsAscii-append (hex_byte b) (flat_map hex_byte bs) (byte-ascii b (h 0)) (bytes-ascii bs (λ i. h (suc i)))
 
-each : below 256 two_digits ≡ true
-unfolding two_digits is_pair padded padded_integral digits char_count if◌then◌otherwise◌
-each = refl
+pub byte-utf8 : (b : ℕ) → b < 256 → IsUtf8 (hex_byte b)
+byte-utf8 b h = IsUtf8-from_ascii (hex_byte b) (byte-ascii b h)
 
-pub byte-shown : (d : _) (s : _) (b : ℕ) → b < 256 → digits_output d ≡ Some (radix_digits 16 true b) → s ≡ format_spec 32 0 4 2 (2 ^ 64 - 1) → styled_digits_output d s ≡ Some (hex_byte b)
-unfolding two_digits padded
-byte-shown d s b h e f =
-    let two = pair-is (padded b) (hex_digit (b / 16)) (hex_digit (b % 16)) (below_at 256 two_digits each b h) in
-    rw (e, f) (ap Some two)
+pub bytes-utf8 : (bs : Text) → ((i : ℕ) → get_or bs i 0 < 256) → IsUtf8 (flat_map hex_byte bs)
+bytes-utf8 bs h = IsUtf8-from_ascii (flat_map hex_byte bs) (bytes-ascii bs h)
 
--- ---- a byte more of a text in hex
+-- ---- bytes in parts
 
-one-more : (bs : List ℕ) (i : ℕ) → i < length bs → flat_map hex_byte (take i bs) ++ hex_byte (get_or bs i 0) ≡ flat_map hex_byte (take (i + 1) bs)
-one-more bs i h = flat_map_more hex_byte [] (take i bs) (get_or bs i 0) ∙ ap (λ (l : List ℕ). flat_map hex_byte l) (sym (take_more bs i 0 h))
+-- parts in hex
+abbrev pub hex_parts : List Text → Text
+hex_parts parts = flat_map (λ (part : Text). flat_map hex_byte part) parts
+
+pub flattened : (part : Text) → flat_map (λ (pair : Text). pair) (map hex_byte part) ≡ flat_map hex_byte part
+flattened part = flat_map-map (λ (pair : Text). pair) hex_byte part
+
+pub in-parts : (n k : ℕ) (bs : Text) → hex_parts (first_chunks n k bs) ++ flat_map hex_byte (drop (k * n) bs) ≡ flat_map hex_byte bs
+in-parts n zero bs = rw zero-mul
+in-parts n (suc k) bs =
+    let size : suc k * n ≡ n + k * n = omega arith in
+    let rest = ap (λ m. drop m bs) size ∙ sym (drop-drop (k * n) n bs) in
+    let more = in-parts n k (drop n bs) in
+    let both = sym (flat_map-append hex_byte (take n bs) (drop n bs)) ∙ ap (λ l. flat_map hex_byte l) (take-append-drop n bs) in
+    rw (rest, append_assoc, more) both
+
+pub in-hex : (bs : Text) → ◌≡◌ {A = Bool} false (length bs == 0) → in_hex bs ≡ flat_map hex_byte bs
+in-hex [] h = absurd cc
+in-hex (b ∷ bs) h = refl
+
+-- ---- one more written
 
 module _ {W : Type 0} {took : W → List ℕ → W → Type 0} {f g h : Formatter W} where
-  pub written-more : (bs : List ℕ) (i : ℕ) → i < length bs → HasWritten took f (flat_map hex_byte (take i bs)) g → HasWritten took g (hex_byte (get_or bs i 0)) h → HasWritten took f (flat_map hex_byte (take (i + 1) bs)) h
-  written-more bs i l so_far wrote = has_written_of_eq took f _ _ h (one-more bs i l) (has_written_append took f _ g _ h so_far wrote)
+  pub written-more : {A : Type 0} (shown : A → Text) (d : A) (xs : List A) (i : ℕ) → i < length xs → HasWritten took f (flat_map shown (take i xs)) g → HasWritten took g (shown (get_or xs i d)) h → HasWritten took f (flat_map shown (take (i + 1) xs)) h
+  written-more shown d xs i l so_far wrote =
+      let one_more = flat_map_more shown [] (take i xs) (get_or xs i d) ∙ ap (λ ys. flat_map shown ys) (sym (take_more xs i d l)) in
+      has_written_of_eq took f _ _ h one_more (has_written_append took f _ g _ h so_far wrote)
