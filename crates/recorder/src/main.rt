@@ -13,9 +13,10 @@
 ghost use Rattle.std.specs.Prelude.{◌≡◌, true};
 ghost use Rattle.interpreter.specs.State.{possible_state};
 
+use arrayvec::ArrayVec;
 use interpreter::server;
 use interpreter::state::{ANSWER, STORE, State};
-use std::alloc::{AllocError, Global};
+use std::alloc::Global;
 use std::env::{Env, FillError};
 use std::io::{Read, Write};
 use std::rt::Files;
@@ -24,7 +25,10 @@ use std::{fs, io, str};
 // How many bytes of a line are held: with one more than the box takes a line is refused, whatever follows.
 const LONGEST: usize = 4097;
 
-// The room that a line and its answer need in the record, with their marks, and how much of it is written at once.
+// The room for a line: what is held of it, and its newline.
+const HELD: usize = 4098;
+
+// The room that a line and its answer need in the record, with their marks, and the record's.
 const ENTRY: usize = 8200;
 
 const BOOK: usize = 65536;
@@ -42,38 +46,36 @@ struct Recorder<R, A> {
     state: State,
     store: [u8; STORE],
     room: [u8; ANSWER],
-    line: Vec<u8>,
-    book: Vec<u8>,
+    line: ArrayVec<u8, HELD>,
+    book: ArrayVec<u8, BOOK>,
     record: R,
     answers: A,
     ghost possible: { possible_state state ≡ true },
 }
 
 impl<R: Write + Drop, A: Write + Drop> Recorder<R, A> {
-    fn new(alloc: Global, record: R, answers: A) -> Result<Recorder<R, A>, AllocError> {
-        let line = Vec::with_capacity(alloc, LONGEST + 1)?;
-        let book = Vec::with_capacity(alloc, BOOK)?;
-        Ok(Recorder {
+    fn new(record: R, answers: A) -> Recorder<R, A> {
+        Recorder {
             state: State::power_up(),
             store: [0; STORE],
             room: [0; ANSWER],
-            line,
-            book,
+            line: ArrayVec::new(),
+            book: ArrayVec::new(),
             record,
             answers,
-        })
+        }
     }
 
     // Holds bytes of a line, as far as they count.
-    fn hold(&mut self, part: &[u8]) -> Result<(), AllocError> {
+    fn hold(&mut self, part: &[u8]) {
         let free = LONGEST.saturating_sub(self.line.len());
-        self.line
-            .extend_from_slice(part.get(..free).unwrap_or(part))
+        let counting = part.get(..free).unwrap_or(part);
+        let _ = self.line.try_extend_from_slice(counting);
     }
 
     // Runs the line at hand, writes its answer out, and keeps both.
     fn run_line(&mut self) -> io::Result<()> {
-        self.line.push(b'\n')?;
+        let _ = self.line.try_push(b'\n');
         let served = server::serve(
             self.state,
             &mut self.store,
@@ -83,7 +85,7 @@ impl<R: Write + Drop, A: Write + Drop> Recorder<R, A> {
         self.state = served.state;
         let answer = &self.room[..served.written];
         let written = self.answers.write_all(answer);
-        keep(&mut self.book, self.line.as_slice(), answer)?;
+        keep(&mut self.book, self.line.as_slice(), answer);
         self.line.clear();
         written
     }
@@ -99,9 +101,10 @@ impl<R: Write + Drop, A: Write + Drop> Recorder<R, A> {
     fn serve(&mut self, input: &[u8]) -> io::Result<()> {
         for piece in input.split_inclusive(|byte| *byte == b'\n') {
             let Some(part) = piece.strip_suffix(b"\n") else {
-                return Ok(self.hold(piece)?);
+                self.hold(piece);
+                return Ok(());
             };
-            self.hold(part)?;
+            self.hold(part);
             self.run_line()?;
             if BOOK.saturating_sub(self.book.len()) < ENTRY {
                 self.write_away()?;
@@ -126,28 +129,20 @@ impl<R: Write + Drop, A: Write + Drop> Recorder<R, A> {
     }
 }
 
-// Adds a line and its answer, both with their newlines, to the record.
-fn keep(book: &mut Vec<u8>, line: &[u8], answer: &[u8]) -> Result<(), AllocError> {
-    book.push(b'>')?;
-    book.extend_from_slice(line)?;
+// Adds a line and its answer, both with their newlines, to the record, which has room for them.
+fn keep(book: &mut ArrayVec<u8, BOOK>, line: &[u8], answer: &[u8]) {
+    let _ = book.try_push(b'>');
+    let _ = book.try_extend_from_slice(line);
     if !answer.is_empty() {
-        book.push(b'<')?;
-        book.extend_from_slice(answer)?;
+        let _ = book.try_push(b'<');
+        let _ = book.try_extend_from_slice(answer);
     }
-    Ok(())
 }
 
 // Runs the box with its record. A read or a write that fails ends the run, and nothing more is said of it.
-fn record(
-    rt: &(impl AllocGlobal + Input),
-    record: impl Write + Drop,
-    answers: impl Write + Drop,
-) -> io::Result<()> {
-    let mut recorder = Recorder::new(rt.alloc(), record, answers)?;
-    match recorder.run(&mut rt.reader()) {
-        Err(e) if e.kind() == io::ErrorKind::OutOfMemory => Err(e),
-        _ => Ok(()),
-    }
+fn record(rt: &impl Input, record: impl Write + Drop, answers: impl Write + Drop) {
+    let mut recorder = Recorder::new(record, answers);
+    let _ = recorder.run(&mut rt.reader());
 }
 
 // Takes a file's name as text: to std no other is one. The marker has this and `argument` too (there it says why).
@@ -182,10 +177,14 @@ fn argument<'a>(rt: &impl Env, word: &'a mut [u8; NAME]) -> Option<&'a [u8]> {
 fn main(rt: HostRuntime) -> io::Result<()> {
     let mut word = [0u8; NAME];
     let Some(name) = argument(&rt, &mut word) else {
-        return record(&rt, io::writer(&rt), io::sink());
+        record(&rt, io::writer(&rt), io::sink());
+        return Ok(());
     };
     match path_of(name).and_then(|path| fs::create(&rt, path)) {
-        Ok(file) => record(&rt, file, io::writer(&rt)),
+        Ok(file) => {
+            record(&rt, file, io::writer(&rt));
+            Ok(())
+        }
         Err(e) => fail(&rt.stderr(), rt.alloc(), name, e),
     }
 }
