@@ -1,4 +1,5 @@
 pub mod Bytes
+pub mod Recorded
 pub mod Serving
 pub mod Feeding
 pub mod Verdicts

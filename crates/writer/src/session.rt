@@ -1,6 +1,6 @@
 // Marks a saved session: sends its lines to a box from power-up, and finds the first whose recorded answer differs from
 // the box's. The session comes in pieces of any cut and is never held: what is sent goes into the box as it comes, and a
-// recorded answer is compared, byte by byte, with the one that waits in a lent room.
+// recorded answer is compared, as it comes, with the one that waits in a lent room.
 //
 //     let mut marker = session::begin();
 //     marker = session::feed(marker, &mut store, &mut room, piece);    // for each piece; the store starts as zeros
@@ -8,8 +8,8 @@
 ghost use Rattle.std.specs.Prelude.{◌≡◌, ◌==◌, ◌≤◌, ◌<◌, length, drop, position};
 ghost use Rattle.interpreter.specs.Box.{store_size};
 ghost use Rattle.interpreter.specs.FlowParts.{first_line};
-ghost use Rattle.writer.specs.Marking.{line_begun, place_sent, place_found, possible_marker, Begun, Fed, Finished, report_at};
-ghost use Rattle.writer.specs.MarkingParts.{Fits, FedAll};
+ghost use Rattle.writer.specs.Marking.{line_begun, place_sent, possible_marker, Begun, Fed, Finished, report_at};
+ghost use Rattle.writer.specs.MarkingParts.{Recorded, Compared, Fits, FedAll};
 
 use interpreter::server;
 use interpreter::state::{ANSWER, STORE, State};
@@ -110,34 +110,37 @@ impl Place {
         }
     }
 
-    // Takes in a byte of a recorded answer, of which so many were found: the box's has to have it next, and to end where the
-    // line ends.
-    fn find_byte(self, found: usize, room: &[u8], byte: u8) -> Place
-        requires { self.waiting ≤ length room.now }
-        ensures { result ≡ place_found self found room.now byte }
+    // Takes in a part of a recorded answer, of which so many bytes were found before; it has no more than are left, or one. The box's
+    // has to go on with it, and to end where the line ends.
+    fn find_part(self, found: usize, room: &[u8], part: &[u8]) -> Place
+        requires { Recorded self found room.now part.now }
+        ensures { Compared self room.now part.now result }
     {
         let answer = &room[..self.waiting];
-        if answer.get(found).copied() != Some(byte) {
+        let left = answer.get(found..).unwrap_or(&[]);
+        if !left.starts_with(part) {
             return Place {
                 stage: Stage::Differing,
                 ..self
             };
         }
-        let found = found + 1;
-        match byte {
-            b'\n' if found == self.waiting => Place {
+        let found = found + part.len();
+        if !part.contains(&b'\n') {
+            Place {
+                stage: Stage::Finding { found },
+                ..self
+            }
+        } else if (found == self.waiting) & !part[..part.len() - 1].contains(&b'\n') {
+            Place {
                 stage: Stage::Fresh,
                 waiting: 0,
                 ..self
-            },
-            b'\n' => Place {
+            }
+        } else {
+            Place {
                 stage: Stage::Differing,
                 ..self
-            },
-            _ => Place {
-                stage: Stage::Finding { found },
-                ..self
-            },
+            }
         }
     }
 
@@ -189,7 +192,8 @@ fn cut_line(bytes: &[u8]) -> (&[u8], &[u8])
     }
 }
 
-// Takes in a piece: the first byte of a line, what is sent up to its newline, or a byte of what is recorded in each turn.
+// Takes in a piece: in each turn the first byte of a line, what is sent up to its newline, or as much of what is recorded as is left to
+// find.
 fn feed_all(mut marker: Marker, store: &mut [u8], room: &mut [u8], bytes: &[u8]) -> Marker
     requires { Fits marker store.old room.old bytes.now }
     ensures { FedAll marker store.old room.old bytes.now result store.new room.new }
@@ -210,7 +214,9 @@ fn feed_all(mut marker: Marker, store: &mut [u8], room: &mut [u8], bytes: &[u8])
                 rest = behind;
             }
             Stage::Finding { found } => {
-                marker.place = marker.place.find_byte(found, room, *first);
+                let left = marker.place.waiting.saturating_sub(found);
+                let (part, behind) = rest.split_at(left.clamp(1, rest.len()));
+                marker.place = marker.place.find_part(found, room, part);
                 rest = behind;
             }
             Stage::Differing | Stage::Stopped => return marker,

@@ -1,10 +1,8 @@
 -- Bytes of a session, one at a time: pieces one after the other are the whole, a part of a line that is sent does what its bytes do, and after the
 -- marker has stopped nothing counts.
 use mathlib.Core.Path.{◌≡◌, refl, sym, ◌∙◌, ap}
-use mathlib.Core.Bool.{Bool, true, false, not, not-not, ◌&&◌, false≢true}
-use Rattle.std.specs.Prelude.{Option, Some, None, is_some, unwrap_or, cond, position, ◌==◌}
-use Rattle.std.specs.Option.{option_map, option_copied, option_eq}
-use Rattle.std.specs.Borrow.{Bor}
+use mathlib.Core.Bool.{Bool, true, false, ◌&&◌, false≢true}
+use Rattle.std.specs.Prelude.{Some, None, cond, position, ◌==◌}
 use Rattle.std.specs.List.{position_or_len, ends_with}
 use Rattle.std.proofs.lemmas.List.Recursion.{is_position_or_len}
 use mathlib.Core.List.{[], ◌∷◌, ◌++◌, append-nil}
@@ -14,7 +12,7 @@ use native.Mathlib.Omega.{arith}
 use lib.Dec.{eqb, ltb, leb-suc-suc}
 use lib.ListN.{length, take, drop, get_or, length-take, drop_of_length-le, take-append-drop}
 use lib.Pointwise.{pointwise}
-use lib.Seq.{get_or-take}
+use lib.Seq.{drop-cons, get_or-take}
 use borrow.Author.Tests.{eq-eqb, ne_eqb, lt-ltb, ltb-true, ltb-false, eqb-true, eqb-false}
 use Rattle.registers.specs.Text.{index_of, index_after}
 use Rattle.registers.specs.Text.{Text, if◌then◌otherwise◌}
@@ -268,20 +266,15 @@ module _ (q : Place) (n : ℕ) (room : Text) (x : ℕ) where
   unfolding place_found if◌then◌otherwise◌
   found-other h = rw h
 
-  -- as a look into the room tells
-  module _ (holds : q.waiting ≤ length room) where
-    met : (r : Option (Bor ℕ)) → is_some r ≡ ltb n (length (take q.waiting room)) → unwrap_or (option_map (λ (y : Bor ℕ). y.now) r) 0 ≡ get_or (take q.waiting room) n 0
-        → option_eq eqb (option_copied r) (Some x) ≡ goes_on
-    met None some is = let l : length (take q.waiting room) ≡ q.waiting = rw length-take (omega arith) in ap (λ (t : Bool). t && eqb (get_or room n 0) x) (rw l at some)
-    met (Some y) some is =
-        let l : length (take q.waiting room) ≡ q.waiting = rw length-take (omega arith) in
-        let h : true ≡ ltb n q.waiting = rw l at some in
-        let v : y.now ≡ get_or room n 0 = is ∙ get_or-take q.waiting room n 0 (ltb-true n q.waiting (sym h)) in
-        rw (← h, v) refl
+-- what is left of the answer to find
+module _ (room : Text) (q : Place) (n : ℕ) (holds : q.waiting ≤ length room) where
+  pub long : length (take q.waiting room) ≡ q.waiting
+  long = rw length-take (omega arith)
 
-    pub told_other : (r : Option (Bor ℕ)) {o : Option ℕ} {other t : Bool} → is_some r ≡ ltb n (length (take q.waiting room))
-        → unwrap_or (option_map (λ (y : Bor ℕ). y.now) r) 0 ≡ get_or (take q.waiting room) n 0
-        → o ≡ option_copied r → other ≡ not (option_eq eqb o (Some x)) → other ≡ t → goes_on ≡ not t
-    told_other r {o} {other} {t} some is copied asked told =
-        let a : option_eq eqb o (Some x) ≡ goes_on = rw copied (met r some is) in
-        sym (not-not goes_on) ∙ ap not (sym (asked ∙ ap not a) ∙ told)
+  pub find-more : n < q.waiting → drop n (take q.waiting room) ≡ get_or room n 0 ∷ drop (n + 1) (take q.waiting room)
+  find-more h =
+      let l = long in
+      rw (drop-cons (take q.waiting room) n 0 (omega arith), get_or-take q.waiting room n 0 h, ← add-one n)
+
+  pub find_none : q.waiting ≤ n → drop n (take q.waiting room) ≡ []
+  find_none h = let l = long in drop_of_length-le (take q.waiting room) {i = n} (omega arith)

@@ -1,9 +1,8 @@
 -- A piece taken in: what is left of it leads to the same as the whole (`Feeding`), stretch by stretch.
 use mathlib.Core.Path.{◌≡◌, refl, sym, ◌∙◌, ap}
 use mathlib.Core.Bool.{Bool, true, false, not, ◌&&◌, false≢true}
-use mathlib.Core.List.{[], ◌∷◌, ◌++◌}
-use Prim.Native.Nat.{ℕ, ◌+◌, ◌-◌, ◌≤◌, ◌<◌, zero-le}
-use native.Mathlib.Nat.{le_refl}
+use mathlib.Core.List.{[], ◌∷◌}
+use Prim.Native.Nat.{ℕ, ◌+◌, ◌-◌, max, min, ◌≤◌, ◌<◌, zero-le}
 use native.Mathlib.Omega.{arith}
 use lib.Dec.{eqb, ltb, leb}
 use lib.ListN.{length, take, drop, get_or, length-take, length-drop, take-append-drop}
@@ -23,13 +22,13 @@ use Rattle.interpreter.proofs.Choices.{if-elim}
 use Rattle.std.specs.List.{ends_with}
 use Rattle.interpreter.proofs.Lists.{is-empty}
 use Rattle.interpreter.proofs.state.Events.{size-right}
-use Rattle.writer.specs.Marking.{Progress, at_start, line_begun, place_sent, place_found, part_sent, placed, byte_read, fed, left_open, closed, report_at, progress_of, sound_marker, possible_marker, most_lines, Lent, Begun, Fed, Finished}
-use Rattle.writer.specs.MarkingParts.{Fits, FedAll}
+use Rattle.writer.specs.Marking.{Progress, at_start, line_begun, place_sent, part_sent, fed, left_open, closed, report_at, progress_of, sound_marker, possible_marker, most_lines, Lent, Begun, Fed, Finished}
+use Rattle.writer.specs.MarkingParts.{Recorded, Compared, Fits, FedAll}
 use Rattle.writer.specs.declared.session.Stage.TheVariants.{Fresh, Sending, Finding}
 use Rattle.writer.specs.declared.session.Place.{Place}
 use Rattle.writer.specs.declared.session.Marker.{Marker}
 use Rattle.writer.specs.declared.session.Report.{Report}
-use Rattle.writer.proofs.session.Bytes.{fed-append, fed-first, byte-fresh, byte-finding, at_rest, fed-rest, fed-sent, ends, ends-part, first-front, first_some, first-within, closed-open, closed-no}
+use Rattle.writer.proofs.session.Bytes.{fed-append, fed-first, byte-fresh, at_rest, fed-rest, fed-sent, ends, ends-part, first-front, first_some, first-within, closed-open, closed-no}
 use Rattle.writer.proofs.session.Serving.{part-possible, part-silent, part-stored, part-written, part-sent}
 
 -- ---- a sound marker
@@ -115,19 +114,6 @@ module _ (q : Place) (x : ℕ) where
       (λ _. if-elim (λ (r : Place). r.waiting ≡ q.waiting) (eqb x 62)
       (λ _. if-elim (λ (r : Place). r.waiting ≡ q.waiting) (eqb q.waiting 0) (λ _. refl) (λ _. refl)) (λ _. refl))
 
--- ---- a byte of a recorded answer
-
-module _ (q : Place) (n : ℕ) (room : Text) (x : ℕ) where
-  abbrev Kept : Place → Type 0
-  Kept r = (r.number ≡ q.number) × (r.waiting ≤ q.waiting)
-
-  found-kept : Kept (place_found q n room x)
-  unfolding place_found
-  found-kept =
-      if-elim Kept (ltb n q.waiting && eqb (get_or room n 0) x)
-      (λ _. if-elim Kept (eqb x 10) (λ _. if-elim Kept (eqb (n + 1) q.waiting) (λ _. (refl, zero-le)) (λ _. (refl, le_refl _))) (λ _. (refl, le_refl _)))
-      (λ _. (refl, le_refl _))
-
 -- ---- a piece
 
 -- what is left of it leads where all of it does
@@ -156,37 +142,59 @@ module _ {m : Marker} {store₀ room₀ bytes store room : Text} {r : Marker} wh
       abbrev behind : Text
       behind = take (length rest - 1) (drop 1 rest)
 
-      -- a byte that leads to another place
-      feed-byte : (q : Place) → byte_read (progress_of r store room) x ≡ placed (progress_of r store room) q
-          → q.number ≤ r.place.number + 1 → q.waiting ≤ r.place.waiting
-          → Feeding m store₀ room₀ bytes store room (record { state = r.state; place = q }) behind
-      feed-byte q is n w =
+      pub feed-fresh : r.place.stage ≡ Fresh → Feeding m store₀ room₀ bytes store room (record { state = r.state; place = line_begun r.place x }) behind
+      feed-fresh e =
           let f = g.few in
+          let n = begun-number r.place x in
+          let w = begun-waiting r.place x in
           let z = sound-waits r g.sound in
           let long : length behind ≡ length rest - 1 = rw (length-take, length-drop) (omega arith) in
           record {
-            left = ap (λ (p : Progress). fed p behind) (sym is) ∙ sym (fed-first (progress_of r store room) rest some) ∙ g.left;
-            sound = sound-from (record { state = r.state; place = q }) (sound-possible r g.sound) (sound-silent r g.sound) (omega arith);
+            left =
+                ap (λ (p : Progress). fed p behind) (sym (byte-fresh (progress_of r store room) x e))
+                ∙ sym (fed-first (progress_of r store room) rest some) ∙ g.left;
+            sound = sound-from (record { state = r.state; place = line_begun r.place x }) (sound-possible r g.sound) (sound-silent r g.sound) (omega arith);
             lent = g.lent;
             few = omega arith;
           }
 
-      pub feed-fresh : r.place.stage ≡ Fresh → Feeding m store₀ room₀ bytes store room (record { state = r.state; place = line_begun r.place x }) behind
-      feed-fresh e =
-          let n = begun-number r.place x in
-          let w = begun-waiting r.place x in
-          feed-byte (line_begun r.place x) (byte-fresh (progress_of r store room) x e) (omega arith) (omega arith)
-
-      pub feed-found : {n : ℕ} → r.place.stage ≡ Finding n
-          → Feeding m store₀ room₀ bytes store room (record { state = r.state; place = place_found r.place n room x }) behind
-      feed-found {n} e =
-          let k = found-kept r.place n room x in
-          let i = k.0 in
-          feed-byte (place_found r.place n room x) (byte-finding (progress_of r store room) x e) (omega arith) k.1
+    -- so many bytes first, then those behind them
+    fed-parts : (p : Progress) (n : ℕ) → fed p rest ≡ fed (fed p (take n rest)) (drop n rest)
+    fed-parts p n = sym (ap (λ (l : Text). fed p l) (take-append-drop n rest)) ∙ fed-append p (take n rest) (drop n rest)
 
     module _ (some : 1 ≤ length rest) where
       pub first-less : length (drop (length (first_line rest)) rest) < length rest
       first-less = let f = first_some rest some in let d = length-drop (length (first_line rest)) rest in omega arith
+
+      -- a part of a recorded answer was compared: as many bytes as can be found, or one
+      module _ (left : ℕ) {size : ℕ} (is : size ≡ max 1 (min left (length rest))) where
+        module _ {part behind : Text} (first : part ≡ take size rest) (then : behind ≡ drop size rest) where
+          pub feed-recorded : {n : ℕ} → left ≡ r.place.waiting - n → r.place.stage ≡ Finding n → Recorded r.place n room part
+          feed-recorded asked e =
+              let w = sound-waits r g.sound in
+              let l = g.lent.wide in
+              let t : length part ≡ size = rw (first, length-take) (omega arith) in
+              record { stage = e; some = omega arith; short = omega arith; holds = omega arith }
+
+          pub part-less : length behind < length rest
+          part-less = let d = ap length then ∙ length-drop size rest in omega arith
+
+          pub feed-found : {q : Place} → Compared r.place room part q → Feeding m store₀ room₀ bytes store room (record { state = r.state; place = q }) behind
+          feed-found {q} w =
+              let p = progress_of r store room in
+              let f = g.few in
+              let n = w.number in
+              let k = w.waiting in
+              let z = sound-waits r g.sound in
+              let d = part-less in
+              record {
+                left =
+                    rw then (ap (λ (s : Progress). fed s (drop size rest)) (sym (w.is p.box) ∙ ap (λ (l : Text). fed p l) first)
+                    ∙ sym (fed-parts p size) ∙ g.left);
+                sound = sound-from (record { state = r.state; place = q }) (sound-possible r g.sound) (sound-silent r g.sound) (omega arith);
+                lent = g.lent;
+                few = omega arith;
+              }
 
       -- a part of a line was served
       module _ (e : r.place.stage ≡ Sending) {t : State} {stored left part : Text} {number read written : ℕ}
@@ -209,9 +217,8 @@ module _ {m : Marker} {store₀ room₀ bytes store room : Text} {r : Marker} wh
             let shut : ended ≡ ends rest = asked ∙ ap (λ (l : Text). ends_with eqb l (10 ∷ [])) is ∙ ends-part rest in
             let here = part-sent r.state t store stored room left rest number read written r.place ended possible g.lent some served' in
             let all : part_sent p (first_line rest) ended ≡ fed p (first_line rest) = ap (λ (u : Bool). part_sent p (first_line rest) u) shut ∙ sym (fed-sent rest p some e (sound-silent r g.sound)) in
-            let split : first_line rest ++ drop n rest ≡ rest = sym (ap (λ (l : Text). l ++ drop n rest) (first-front rest)) ∙ take-append-drop n rest in
             record {
-              left = ap (λ (p : Progress). fed p (drop n rest)) (here ∙ all) ∙ sym (fed-append p (first_line rest) (drop n rest)) ∙ ap (λ (l : Text). fed p l) split ∙ g.left;
+              left = ap (λ (s : Progress). fed s (drop n rest)) (here ∙ all ∙ ap (λ (l : Text). fed p l) (sym (first-front rest))) ∙ sym (fed-parts p n) ∙ g.left;
               sound =
                   sound-from (record { state = t; place = place_sent r.place written ended })
                   (part-possible r.state t store stored room left rest number read written r.place true possible g.lent some served')

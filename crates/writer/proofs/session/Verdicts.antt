@@ -7,8 +7,8 @@ use Prim.Native.Nat.{ℕ, suc, ◌+◌, ◌-◌, ◌≤◌, ◌<◌, zero-le}
 use native.Mathlib.Numerals.{add-one}
 use native.Mathlib.Omega.{arith}
 use lib.Dec.{eqb, ltb}
-use lib.ListN.{length, take, drop, get_or, length-append, length-drop, length-take, drop_of_length-le}
-use lib.Seq.{take-append_seam, drop-cons, get_or-take}
+use lib.ListN.{length, take, drop, get_or, length-append, length-drop}
+use lib.Seq.{take-append_seam}
 use borrow.Author.Tests.{eqb-true, eqb-false, eq-eqb, ne_eqb, ltb-true, ltb-false}
 use Rattle.registers.specs.Text.{Text, if◌then◌otherwise◌, same}
 use Rattle.registers.proofs.Tests.{and_both, front-empty}
@@ -23,7 +23,7 @@ use Rattle.writer.specs.declared.session.Stage.{Stage}
 use Rattle.writer.specs.declared.session.Stage.TheVariants.{Fresh, Sending, Finding, Differing, Stopped}
 use Rattle.writer.specs.Marking.{Progress, at_start, begun_at, found_so, line_begun, place_sent, part_sent, place_found, placed, byte_read, fed, closed, left_open, report_of, report_at, verdict_of}
 use Rattle.writer.specs.declared.session.Place.{Place}
-use Rattle.writer.proofs.session.Bytes.{byte-fresh, byte-sending, byte-finding, at_rest, fed-rest, closed-open, closed-no, part-byte, plain-answer, begun-answer, begun-broken, begun-early, begun-sent, found-next, found_all, found-long, found-other, goes_on}
+use Rattle.writer.proofs.session.Bytes.{byte-fresh, byte-sending, byte-finding, at_rest, fed-rest, closed-open, closed-no, part-byte, plain-answer, begun-answer, begun-broken, begun-early, begun-sent, found-next, found_all, found-long, found-other, goes_on, long, find-more, find_none}
 
 -- ---- the bytes up to the next newline, and the lines after it
 
@@ -220,24 +220,13 @@ module _ (room : Text) (q : Place) (n : ℕ) (holds : q.waiting ≤ length room)
   abbrev further : Text
   further = drop (n + 1) (take q.waiting room)
 
-  long : length (take q.waiting room) ≡ q.waiting
-  long = rw length-take (omega arith)
-
-  find-more : n < q.waiting → to-find ≡ get_or room n 0 ∷ further
-  find-more h =
-      let l = long in
-      rw (drop-cons (take q.waiting room) n 0 (omega arith), get_or-take q.waiting room n 0 h, ← add-one n)
-
-  find_none : q.waiting ≤ n → to-find ≡ []
-  find_none h = let l = long in drop_of_length-le (take q.waiting room) {i = n} (omega arith)
-
   same_more : (x : ℕ) (ys : Text) → same to-find (x ∷ ys) ≡ (goes_on q n room x && same further ys)
   unfolding same
   same_more x ys = go (ltb n q.waiting) refl
     where
       go : (t : Bool) → ltb n q.waiting ≡ t → same to-find (x ∷ ys) ≡ ((t && eqb (get_or room n 0) x) && same further ys)
-      go true e = rw (find-more (ltb-true n q.waiting e))
-      go false e = rw (find_none (ltb-false n q.waiting e))
+      go true e = rw (find-more room q n holds (ltb-true n q.waiting e))
+      go false e = rw (find_none room q n holds (ltb-false n q.waiting e))
 
   -- a byte that isn't the newline: it is the next one, or whatever comes differs
   data Next (x : ℕ) : Type 0 where
@@ -257,7 +246,7 @@ module _ (room : Text) (q : Place) (n : ℕ) (holds : q.waiting ≤ length room)
     other : place_found q n room 10 ≡ found_so q Differing q.waiting → same to-find (10 ∷ []) ≡ false → Last
 
   further-none : same further [] ≡ eqb (q.waiting - (n + 1)) 0
-  further-none = same_none further ∙ rw (length-drop (n + 1) (take q.waiting room), long)
+  further-none = same_none further ∙ rw (length-drop (n + 1) (take q.waiting room), long room q n holds)
 
   last : Last
   last = go (goes_on q n room 10) refl (eqb (n + 1) q.waiting) refl

@@ -1,9 +1,8 @@
 -- One way for each stage (session/Feeding).
 use mathlib.Core.Path.{ap}
 use mathlib.Core.Logic.{inl, inr}
-use native.Mathlib.Omega.{arith}
 use Rattle.writer.proofs.session.Bytes.{at_rest}
-use Rattle.writer.proofs.session.Feeding.{sound-waits, feed-end, feed-stop, feed-fresh, feed-found, feed-sent, first-less}
+use Rattle.writer.proofs.session.Feeding.{feed-end, feed-stop, feed-fresh, feed-recorded, feed-found, feed-sent, first-less, part-less}
 use Rattle.writer.proofs.session.feed_all.Goals as goal
 
 pub loop-rest-preserved-in-Fresh : goal.loop-rest-preserved-in-Fresh
@@ -17,11 +16,17 @@ loop-rest-preserved-in-Sending c =
     rw (c.send_part-marker.ensures, c.cut_line.ensures.1)
     (feed-sent c.loop-rest.invariant c.in-len1-up.len_at_least c.in-Sending.is c.cut_line.ensures.0 c.serve-served.ensures c.serve-served.auto.output c.ends_with-ended.ensures.value)
 
-pub find_byte-marker-requires : goal.find_byte-marker-requires
-find_byte-marker-requires c = let w = sound-waits _ c.loop-rest.invariant.sound in let l = c.loop-rest.invariant.lent.wide in omega arith
+pub find_part-marker-requires : goal.find_part-marker-requires
+find_part-marker-requires c =
+    feed-recorded c.loop-rest.invariant c.in-len1-up.len_at_least _ c.clamp.ensures c.split_at.ensures.front c.split_at.ensures.back c.saturating_sub-left.ensures c.in-Finding.is
+
+pub loop-rest-smaller : goal.loop-rest-smaller
+loop-rest-smaller c = part-less c.loop-rest.invariant c.in-len1-up.len_at_least _ c.clamp.ensures c.split_at.ensures.front c.split_at.ensures.back
 
 pub loop-rest-preserved : goal.loop-rest-preserved
-loop-rest-preserved c = rw c.find_byte-marker.ensures (feed-found c.loop-rest.invariant c.in-len1-up.len_at_least c.in-Finding.is)
+loop-rest-preserved c =
+    feed-found c.loop-rest.invariant c.in-len1-up.len_at_least _ c.clamp.ensures c.split_at.ensures.front c.split_at.ensures.back
+    c.find_part-marker.ensures
 
 pub returns-in-Differing : goal.returns-in-Differing
 returns-in-Differing c = feed-stop c.loop-rest.invariant (elim c.in-Differing.is [ inl e ↦ ap at_rest e | inr e ↦ ap at_rest e ])
