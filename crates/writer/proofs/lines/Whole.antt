@@ -46,6 +46,9 @@ passing true false d = refl
 passing true true false = refl
 passing true true true = refl
 
+abbrev pub refusing : Bool → Bool → ℤ → ℤ → Bool
+refusing a b h t = not (a && b) || not (eqb (of_z w32 h) (of_z w32 t))
+
 module _ (p w : Settings) {h t : ℤ} {a b : Bool} (k : mag h < 2147483648) (l : mag t < 2147483648) (e : h ≡ value_at p exam) (f : t ≡ value_at w exam)
     (g : a ≡ possible_settings p) (j : b ≡ possible_settings w) where
   differ : not (eqb (of_z w32 h) (of_z w32 t)) ≡ differs p w exam
@@ -55,8 +58,7 @@ module _ (p w : Settings) {h t : ℤ} {a b : Bool} (k : mag h < 2147483648) (l :
       go true q = rw q (sym (bits-alike e f k l (eqb-true (of_z w32 h) (of_z w32 t) q)))
       go false q = rw q (sym (bits-apart e f (eqb-false (of_z w32 h) (of_z w32 t) q)))
 
-  pub tested : {r : Bool} → (not (a && b) || not (eqb (of_z w32 h) (of_z w32 t))) ≡ r
-      → not (possible_settings p && (possible_settings w && not (differs p w exam))) ≡ r
+  pub tested : {r : Bool} → refusing a b h t ≡ r → not (possible_settings p && (possible_settings w && not (differs p w exam))) ≡ r
   tested is = sym (passing (possible_settings p) (possible_settings w) (differs p w exam)) ∙ rw (g, j, differ) at is
 
 module _ (p w : Settings) (channel : ℕ) (buffer : Text) where
