@@ -1,4 +1,6 @@
+use Prim.Native.Nat.{◌<◌}
 use native.Mathlib.Omega.{arith}
+use lib.Dec.{ltb}
 use lib.ListN.{length}
 use borrow.Author.Tests.{ltb-true}
 use Rattle.registers.proofs.Tests.{and_both}
@@ -27,7 +29,9 @@ returns-then-not-more c =
 
 pub loop-path-smaller : goal.loop-path-smaller
 loop-path-smaller c =
-    let more = ltb-true c.part_end-end.result (length c.args.line.now) (and_both _ _ c.if-not-more.false).1 in
+    let end = c.part_end-end.result in
+    let all = length c.args.line.now in
+    let more : end < all = ltb-true end all (and_both c.goes_on.result (ltb end all) c.if-not-more.false).1 in
     omega (arith, c.part_end-end.ensures.0)
 
 pub loop-path-preserved : goal.loop-path-preserved
