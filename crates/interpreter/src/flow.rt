@@ -27,7 +27,7 @@ pub(crate) struct Flow {
 }
 
 impl Flow {
-    ghost use Rattle.interpreter.specs.FlowParts.{first_line, Untold, FlowFed};
+    ghost use Rattle.interpreter.specs.FlowParts.{first_line, Untold, Interrupted, HeldRan, FlowFed};
 
     // Forgets the waiting answer, which was taken.
     pub(crate) fn forget_answer(&mut self)
@@ -49,6 +49,36 @@ impl Flow {
         self.read += part.len();
     }
 
+    // Discards a waiting answer, if there is one: "a waiting answer is first discarded with -410".
+    fn discard(&mut self)
+        ensures { Interrupted self.old self.new }
+    {
+        if self.present.answered != 0 {
+            self.present = self.present.discard();
+        }
+    }
+
+    // Runs the line that was held. A blank one does nothing, and is told here, so that nothing is moved for it.
+    fn run_held(
+        &mut self,
+        table: &Table,
+        line: &[u8; LINE],
+        out: &mut [u8; ANSWER],
+        store: &mut [u8; STORE],
+    )
+        requires { self.old.present.answered ≡ 0 }
+        ensures { HeldRan self.old line.now (memory store.old) self.new out.new (memory store.new) }
+    {
+        let held = &line[..self.filled];
+        if !self.overlong & (text::white_end(held, 0) == held.len()) {
+            return;
+        }
+        let running = Running {
+            present: self.present,
+        };
+        self.present = line::run_line(table, running, held, self.overlong, out, store);
+    }
+
     // Ends a line: a waiting answer is first discarded, then the line that was held is run.
     fn newline(
         &mut self,
@@ -60,11 +90,8 @@ impl Flow {
         requires { self.old.read < 2 ^ 63 }
         ensures { FlowFed self.old line.now out.old (memory store.old) (10 ∷ []) self.new line.now out.new (memory store.new) }
     {
-        let running = Running {
-            present: self.present.discard(),
-        };
-        let held = &line[..self.filled];
-        self.present = line::run_line(table, running, held, self.overlong, out, store);
+        self.discard();
+        self.run_held(table, line, out, store);
         self.filled = 0;
         self.overlong = false;
         self.read += 1;

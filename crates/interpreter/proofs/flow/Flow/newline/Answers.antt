@@ -11,8 +11,8 @@ use Rattle.interpreter.specs.Line.{byte, piece, newlines}
 use Rattle.interpreter.proofs.line.Newline.{ended}
 use Rattle.interpreter.proofs.flow.Flow.newline.Goals as goal
 
-pub run_line-self-requires : goal.run_line-self-requires
-run_line-self-requires c = c.discard.ensures.gone
+pub run_held-requires : goal.run_held-requires
+run_held-requires c = c.discard.ensures.0.gone
 
 pub returns : goal.returns
 unfolding piece byte newlines if◌then◌otherwise◌
@@ -21,8 +21,10 @@ returns c =
     let f = a.self.now in
     let outs : length a.out.now ≡ most_answer = search rules in
     let room : 0 < length a.out.now = omega arith in
-    let w = c.run_line-self.ensures in record {
-      box = rw (← ended f.present a.out.now (memory a.store.now) _ c.discard.ensures room (take f.filled a.line.now) f.overlong) c.run_line-self.ensures.box;
-      read = refl;
-      count = refl;
+    let d = c.discard.ensures in
+    let w = c.run_held.ensures in
+    record {
+      box = rw (← ended f.present a.out.now (memory a.store.now) _ d.0 room (take f.filled a.line.now) f.overlong) (rw (d.1.filled, d.1.overlong) at w.0.box);
+      read = rw (w.1.read, d.1.read) refl;
+      count = rw (w.1.count, d.1.count) refl;
     }
